@@ -1,0 +1,2 @@
+-- Laws about the definitions that belong to no one function.
+pub mod Unique

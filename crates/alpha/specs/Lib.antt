@@ -1,0 +1,23 @@
+-- Document 01 as definitions, in its order. What a reader has to believe is here.
+pub mod Pick
+pub mod Answer
+pub mod Field
+pub mod Sheet
+pub mod Affine
+pub mod Box
+pub mod Read
+pub mod Shape
+pub mod Typing
+pub mod Reach
+pub mod Holds
+pub mod Check
+pub mod Outcome
+pub mod Run
+pub mod Normal
+pub mod Written
+pub mod Normalise
+pub mod Ask
+pub mod Program
+pub mod Verdict
+pub mod Promise
+pub mod Examples
