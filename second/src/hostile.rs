@@ -264,7 +264,15 @@ fn wide_totals() -> Vec<Named> {
         ("bytes-65536", bytes_total(0)),
         ("bytes-past-65536", bytes_total(1)),
         ("first-body-wide-at-second", two_bodies()),
+        ("unreached-clash", unreached_clash()),
     ]
+}
+
+/// A case with two branches that hold, below a branch that doesn't.
+fn unreached_clash() -> Vec<u8> {
+    let clash = case(&[integer(1), integer(2)]);
+    let never = restrict(0, &[at_least(&[], -1)], clash);
+    single(&[], case(&[never, integer(3)]))
 }
 
 /// A scalar sheet whose normal form has exactly so many nodes: case,

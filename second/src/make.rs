@@ -6,9 +6,9 @@ use crate::domain::is_boolean;
 use crate::hostile::hostile;
 use crate::near::near;
 use crate::normal::normal_form;
-use crate::read::Kind;
+use crate::read::{read, Kind};
 use crate::rng::Rng;
-use crate::world::{draft, Size, MEDIUM, SMALL};
+use crate::world::{draft, Size, MANY, MEDIUM, SMALL};
 
 /// Everything that can be asked about one sheet.
 #[derive(Clone, Debug)]
@@ -52,7 +52,7 @@ pub fn all_cases(seed: u64, count: usize) -> Vec<Case> {
 const THEMES: [&str; 30] = [
     "accepted", "near-long", "near-cut", "near-count", "near-name", "near-number", "near-tail",
     "near-shape", "near-type", "near-reach", "near-gap", "near-clash", "near-input", "near-wide",
-    "near-room", "near-ask", "accepted", "accepted", "accepted", "accepted", "accepted",
+    "near-room", "near-ask", "many-variables", "accepted", "accepted", "accepted", "accepted",
     "accepted", "accepted", "accepted", "torn", "flipped", "extreme", "damaged-input", "accepted",
     "shuffled",
 ];
@@ -60,14 +60,10 @@ const THEMES: [&str; 30] = [
 /// The case of an index: the themes come in turn.
 fn one(rng: &mut Rng, size: Size, index: usize) -> Case {
     let theme = index % THEMES.len();
-    let sheet = match theme {
-        1..=15 => near(rng, size, theme as u32),
-        24 => torn(rng, size),
-        25 => flipped(rng, size),
-        26 => extreme(rng, size),
-        29 => shuffled(rng, size),
-        _ => draft(rng, size).bytes(),
-    };
+    let mut sheet = themed(rng, size, theme);
+    while size.bytes <= 1000 && !is_small(&sheet, size) {
+        sheet = themed(rng, size, theme);
+    }
     let mut case = complete(rng, THEMES[theme].to_string(), sheet);
     match theme {
         1 if size.bytes <= 1000 => lengthen(rng, &mut case),
@@ -78,6 +74,25 @@ fn one(rng: &mut Rng, size: Size, index: usize) -> Case {
         _ => {}
     }
     case
+}
+
+/// A sheet of a theme.
+fn themed(rng: &mut Rng, size: Size, theme: usize) -> Vec<u8> {
+    match theme {
+        1..=15 => near(rng, size, theme as u32),
+        16 if size.bytes > 1000 => draft(rng, MANY).bytes(),
+        24 => torn(rng, size),
+        25 => flipped(rng, size),
+        26 => extreme(rng, size),
+        29 => shuffled(rng, size),
+        _ => draft(rng, size).bytes(),
+    }
+}
+
+/// Whether a sheet keeps a small size, however it was changed.
+fn is_small(sheet: &[u8], size: Size) -> bool {
+    let points = read(sheet).map_or(0, |s| s.variables.iter().map(|v| v.points).sum());
+    sheet.len() <= size.bytes && points <= size.points
 }
 
 /// Bytes cut at either end or from the middle.

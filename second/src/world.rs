@@ -15,6 +15,8 @@ pub struct Size {
 
 /// Sheets for a quick program.
 pub const MEDIUM: Size = Size { variables: 6, points: 90, depth: 6, bytes: 30_000 };
+/// Sheets of as many variables as there may be.
+pub const MANY: Size = Size { variables: 32, points: 200, depth: 2, bytes: 30_000 };
 /// Sheets for a slow one.
 pub const SMALL: Size = Size { variables: 3, points: 12, depth: 3, bytes: 700 };
 
@@ -22,6 +24,7 @@ type Spot = Vec<i64>;
 
 /// A variable and the points of its declared domain.
 struct Known {
+    input: bool,
     boolean: bool,
     dimension: usize,
     domain: Vec<Spot>,
@@ -31,6 +34,8 @@ struct Known {
 pub struct World<'a> {
     rng: &'a mut Rng,
     known: Vec<Known>,
+    /// The variable whose body is made.
+    own: usize,
 }
 
 /// A draft within the size, its bodies holding at every point they must.
@@ -48,7 +53,10 @@ pub fn draft(rng: &mut Rng, size: Size) -> Draft {
 /// Variables with boxes that together keep the number of points.
 fn variables(rng: &mut Rng, size: Size) -> Draft {
     let mut draft = Draft::default();
-    let count = 1 + rng.below(size.variables);
+    let count = match size.variables {
+        32 => rng.pick(&[31, 32, 32]),
+        most => 1 + rng.below(most),
+    };
     let mut left = size.points;
     for number in 0..count {
         let bounds = bounds(rng, (left / (count - number)).max(1));
@@ -129,11 +137,13 @@ fn bodies(rng: &mut Rng, mut draft: Draft, depth: usize) -> Draft {
         let limits: Vec<&Limit> = draft.declared.iter().filter(own).map(|d| &d.1).collect();
         let mut domain = spots(&record.bounds);
         domain.retain(|z| limits.iter().all(|limit| holds(limit, z)));
-        Known { boolean: record.boolean == 1, dimension: record.bounds.len(), domain }
+        let (input, boolean) = (record.kind == INPUT, record.boolean == 1);
+        Known { input, boolean, dimension: record.bounds.len(), domain }
     });
-    let mut world = World { known: known.collect(), rng };
+    let mut world = World { known: known.collect(), rng, own: 0 };
     for number in 0..draft.variables.len() {
         if draft.variables[number].kind != INPUT {
+            world.own = number;
             draft.bodies.push(world.body(number, depth));
         }
     }
@@ -189,6 +199,9 @@ impl World<'_> {
     }
 
     fn operator(&mut self, n: usize, boolean: bool, points: &[Spot], left: usize) -> Part {
+        if !boolean && self.rng.chance(12) {
+            return self.error(n, points, left);
+        }
         let operator = match (boolean, self.rng.below(9)) {
             (true, 0) => return not(self.expression(n, true, points, left)),
             (false, 0) => return negate(self.expression(n, false, points, left)),
@@ -203,6 +216,18 @@ impl World<'_> {
         };
         let a = self.expression(n, operands, points, left);
         binary(operator, a, self.expression(n, operands, points, left))
+    }
+
+    /// An operator that has no value, or only just has one.
+    fn error(&mut self, n: usize, points: &[Spot], left: usize) -> Part {
+        let other = self.expression(n, false, points, left);
+        let edge = self.rng.pick(&[2147483647, -2147483648]);
+        let (operator, constant) = match self.rng.below(3) {
+            0 => (self.rng.range(3, 4), 0),
+            1 => (self.rng.range(3, 4), -1),
+            _ => (self.rng.range(0, 2), edge),
+        };
+        binary(operator, other, everywhere(n as i64, integer(constant)))
     }
 
     /// A case that parts the points by a line, with dead branches among them.
@@ -254,8 +279,13 @@ impl World<'_> {
     }
 
     fn leaf(&mut self, n: usize, boolean: bool, points: &[Spot]) -> Part {
-        let numbers: Vec<usize> =
-            (0..self.known.len()).filter(|v| self.known[*v].boolean == boolean).collect();
+        // Mostly inputs and earlier variables: the others make loops.
+        let any = self.rng.chance(25);
+        let fits = |v: &usize| {
+            let known = &self.known[*v];
+            known.boolean == boolean && (any || known.input || *v < self.own)
+        };
+        let numbers: Vec<usize> = (0..self.known.len()).filter(fits).collect();
         if !numbers.is_empty() && self.rng.chance(70) {
             let number = self.rng.pick(&numbers);
             let known = &self.known[number];
