@@ -41,8 +41,7 @@ impl Literal<'_> {
         match expr {
             Expr::Variable(number) => {
                 let variable = &self.sheet.variables[*number];
-                element_at(variable, z).is_some()
-                    && variable.declared.iter().all(|c| c.holds(z))
+                element_at(variable, z).is_some() && variable.declared.iter().all(|c| c.holds(z))
             }
             Expr::Integer(_) | Expr::Boolean(_) => z.dimension == 0,
             Expr::Unary(_, a) => self.holds(a, z),
@@ -142,7 +141,9 @@ fn domains_agree(sheet: &[u8]) -> bool {
     let mut wanted = Ok(whole.total() as u64);
     for (element, (number, z)) in whole.elements.points.iter().enumerate().rev() {
         let variable = &whole.variables[*number];
-        let Some(body) = &whole.bodies[*number] else { continue };
+        let Some(body) = &whole.bodies[*number] else {
+            continue;
+        };
         if !variable.declared.iter().all(|c| c.holds(z)) {
             continue;
         }
