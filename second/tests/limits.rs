@@ -62,6 +62,11 @@ fn numbers_at_their_fields() {
         let answer = check(&with(&sheet, at, number));
         assert_eq!(answer, refused(NUMBER, at as u64), "{at} {number}");
     }
+}
+
+#[test]
+fn numbers_at_their_edges() {
+    let sheet = two(restrict(1, &[at_least(&[1], 0)], constant())).bytes();
     assert_eq!(check(&with(&sheet, 200, 2147483647)), Ok(6));
     assert_eq!(check(&with(&sheet, 160, POWER)), refused(REACH, 1));
     assert_eq!(check(&with(&sheet, 152, -POWER)), refused(REACH, 1));
