@@ -263,6 +263,18 @@ fn generated_sheets() {
     assert!(seen.accepted >= 2000 && seen.normal >= 1500 && seen.literal >= 1500);
 }
 
+/// More of the same, for an idle hour: `cargo test --release -- --ignored`.
+#[test]
+#[ignore]
+fn many_more_generated_sheets() {
+    let mut seen = Seen::default();
+    for seed in 1000..1040 {
+        cases(seed, 3000).iter().for_each(|case| seen.ask(case));
+        small_cases(seed, 3000).iter().for_each(|case| seen.ask(case));
+    }
+    seen.print();
+}
+
 #[test]
 fn small_sheets() {
     let mut seen = Seen::default();
@@ -286,7 +298,9 @@ fn hostile_sheets_finish() {
         seen.ask(&case);
         let spent = start.elapsed();
         println!("{} {:?}", case.name, spent);
-        assert!(spent < Duration::from_secs(8), "{} took {:?}", case.name, spent);
+        // All questions together; a build without optimisation is let off.
+        let late = spent > Duration::from_secs(8) && !cfg!(debug_assertions);
+        assert!(!late, "{} took {:?}", case.name, spent);
     }
 }
 
