@@ -105,9 +105,7 @@ pub fn added_cases(left: i64, right: i64) -> Part {
 
 /// A case with a branch for each i from 1 on, the i-th of value i * factor.
 fn points_case(branches: i64, factor: i64) -> Part {
-    let branch = |i: i64| {
-        restrict(1, &[equal(&[1], -i)], everywhere(1, integer(i * factor)))
-    };
+    let branch = |i: i64| restrict(1, &[equal(&[1], -i)], everywhere(1, integer(i * factor)));
     case(&(1..=branches).map(branch).collect::<Vec<Part>>())
 }
 

@@ -311,7 +311,7 @@ fn byte_draft(locals: usize, missing: usize) -> Draft {
     for number in 0..locals {
         draft = draft.integer(&format!("v{number}"), LOCAL, &[(0, 0); 4]);
         let first = restrict(4, &vec![always.clone(); 40], everywhere(4, integer(1)));
-        let second = restrict(4, &[never.clone()], everywhere(4, integer(2)));
+        let second = restrict(4, std::slice::from_ref(&never), everywhere(4, integer(2)));
         draft = draft.body(case(&[first, second]));
     }
     // A scalar constraint has 3 fields, one over a line 4.

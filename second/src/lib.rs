@@ -29,7 +29,9 @@ pub mod world;
 
 pub use ask::{body, element};
 pub use check::check;
+pub use hostile::hostile;
 pub use list::list;
+pub use make::{cases, small_cases, Case};
 pub use normal::normalise;
 pub use program::program;
 pub use refusal::Refusal;

@@ -9,6 +9,7 @@ use second::program::refusal_line;
 use std::fs;
 use std::io::{self, Error, Read, Write};
 use std::path::Path;
+use std::process::ExitCode;
 
 const USAGE: &str = "second                                  stdin to stdout
 second check FILE
@@ -20,7 +21,18 @@ second examples DIR
 second make SEED COUNT DIR
 second small SEED COUNT DIR";
 
-fn main() -> io::Result<()> {
+fn main() -> ExitCode {
+    match obey() {
+        Ok(()) => ExitCode::SUCCESS,
+        Err(error) => {
+            eprintln!("{error}");
+            ExitCode::FAILURE
+        }
+    }
+}
+
+/// Does what the arguments say.
+fn obey() -> io::Result<()> {
     let arguments: Vec<String> = std::env::args().skip(1).collect();
     let words: Vec<&str> = arguments.iter().map(String::as_str).collect();
     let answer = match words.as_slice() {

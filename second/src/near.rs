@@ -51,7 +51,13 @@ fn near_count(rng: &mut Rng, mut base: Draft) -> Vec<u8> {
     }
     use Role::*;
     let roles = [
-        VariableCount, Dimension, DeclaredCount, NodeCount, BranchCount, ConstraintCount, Columns,
+        VariableCount,
+        Dimension,
+        DeclaredCount,
+        NodeCount,
+        BranchCount,
+        ConstraintCount,
+        Columns,
         Rows,
     ];
     change_field(rng, &base, &roles)
@@ -60,8 +66,20 @@ fn near_count(rng: &mut Rng, mut base: Draft) -> Vec<u8> {
 /// A name ill formed in some way, well formed but strange, or taken.
 fn near_name(rng: &mut Rng, mut base: Draft) -> Vec<u8> {
     let names: [&[u8]; 14] = [
-        b"", b"7a", b"a b", b"a-", b"a\0b", b"abcdefgh", b"_", b"Z9_", b"a.\0", b"@a", b"a[", b"`",
-        b"a\x7f", b"{\xff",
+        b"",
+        b"7a",
+        b"a b",
+        b"a-",
+        b"a\0b",
+        b"abcdefgh",
+        b"_",
+        b"Z9_",
+        b"a.\0",
+        b"@a",
+        b"a[",
+        b"`",
+        b"a\x7f",
+        b"{\xff",
     ];
     let number = rng.below(base.variables.len());
     let mut field = [0; 8];
@@ -82,8 +100,19 @@ fn near_name(rng: &mut Rng, mut base: Draft) -> Vec<u8> {
 fn near_number(rng: &mut Rng, base: &Draft) -> Vec<u8> {
     use Role::*;
     let roles = [
-        Kind, Type, Lo, Hi, Relation, Coefficient, Constant, Code, VariableNumber, Integer,
-        Boolean, UnaryOperator, BinaryOperator,
+        Kind,
+        Type,
+        Lo,
+        Hi,
+        Relation,
+        Coefficient,
+        Constant,
+        Code,
+        VariableNumber,
+        Integer,
+        Boolean,
+        UnaryOperator,
+        BinaryOperator,
     ];
     change_field(rng, base, &roles)
 }
@@ -193,38 +222,41 @@ fn near_type(rng: &mut Rng, mut base: Draft) -> Draft {
 fn near_reach(rng: &mut Rng, mut base: Draft) -> Draft {
     let (body, owner) = some_body(rng, &base);
     let n = base.variables[owner].bounds.len();
+    let columns = n as i64;
+    let line = near_line(rng, n);
     let part = base.bodies[body].clone();
-    let mut coefficients = vec![0; n];
-    let mut top = POWER;
-    if n > 0 {
-        coefficients[rng.below(n)] = rng.pick(&[1 << 25, -(1 << 25), (1 << 25) - 1, POWER, -POWER]);
-        top = POWER - coefficients.iter().map(|c| c.abs().min(1 << 25)).sum::<i64>() * 32768;
-    }
-    let constant = rng.pick(&[top, -top, top - 1, (top + 1).min(POWER), -(top + 1).min(POWER), 0]);
-    let limit = Limit { relation: 0, line: (coefficients.clone(), constant) };
     match rng.below(4) {
         0 => {
             let number = rng.below(base.variables.len());
-            let dimension = base.variables[number].bounds.len();
-            if dimension == n {
-                base.declared.push((number as i64, limit));
-            } else {
-                base.declared.push((number as i64, at_least(&vec![1 << 24; dimension], POWER)));
-            }
+            let line = near_line(rng, base.variables[number].bounds.len());
+            base.declared.push((number as i64, Limit { relation: 0, line }));
         }
-        1 => base.bodies[body] = restrict(n as i64, &[limit], part),
+        1 => base.bodies[body] = restrict(columns, &[Limit { relation: 0, line }], part),
         2 => {
             let dead = chain(rng, n);
             let never = at_least(&vec![0; n], -1);
-            base.bodies[body] = case(&[part, restrict(n as i64, &[never], dead)]);
+            base.bodies[body] = case(&[part, restrict(columns, &[never], dead)]);
         }
         _ => {
-            let row = (coefficients, constant);
-            let dead = depend(n as i64, &[row], everywhere(1, integer(3)));
-            base.bodies[body] = binary(PLUS, part, dead);
+            let far = depend(columns, &[line], everywhere(1, integer(3)));
+            base.bodies[body] = binary(PLUS, part, far);
         }
     }
     base
+}
+
+/// A line whose sum at the top of a body is 2^40, one less, one more, or far
+/// more.
+fn near_line(rng: &mut Rng, columns: usize) -> Line {
+    let mut coefficients = vec![0; columns];
+    let mut left = POWER;
+    if columns > 0 {
+        let size = rng.pick(&[1 << 25, (1 << 25) - 1, 1, POWER]);
+        coefficients[rng.below(columns)] = size * rng.pick(&[1, -1]);
+        left = (POWER - size.min(1 << 25) * 32768).max(0);
+    }
+    let constant = rng.pick(&[left, left - 1, (left + 1).min(POWER), 0]);
+    (coefficients, constant * rng.pick(&[1, -1]))
 }
 
 /// Dependences over one another whose reaches grow toward 2^40, or fall.

@@ -84,9 +84,10 @@ pub fn extent(expr: &Expr) -> (u64, u64) {
         Expr::Binary(_, a, b) => extent_over(&[a, b]),
         Expr::If(a, b, c) => extent_over(&[a, b, c]),
         Expr::Restriction(_, _, child) | Expr::Dependence(_, child) => extent(child),
-        Expr::Case(branches) => branches.iter().map(extent).fold((0, 0), |sum, one| {
-            (sum.0.saturating_add(one.0), sum.1.saturating_add(one.1))
-        }),
+        Expr::Case(branches) => branches
+            .iter()
+            .map(extent)
+            .fold((0, 0), |sum, one| (sum.0.saturating_add(one.0), sum.1.saturating_add(one.1))),
     }
 }
 
@@ -107,9 +108,9 @@ fn normal(expr: &Expr, dimensions: &[usize]) -> Vec<Branch> {
     match expr {
         Expr::Variable(number) => leaf(expr, dimensions[*number]),
         Expr::Integer(_) | Expr::Boolean(_) => leaf(expr, 0),
-        Expr::Unary(operator, a) => combine(&[a], dimensions, |mut t| {
-            Expr::Unary(*operator, next(&mut t))
-        }),
+        Expr::Unary(operator, a) => {
+            combine(&[a], dimensions, |mut t| Expr::Unary(*operator, next(&mut t)))
+        }
         Expr::Binary(operator, a, b) => combine(&[a, b], dimensions, |mut t| {
             Expr::Binary(*operator, next(&mut t), next(&mut t))
         }),

@@ -323,7 +323,9 @@ impl World<'_> {
             if attempt == 5 {
                 rows.iter_mut().for_each(|row| row.0.fill(0));
             }
-            let Some(first) = points.first() else { return Some(rows) };
+            let Some(first) = points.first() else {
+                return Some(rows);
+            };
             if self.known[number].domain.is_empty() {
                 return None;
             }
