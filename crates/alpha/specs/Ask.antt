@@ -9,7 +9,7 @@ use Rattle.alpha.specs.Pick.{ifb}
 use Rattle.alpha.specs.Answer.{Answer, accepted, refused, next, ASK}
 use Rattle.alpha.specs.Sheet.{Head, Variable, Sheet, Point}
 use Rattle.alpha.specs.Box.{inBox, index}
-use Rattle.alpha.specs.Holds.{variable}
+use Rattle.alpha.specs.Holds.{variable, isInput}
 use Rattle.alpha.specs.Check.{check, total}
 
 -- the elements of the variables before v
@@ -34,9 +34,10 @@ pub record Part : Type 0 where
 abbrev pub noPart : Part
 noPart = record { start = 0; len = 0 }
 
--- the bytes that a body's nodes occupy; none of an input or an unknown number
+-- the bytes that a body's nodes occupy; an input has none, and an unknown number is taken for an input
 abbrev pub partOf : Sheet → ℕ → Part
-partOf s v = record { start = variable s v .start; len = variable s v .end - variable s v .start }
+partOf s v =
+    ifb (isInput (variable s v)) (λ _. noPart) (λ _. record { start = variable s v .start; len = variable s v .end - variable s v .start })
 
 abbrev pub partIn : Answer Sheet → ℕ → Part
 partIn (accepted s) v = partOf s v
