@@ -1,5 +1,5 @@
--- What a call answers: an answer, or a refusal with its number and its place. The refusals are tested in the order of their
--- numbers within each of the three groups: 1 to 6 while fields are read, 7 to 11 over the whole sheet, 12 to 15 after that.
+-- What a call answers: an answer, or a refusal with its number and its place. The order: LONG; then 2 to 5 as the fields come, the
+-- first fault deciding; TAIL; SHAPE, TYPE and REACH, each over all variables; GAP then CLASH at each element; then the call's own.
 -- Assumes nothing.
 use Prim.Native.Nat.{ℕ}
 
@@ -45,7 +45,7 @@ SHAPE = 7
 abbrev pub TYPE : ℕ
 TYPE = 8
 
--- a number that the sheet's maps can make passes 2^40; the place is the variable's number
+-- the bound on a coordinate or on a constraint's row passes 2^40; the place is the variable's number
 abbrev pub REACH : ℕ
 REACH = 9
 

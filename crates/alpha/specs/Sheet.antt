@@ -78,7 +78,8 @@ mutual
     none : Exprs
     more : Expr → Exprs → Exprs
 
--- a variable's record: its name's eight bytes, its kind, type and box, and the offset of the record's first byte
+-- a variable's record: its name's eight bytes, its kind, type and box, and the offset of the record's first byte, by which the code's
+-- table of places is stated
 pub record Head : Type 0 where
   pub name : List ℕ
   pub kind : Kind
@@ -91,8 +92,8 @@ pub record Declared : Type 0 where
   pub who : ℕ
   pub what : Constraint
 
--- what reading gives, before the bodies are made into trees: the first two sections, where the second and third begin, where
--- the first node stands, and how many nodes there are
+-- what reading gives, before the bodies are made into trees: the first two sections, where the second and third begin (the second
+-- for the code's table of places), where the first node stands, and how many nodes there are
 pub record Raw : Type 0 where
   pub heads : List Head
   pub decls : List Declared
