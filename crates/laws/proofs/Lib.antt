@@ -1,0 +1,3 @@
+-- Laws about the definitions of the crate alpha.
+pub mod Tests
+pub mod Readers
