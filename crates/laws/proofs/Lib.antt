@@ -1,3 +1,5 @@
 -- Laws about the definitions of the crate alpha.
 pub mod Tests
 pub mod Readers
+pub mod Rows
+pub mod Nodes
