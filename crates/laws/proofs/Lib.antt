@@ -3,3 +3,4 @@ pub mod Tests
 pub mod Readers
 pub mod Rows
 pub mod Nodes
+pub mod Trees

@@ -14,7 +14,7 @@ use Rattle.alpha.specs.Box.{within}
 use Rattle.alpha.specs.Read.{Got, got, Reader, after, pure, unaryOf, binaryOf, repeat, count, choice, number, rowOf, constraint, restriction, dependence, nodes, node}
 use Rattle.laws.specs.At.{codeOf, lengthOf, nodeLen}
 use Rattle.laws.proofs.Readers.{Gives, given, then-gives, Passed, passing-gives, Counted, counted-is, count-gives, choice-gives, Items, repeat-gives}
-use Rattle.laws.proofs.Rows.{Chosen, chosen, row-takes, constraint-takes}
+use Rattle.laws.proofs.Rows.{Chosen, chosen, RowAt, row-gives, row-takes, ConstraintAt, constraint-gives, constraint-takes}
 
 -- ---- what the fields say
 
@@ -186,3 +186,22 @@ module _ (vars : ℕ) (bs : List ℕ) (p : ℕ) where
   node-gives =
       then-gives (Counted 0 8 bs p) (p + 8) (NodeAt vars bs p) (p + nodeLen bs p) (choice 8 bs p) _ (choice-gives 8 bs p) (λ c e h.
       reads-at (nodes vars) 0 c all-read (omega (arith, table-length, h .high)) (h .field-is ∙ ap pos (omega arith)) (h .there))
+
+-- ---- taken out
+
+module _ (vars : ℕ) (bs : List ℕ) (p : ℕ) (nd : Node) (q : ℕ) (e : node vars bs p ≡ got nd q) where
+  pub node-at : NodeAt vars bs p nd
+  node-at = given (NodeAt vars bs p) (p + nodeLen bs p) (node-gives vars bs p) e .what
+
+  pub node-next : q ≡ p + nodeLen bs p
+  node-next = given (NodeAt vars bs p) (p + nodeLen bs p) (node-gives vars bs p) e .next
+
+pub restr-constraint : {bs : List ℕ} {p d : ℕ} {cs : List Constraint} → Restricts bs p d cs → (i : ℕ) → i < length cs → (c : Constraint) → ConstraintAt d bs (p + 24 + i * (16 + 8 * d)) (getD cs i c)
+restr-constraint {bs} {p} {d} r i lt c =
+    let at = p + 24 + i * (16 + 8 * d) in
+    given (ConstraintAt d bs at) (at + (16 + 8 * d)) (constraint-gives d bs at) (r .item i lt c) .what
+
+pub dep-row : {bs : List ℕ} {p : ℕ} {f : Map} → Depends bs p f → (i : ℕ) → i < length (f .rows) → (w : Row) → RowAt (f .cols) bs (p + 24 + i * (8 + 8 * f .cols)) (getD (f .rows) i w)
+dep-row {bs} {p} {f} r i lt w =
+    let at = p + 24 + i * (8 + 8 * f .cols) in
+    given (RowAt (f .cols) bs at) (at + (8 + 8 * f .cols)) (row-gives (f .cols) bs at) (r .item i lt w) .what
