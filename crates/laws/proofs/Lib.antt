@@ -4,3 +4,4 @@ pub mod Readers
 pub mod Rows
 pub mod Nodes
 pub mod Trees
+pub mod Shapes

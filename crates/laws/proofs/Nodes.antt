@@ -55,11 +55,11 @@ pub record NodeAt (vars : ℕ) (bs : List ℕ) (p : ℕ) (nd : Node) : Type 0 wh
 -- ---- lengths
 
 module _ (bs : List ℕ) (p : ℕ) where
-  nodeLen-is : (code a b : ℕ) → field bs p ≡ pos code → a ≡ natAbs (field bs (p + 8)) → b ≡ natAbs (field bs (p + 16)) → nodeLen bs p ≡ lengthOf code a b
+  pub nodeLen-is : (code a b : ℕ) → field bs p ≡ pos code → a ≡ natAbs (field bs (p + 8)) → b ≡ natAbs (field bs (p + 16)) → nodeLen bs p ≡ lengthOf code a b
   unfolding nodeLen
   nodeLen-is code a b c x y = rw (x, y) (ap (λ z. lengthOf (natAbs z) (natAbs (field bs (p + 8))) (natAbs (field bs (p + 16)))) c)
 
-  nodeLen-by-code : (code n : ℕ) → field bs p ≡ pos code → ((a b : ℕ) → lengthOf code a b ≡ n) → nodeLen bs p ≡ n
+  pub nodeLen-by-code : (code n : ℕ) → field bs p ≡ pos code → ((a b : ℕ) → lengthOf code a b ≡ n) → nodeLen bs p ≡ n
   nodeLen-by-code code n c h = nodeLen-is code (natAbs (field bs (p + 8))) (natAbs (field bs (p + 16))) c refl refl ∙ h _ _
 
 -- ---- each reader of the table, after a code
