@@ -5,3 +5,5 @@ pub mod Rows
 pub mod Nodes
 pub mod Trees
 pub mod Shapes
+pub mod Order
+pub mod Boxes
