@@ -1,20 +1,15 @@
--- A point's number in its box and the point of a number: each undoes the other, and so do an element's number and the element.
--- Assumes nothing.
-use mathlib.Core.Path.{_≡_, refl, sym, ap, _∙_, subst}
+-- A point's number in its box and the point of a number: each undoes the other. Assumes nothing.
+use mathlib.Core.Path.{_≡_, refl, ap, _∙_}
 use Prim.Native.Nat.{ℕ, zero, suc, _+_, _*_, _-_, _/_, _%_, _≤_, _<_}
-use native.Mathlib.Nat.{suc-mul, add-mul, one-mul, mul-pos, mul-le-mul-right, mod-lt, div-add-mod', div-lt-iff-lt-mul, div-eq-of-lt, mod-eq-of-lt, mul-add-div-right, mul-add-mod-self-right, add-zero}
+use native.Mathlib.Nat.{suc-mul, mul-pos, mul-le-mul-right, mod-lt, div-add-mod', div-lt-iff-lt-mul, div-eq-of-lt, mod-eq-of-lt, mul-add-div-right, mul-add-mod-self-right, add-zero}
 use native.Mathlib.Omega.{arith}
 use mathlib.Core.Bool.{Bool, true, false, _&&_}
-use mathlib.Core.List.{List, [], _∷_, _++_, map}
-use lib.ListN.{length, getD, take, length-append, length-map, List·getD-append}
-use lib.Seq.{getD-append-add}
+use mathlib.Core.List.{List, [], _∷_}
+use lib.ListN.{length}
 use lib.IntN.{ℤ, pos, natAbs, _+ℤ_, _-ℤ_}
 use lib.Signed.{leZ}
-use Rattle.alpha.specs.Sheet.{Range, Point, Sheet, Variable, Head}
+use Rattle.alpha.specs.Sheet.{Range, Point}
 use Rattle.alpha.specs.Box.{within, side, size, inBox, index, pointAt}
-use Rattle.alpha.specs.Holds.{variable, noVariable}
-use Rattle.alpha.specs.Check.{Element, pointsFrom, points, elementsFrom, elements, total}
-use Rattle.alpha.specs.Ask.{before, numberOf}
 use Rattle.laws.specs.Box.{ordered}
 use Rattle.laws.proofs.Tests.{&&-left, &&-right, &&-true, true-not-false}
 use Rattle.laws.proofs.Order.{above-less, Among, within-among, above-within}

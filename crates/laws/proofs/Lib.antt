@@ -7,3 +7,4 @@ pub mod Trees
 pub mod Shapes
 pub mod Order
 pub mod Boxes
+pub mod Elements
