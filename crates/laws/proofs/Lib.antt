@@ -8,3 +8,4 @@ pub mod Shapes
 pub mod Order
 pub mod Boxes
 pub mod Elements
+pub mod Growth
