@@ -9,3 +9,5 @@ pub mod Order
 pub mod Boxes
 pub mod Elements
 pub mod Growth
+pub mod Composed
+pub mod NormalForm
