@@ -1,0 +1,13 @@
+-- Laws about the definitions of the crate alpha.
+pub mod Tests
+pub mod Readers
+pub mod Rows
+pub mod Nodes
+pub mod Trees
+pub mod Shapes
+pub mod Order
+pub mod Boxes
+pub mod Elements
+pub mod Growth
+pub mod Composed
+pub mod NormalForm
