@@ -1,0 +1,10 @@
+// Reading a sheet's fields in order. Assumes nothing.
+use alpha::Refusal;
+
+mod name;
+
+// How far reading came: the next place, or the refusal.
+pub enum Pass {
+    To(usize),
+    Refused(Refusal),
+}
