@@ -1,7 +1,7 @@
 -- How far the readers of crate alpha come: one law for each way through a field, a sequence and a repetition, from the facts that
 -- code leaves. Assumes nothing.
 use mathlib.Core.Path.{_≡_, refl, sym, ap, _∙_}
-use mathlib.Core.Bool.{Bool, true, false, _&&_}
+use mathlib.Core.Bool.{Bool, true, false}
 use mathlib.Core.List.{List, [], _∷_}
 use Prim.Native.Nat.{ℕ, zero, suc, _+_, _-_, _≤_, _<_}
 use native.Mathlib.Omega.{arith}
@@ -9,13 +9,18 @@ use native.Mathlib.Numerals.{sub-one}
 use borrow.Author.Tests.{le-leb, lt-leb, leb-true, leb-false}
 use lib.ListN.{length}
 use lib.Dec.{leb}
-use lib.IntN.{ℤ, pos, negsuc, natAbs}
+use lib.IntN.{ℤ, pos, natAbs}
+use Rattle.integer.proofs.Order.{within-nat}
 use Rattle.alpha.specs.Pick.{ifb}
 use Rattle.alpha.specs.Answer.{Answer, accepted, refused, CUT, COUNT, NUMBER}
 use Rattle.alpha.specs.Field.{field}
 use Rattle.alpha.specs.Box.{within}
 use Rattle.alpha.specs.Read.{Got, got, bad, Reader, after, repeat, room, passing, count, number, choice}
-use Rattle.sheet.specs.Place.{placeAfter}
+use Rattle.alpha.specs.Verdict.{numberOf, placeOf}
+use Rattle.alpha.specs.declared.Refusal.{Refusal}
+use Rattle.sheet.specs.declared.Pass.{Pass}
+use Rattle.sheet.specs.declared.Pass.the-variants.{To, Refused}
+use Rattle.sheet.specs.Place.{placeAfter, passed}
 
 -- ---- one reader after another
 
@@ -37,6 +42,15 @@ pure-after (bad n q) f = refl
 -- a reader that gave a value is followed by the next
 pub after-gave : {A B : Type 0} (m : Got A) (k : A → ℕ → Got B) (a : A) (q : ℕ) → m ≡ got a q → after m k ≡ k a q
 after-gave m k a q e = ap (λ (g : Got _). after g k) e
+
+-- what a Pass says, by its variant
+module _ {A : Type 0} (m : Got A) (r : Pass) (says : passed r ≡ placeAfter m) where
+  pub came-to : (q : ℕ) → r ≡ To q → placeAfter m ≡ accepted q
+  came-to q e = sym says ∙ ap passed e
+
+  -- where the first reader refuses, the Pass is the answer of the whole
+  pub refused-whole : {B : Type 0} (k : A → ℕ → Got B) (e : Refusal) → r ≡ Refused e → passed r ≡ placeAfter (after m k)
+  refused-whole k e v = ap passed v ∙ sym (refused-after m k (sym says ∙ ap passed v))
 
 -- ---- a field that must pass a test
 
@@ -100,33 +114,48 @@ module _ (hi : ℕ) (bs : List ℕ) (p : ℕ) where
   choice-then k q e =
       ap (λ (g : Got ℕ). after g k) (passing-then NUMBER (within (pos 0) (pos hi)) bs p (λ x r. got (natAbs x) r) q (sym choice-place ∙ e))
 
--- a number within 0 and hi is at most hi in size
-pub within-natAbs : (lo hi : ℕ) (x : ℤ) → within (pos lo) (pos hi) x ≡ true → (lo ≤ natAbs x) × (natAbs x ≤ hi)
-within-natAbs lo hi (pos n) e = go (leb lo n) (leb n hi) refl refl e
-  where
-    go : (b c : Bool) → leb lo n ≡ b → leb n hi ≡ c → _&&_ b c ≡ true → (lo ≤ n) × (n ≤ hi)
-    go true true f g h = (leb-true lo n f, leb-true n hi g)
-    go true false f g h = absurd (let z : _≡_ {A = ℕ} 0 1 = cc in omega arith)
-    go false c f g h = absurd (let z : _≡_ {A = ℕ} 0 1 = cc in omega arith)
-within-natAbs lo hi (negsuc n) e = absurd (let z : _≡_ {A = ℕ} 0 1 = cc in omega arith)
+-- where a Pass of such a field goes on, the field was read
+module _ (bs : List ℕ) (p : ℕ) (r : Pass) (q : ℕ) (to : r ≡ To q) where
+  pub number-came : (lo hi : ℤ) → passed r ≡ placeAfter (number lo hi bs p) → Passed (within lo hi) bs p q
+  number-came lo hi says = passing-passed NUMBER (within lo hi) bs p q (came-to (number lo hi bs p) r says q to)
+
+  pub count-came : (lo hi : ℕ) → passed r ≡ placeAfter (count lo hi bs p) → Passed (within (pos lo) (pos hi)) bs p q
+  count-came lo hi says = count-passed lo hi bs p q (came-to (count lo hi bs p) r says q to)
+
+  pub choice-came : (hi : ℕ) → passed r ≡ placeAfter (choice hi bs p) → Passed (within (pos 0) (pos hi)) bs p q
+  choice-came hi says = choice-passed hi bs p q (came-to (choice hi bs p) r says q to)
+
+-- a count that was read is within its limits
+pub counted : (lo hi : ℕ) {bs : List ℕ} {p q : ℕ} → Passed (within (pos lo) (pos hi)) bs p q → (lo ≤ natAbs (field bs p)) × (natAbs (field bs p) ≤ hi)
+counted lo hi {bs} {p} h = let w = within-nat lo hi (field bs p) (h .fine) in (w .1, w .2)
 
 -- ---- a reader n times
 
-module _ {A : Type 0} (r : Reader A) (bs : List ℕ) where
-  pub repeat-none : (n p : ℕ) → n ≡ 0 → repeat n r bs p ≡ got [] p
-  repeat-none n p e = rw e
+-- what a reader n times from p on comes to, it comes to from `at` on with so many left
+pub record Left {A : Type 0} (r : Reader A) (bs : List ℕ) (n p left at : ℕ) : Type 0 where
+  pub decides : placeAfter (repeat n r bs p) ≡ placeAfter (repeat left r bs at)
 
-  one-more : (n p : ℕ) → 0 < n → repeat n r bs p ≡ after (r bs p) (λ a q. after (repeat (n - 1) r bs q) (λ l q′. got (a ∷ l) q′))
-  one-more zero p h = absurd (omega arith)
-  one-more (suc n) p h = let e : suc n - 1 ≡ n = omega arith in rw e
+pub all-left : {A : Type 0} {r : Reader A} {bs : List ℕ} {n p : ℕ} → Left r bs n p n p
+all-left = record { decides = refl }
 
-  pub repeat-refused : (n p : ℕ) {m f : ℕ} → 0 < n → placeAfter (r bs p) ≡ refused m f → placeAfter (repeat n r bs p) ≡ refused m f
-  repeat-refused n p h e =
-      ap placeAfter (one-more n p h) ∙ refused-after (r bs p) (λ a q. after (repeat (n - 1) r bs q) (λ l q′. got (a ∷ l) q′)) e
+one-more : {A : Type 0} (r : Reader A) (bs : List ℕ) (n p : ℕ) → 0 < n → repeat n r bs p ≡ after (r bs p) (λ a q. after (repeat (n - 1) r bs q) (λ l q′. got (a ∷ l) q′))
+one-more r bs zero p h = absurd (omega arith)
+one-more r bs (suc n) p h = let e : suc n - 1 ≡ n = omega arith in rw e
 
-  pub repeat-more : (n p q : ℕ) → 0 < n → placeAfter (r bs p) ≡ accepted q → placeAfter (repeat n r bs p) ≡ placeAfter (repeat (n - 1) r bs q)
-  repeat-more n p q h e =
-      let g = gave (r bs p) e in
-      ap placeAfter (one-more n p h)
-      ∙ ap placeAfter (after-gave (r bs p) (λ a q. after (repeat (n - 1) r bs q) (λ l q′. got (a ∷ l) q′)) (g .0) q (g .1))
-      ∙ pure-after (repeat (n - 1) r bs q) (λ l. g .0 ∷ l)
+module _ {A : Type 0} {r : Reader A} {bs : List ℕ} {n p left at : ℕ} (inv : Left r bs n p left at) where
+  pub repeat-done : left ≡ 0 → accepted at ≡ placeAfter (repeat n r bs p)
+  repeat-done e = sym (inv .decides ∙ rw e)
+
+  module _ (h : 0 < left) (x : Pass) (says : passed x ≡ placeAfter (r bs at)) where
+    rest : A → ℕ → Got (List A)
+    rest a q = after (repeat (left - 1) r bs q) (λ l q′. got (a ∷ l) q′)
+
+    pub repeat-stops : (e : Refusal) → x ≡ Refused e → passed x ≡ placeAfter (repeat n r bs p)
+    unfolding rest
+    repeat-stops e v = refused-whole (r bs at) x says rest e v ∙ sym (inv .decides ∙ ap placeAfter (one-more r bs left at h))
+
+    pub repeat-goes : (q : ℕ) → x ≡ To q → Left r bs n p (left - 1) q
+    unfolding rest
+    repeat-goes q v =
+        let g = gave (r bs at) (came-to (r bs at) x says q v) in
+        record { decides = inv .decides ∙ ap placeAfter (one-more r bs left at h ∙ after-gave (r bs at) rest (g .0) q (g .1)) ∙ pure-after (repeat (left - 1) r bs q) (λ l. g .0 ∷ l) }

@@ -4,11 +4,16 @@ use mathlib.Core.Path.{_≡_}
 use mathlib.Core.Bool.{Bool, true, false, _||_}
 use mathlib.Core.List.{List, [], _∷_, map}
 use lib.ListN.{length, getD, take}
+use lib.Dec.{leb}
 use lib.IntN.{ℤ, pos, negℤ, natAbs}
+use Rattle.alpha.specs.Pick.{ifb}
 use Rattle.alpha.specs.Field.{field, eight, sameBytes}
 use Rattle.alpha.specs.Sheet.{Head, Range}
-use Rattle.alpha.specs.Box.{within, size}
-use Rattle.alpha.specs.Read.{kindOf, sortOf}
+use Rattle.alpha.specs.Box.{within, side, size}
+use Rattle.alpha.specs.Read.{Got, got, kindOf, sortOf, heads}
+use Rattle.sheet.specs.declared.Pass.{Pass}
+use Rattle.sheet.specs.declared.Pass.the-variants.{To}
+use Rattle.sheet.specs.Place.{placeAfter, passed}
 
 -- the n ranges from p on
 unfoldable pub boxAt : List ℕ → ℕ → ℕ → List Range
@@ -39,6 +44,15 @@ pub record Ranges (bs : List ℕ) (p n : ℕ) : Type 0 where
   pub low : (i : ℕ) → i < n → within (negℤ (pos 32768)) (pos 32767) (field bs (p + 16 * i)) ≡ true
   pub high : (i : ℕ) → i < n → within (field bs (p + 16 * i)) (pos 32767) (field bs (p + 16 * i + 8)) ≡ true
 
+-- r is how many numbers the range at p has, which are at most 65,536
+pub record Side (bs : List ℕ) (p r : ℕ) : Type 0 where
+  pub is : r ≡ side (record { lo = field bs p; hi = field bs (p + 8) })
+  pub small : r ≤ 65537
+
+-- a number of points, and 4,097 for any over 4,096
+abbrev pub capped : ℕ → ℕ
+capped n = ifb (leb n 4096) (λ _. n) (λ _. 4097)
+
 -- a record stands at p: its fields are there, its dimension is at most 4, and its ranges are as they must be
 pub record Recorded (bs : List ℕ) (p : ℕ) : Type 0 where
   pub fields : p + 32 ≤ length bs
@@ -59,3 +73,16 @@ points (h ∷ hs) = size (h .box) + points hs
 -- and those before record v
 abbrev pub before : List Head → ℕ → ℕ
 before hs v = points (take v hs)
+
+-- the records of n variables were read from p to q, and the table has their places, first elements and total
+pub record Filled (bs : List ℕ) (p n : ℕ) (tab : List ℕ) (q : ℕ) : Type 0 where
+  pub known : Known bs tab n
+  pub gives : heads n [] 0 bs p ≡ got (headsAt bs (take n tab)) q
+  pub firsts : (i : ℕ) → i ≤ n → getD tab (32 + i) 0 ≡ before (headsAt bs (take n tab)) i
+  pub few : points (headsAt bs (take n tab)) ≤ 4096
+
+-- reading n records: how far it comes, and the table where it comes to the end
+pub record Fills (bs : List ℕ) (p n : ℕ) (tab′ : List ℕ) (r : Pass) : Type 0 where
+  pub answer : passed r ≡ placeAfter (heads n [] 0 bs p)
+  pub sized : length tab′ ≡ 102
+  pub filled : (q : ℕ) → r ≡ To q → Filled bs p n tab′ q
