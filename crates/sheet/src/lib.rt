@@ -5,6 +5,7 @@ mod constraint;
 mod field;
 mod name;
 mod node;
+mod variable;
 
 // How far reading came: the next place, or the refusal.
 pub enum Pass {
