@@ -3,10 +3,11 @@ use mathlib.Core.Path.{_≡_, refl, sym, ap, _∙_, subst}
 use Prim.Native.Nat.{ℕ, zero, suc, _+_, _*_, _-_, _≤_, _<_}
 use native.Mathlib.Omega.{arith}
 use mathlib.Core.Bool.{Bool, true, false, not, _&&_}
-use mathlib.Core.List.{List, [], _∷_, _++_, append-assoc}
+use mathlib.Core.List.{List, [], _∷_, _++_, append-assoc, append-nil}
 use lib.ListN.{length, getD, length-append}
 use lib.IntN.{ℤ, pos, negℤ, natAbs}
 use lib.Signed.{leZ}
+use lib.Dec.{leb}
 use borrow.Author.Tests.{leb-true, not-true}
 use Rattle.alpha.specs.Pick.{ifb}
 use Rattle.alpha.specs.Answer.{CUT, NAME, NUMBER, COUNT}
@@ -119,3 +120,123 @@ module _ (earlier : List Head) (bs : List ℕ) (p : ℕ) where
         };
         next = omega arith;
       })))))
+
+module _ (earlier : List Head) (bs : List ℕ) (p : ℕ) (h : Head) (q : ℕ) (e : headRecord earlier bs p ≡ got h q) where
+  pub head-at : HeadAt earlier bs p h
+  head-at = given (HeadAt earlier bs p) (p + headLen bs p) (head-gives earlier bs p) e .what
+
+  pub head-next : q ≡ p + headLen bs p
+  head-next = given (HeadAt earlier bs p) (p + headLen bs p) (head-gives earlier bs p) e .next
+
+pub head-range : {earlier : List Head} {bs : List ℕ} {p : ℕ} {h : Head} → HeadAt earlier bs p h → (i : ℕ) → i < length (h .box) → (r : Range) →
+    RangeAt bs (p + 32 + i * 16) (getD (h .box) i r)
+head-range {bs = bs} {p = p} a i lt r =
+    let at = p + 32 + i * 16 in
+    given (RangeAt bs at) (at + 16) (range-gives bs at) (a .item i lt r) .what
+
+readBox-by-item : (box : List Range) (d : Range) → ((i : ℕ) → i < length box → readRange (getD box i d) ≡ true) → readBox box ≡ true
+readBox-by-item [] d h = refl
+readBox-by-item (r ∷ rs) d h = &&-true (h 0 (omega arith)) (readBox-by-item rs d (λ i lt. h (suc i) (omega arith)))
+
+pub head-box : {earlier : List Head} {bs : List ℕ} {p : ℕ} {h : Head} → HeadAt earlier bs p h → readBox (h .box) ≡ true
+head-box {h = h} a = readBox-by-item (h .box) (record { lo = pos 0; hi = pos 0 }) (λ i lt. head-range a i lt (record { lo = pos 0; hi = pos 0 }) .fine)
+
+-- ---- the first section
+
+-- k new records stand from p up to q after the earlier ones, and with the points before they have at most 4,096
+pub record HeadsRead (earlier : List Head) (k points : ℕ) (bs : List ℕ) (p : ℕ) (all : List Head) (q : ℕ) : Type 0 where
+  pub new : List Head
+  pub is : all ≡ earlier ++ new
+  pub many : length new ≡ k
+  pub stand : HeadsAt new earlier bs p q
+  pub small : points ≤ 4096 → points + pointsOf new ≤ 4096
+
+-- what `heads` must give
+abbrev HeadsGood : List Head → ℕ → ℕ → List ℕ → ℕ → Got (List Head) → Type 0
+HeadsGood earlier k points bs p (got all q) = HeadsRead earlier k points bs p all q
+HeadsGood earlier k points bs p (bad n q) = Unit {0}
+
+module _ (earlier : List Head) (k points : ℕ) (bs : List ℕ) (p : ℕ) where
+  -- the records after the first, where their points fit
+  more-heads : (h : Head) (m : ℕ) → headRecord earlier bs p ≡ got h m → points + size (h .box) ≤ 4096 →
+      (g : Got (List Head)) → HeadsGood (earlier ++ (h ∷ [])) k (points + size (h .box)) bs m g → HeadsGood earlier (suc k) points bs p g
+  unfolding HeadsAt
+  more-heads h m e l (bad n q) r = tt
+  more-heads h m e l (got all q) r = record {
+    new = h ∷ r .new;
+    is = r .is ∙ append-assoc earlier (h ∷ []) (r .new);
+    many = ap suc (r .many);
+    stand = record { next = m; here = e; after = r .stand };
+    small = λ _. omega (arith, r .small l);
+  }
+
+  -- one record, and then the rest
+  abbrev rest : Head → ℕ → Got (List Head)
+  rest h q = heads k (earlier ++ (h ∷ [])) (points + size (h .box)) bs q
+
+  one-head : ((h : Head) (q : ℕ) → HeadsGood (earlier ++ (h ∷ [])) k (points + size (h .box)) bs q (rest h q)) →
+      (g : Got Head) → headRecord earlier bs p ≡ g →
+      HeadsGood earlier (suc k) points bs p (after g (λ h q. ifb (leb (points + size (h .box)) 4096) (λ _. rest h q) (λ _. bad COUNT p)))
+  one-head ih (bad n q) e = tt
+  one-head ih (got h q) e = go (leb (points + size (h .box)) 4096) refl
+    where
+      go : (t : Bool) → leb (points + size (h .box)) 4096 ≡ t → HeadsGood earlier (suc k) points bs p (ifb t (λ _. rest h q) (λ _. bad COUNT p))
+      go true l = more-heads h q e (leb-true (points + size (h .box)) 4096 l) (rest h q) (ih h q)
+      go false l = tt
+
+heads-good : (k : ℕ) (earlier : List Head) (points : ℕ) (bs : List ℕ) (p : ℕ) → HeadsGood earlier k points bs p (heads k earlier points bs p)
+unfolding heads HeadsAt
+heads-good zero earlier points bs p = record { new = []; is = sym (append-nil earlier); many = refl; stand = refl; small = λ h. omega arith }
+heads-good (suc k) earlier points bs p =
+    one-head earlier k points bs p (λ h q. heads-good k (earlier ++ (h ∷ [])) (points + size (h .box)) bs q) (headRecord earlier bs p) refl
+
+pub heads-read : {k points : ℕ} {earlier : List Head} {bs : List ℕ} {p : ℕ} {all : List Head} {q : ℕ} →
+    heads k earlier points bs p ≡ got all q → HeadsRead earlier k points bs p all q
+heads-read {k} {points} {earlier} {bs} {p} e = subst (HeadsGood earlier k points bs p) e (heads-good k earlier points bs p)
+
+-- ---- a declared constraint
+
+-- the declared constraint d stands at p: its variable, then its constraint, of that variable's dimension
+pub record DeclaredAt (hs : List Head) (bs : List ℕ) (p : ℕ) (d : Declared) : Type 0 where
+  pub who-is : Counted 0 (length hs - 1) bs p (d .who)
+  pub what-is : ConstraintAt (dimension hs (d .who)) bs (p + 8) (d .what)
+  pub there : p + declaredLen hs bs p ≤ length bs
+
+pub declared-gives : (hs : List Head) (bs : List ℕ) (p : ℕ) → Gives (DeclaredAt hs bs p) (p + declaredLen hs bs p) (declared hs bs p)
+unfolding declared
+declared-gives hs bs p =
+    then-gives (Counted 0 (length hs - 1) bs p) (p + 8) (DeclaredAt hs bs p) (p + declaredLen hs bs p) (choice (length hs - 1) bs p) _
+    (choice-gives (length hs - 1) bs p) (λ v _ h.
+    then-gives (ConstraintAt (dimension hs v) bs (p + 8)) (p + 8 + (16 + 8 * dimension hs v)) (DeclaredAt hs bs p) (p + declaredLen hs bs p)
+    (constraint (dimension hs v) bs (p + 8)) _ (constraint-gives (dimension hs v) bs (p + 8)) (λ c _ k.
+    let s : dimension hs v ≡ dimension hs (natAbs (field bs p)) = ap (dimension hs) (counted-is h) in
+    record { what = record { who-is = h; what-is = k; there = omega (arith, s, k .there) }; next = omega (arith, s) }))
+
+-- ---- the same reader again and again
+
+pub record RowRead {A : Type 0} (r : Reader A) (n : ℕ) (bs : List ℕ) (p : ℕ) (l : List A) (q : ℕ) : Type 0 where
+  pub many : length l ≡ n
+  pub row : InRow l r bs p q
+
+abbrev RowGood : {A : Type 0} → Reader A → ℕ → List ℕ → ℕ → Got (List A) → Type 0
+RowGood r n bs p (got l q) = RowRead r n bs p l q
+RowGood r n bs p (bad k q) = Unit {0}
+
+module _ {A : Type 0} (r : Reader A) (n : ℕ) (bs : List ℕ) (p : ℕ) where
+  row-more : (a : A) (m : ℕ) → r bs p ≡ got a m → (g : Got (List A)) → RowGood r n bs m g → RowGood r (suc n) bs p (after g (λ l q. got (a ∷ l) q))
+  unfolding InRow
+  row-more a m e (got l q) h = record { many = ap suc (h .many); row = record { next = m; here = e; after = h .row } }
+  row-more a m e (bad k q) h = tt
+
+  row-one : ((m : ℕ) → RowGood r n bs m (repeat n r bs m)) → (g : Got A) → r bs p ≡ g →
+      RowGood r (suc n) bs p (after g (λ a m. after (repeat n r bs m) (λ l q. got (a ∷ l) q)))
+  row-one ih (got a m) e = row-more a m e (repeat n r bs m) (ih m)
+  row-one ih (bad k m) e = tt
+
+row-good : {A : Type 0} (r : Reader A) (n : ℕ) (bs : List ℕ) (p : ℕ) → RowGood r n bs p (repeat n r bs p)
+unfolding InRow
+row-good r zero bs p = record { many = refl; row = refl }
+row-good r (suc n) bs p = row-one r n bs p (λ m. row-good r n bs m) (r bs p) refl
+
+pub repeat-row : {A : Type 0} {r : Reader A} {n : ℕ} {bs : List ℕ} {p : ℕ} {l : List A} {q : ℕ} → repeat n r bs p ≡ got l q → RowRead r n bs p l q
+repeat-row {r = r} {n} {bs} {p} e = subst (RowGood r n bs p) e (row-good r n bs p)
