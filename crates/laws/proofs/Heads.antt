@@ -238,5 +238,5 @@ unfolding InRow
 row-good r zero bs p = record { many = refl; row = refl }
 row-good r (suc n) bs p = row-one r n bs p (λ m. row-good r n bs m) (r bs p) refl
 
-pub repeat-row : {A : Type 0} {r : Reader A} {n : ℕ} {bs : List ℕ} {p : ℕ} {l : List A} {q : ℕ} → repeat n r bs p ≡ got l q → RowRead r n bs p l q
-repeat-row {r = r} {n} {bs} {p} e = subst (RowGood r n bs p) e (row-good r n bs p)
+pub repeat-row : {A : Type 0} (r : Reader A) (n : ℕ) (bs : List ℕ) (p : ℕ) {l : List A} {q : ℕ} → repeat n r bs p ≡ got l q → RowRead r n bs p l q
+repeat-row r n bs p e = subst (RowGood r n bs p) e (row-good r n bs p)

@@ -12,3 +12,4 @@ pub mod Growth
 pub mod Composed
 pub mod NormalForm
 pub mod Heads
+pub mod Bodies
