@@ -99,11 +99,11 @@ read-says {bs} e = subst (Says (SheetRead bs)) e (all bs)
 -- ---- the bodies
 
 -- P holds of the answer, if it is not a refusal
-abbrev Tells : {A : Type 0} → (A → Type 0) → Answer A → Type 0
+abbrev pub Tells : {A : Type 0} → (A → Type 0) → Answer A → Type 0
 Tells P (accepted a) = P a
 Tells P (refused n p) = Unit {0}
 
-next-tells : {A B : Type 0} (P : A → Type 0) (Q : B → Type 0) (m : Answer A) (k : A → Answer B) → Tells P m → ((a : A) → P a → Tells Q (k a)) → Tells Q (next m k)
+pub next-tells : {A B : Type 0} (P : A → Type 0) (Q : B → Type 0) (m : Answer A) (k : A → Answer B) → Tells P m → ((a : A) → P a → Tells Q (k a)) → Tells Q (next m k)
 next-tells P Q (accepted a) k h g = g a h
 next-tells P Q (refused n p) k h g = tt
 
@@ -133,7 +133,7 @@ module _ (r : Raw) (bs : List ℕ) where
     pub heads-are : map (λ x. x .head) s ≡ hs
     pub stand : BodiesAt s r bs v p m
 
-  bodies-tell : (hs : List Head) (v p m : ℕ) → Tells (BodiesRead hs v p m) (bodies r bs hs v p m)
+  pub bodies-tell : (hs : List Head) (v p m : ℕ) → Tells (BodiesRead hs v p m) (bodies r bs hs v p m)
   unfolding bodies BodiesAt
   bodies-tell [] v p zero = record { heads-are = refl; stand = refl }
   bodies-tell [] v p (suc m) = tt

@@ -13,3 +13,4 @@ pub mod Composed
 pub mod NormalForm
 pub mod Heads
 pub mod Bodies
+pub mod Checked

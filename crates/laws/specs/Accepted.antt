@@ -10,12 +10,10 @@ use Rattle.alpha.specs.Field.{field}
 use Rattle.alpha.specs.Sheet.{Kind, Kind.input, Kind.output, Kind.local, Node, Head, Declared, Raw, Expr, Exprs, Variable, Sheet, Point, Expr.kase, Exprs.none}
 use Rattle.alpha.specs.Read.{declared, node}
 use Rattle.alpha.specs.Shape.{fits, ofVariable}
-use Rattle.alpha.specs.Reach.{reach, allReach, topReach}
 use Rattle.alpha.specs.Holds.{variable, isInput, inDomain, holds, clashes}
-use Rattle.alpha.specs.Check.{total, typed}
+use Rattle.alpha.specs.Check.{typed, reached}
 use Rattle.alpha.specs.Written.{nodeCount, depth}
 use Rattle.laws.specs.At.{At}
-use Rattle.laws.specs.Box.{readBox}
 use Rattle.laws.specs.Heads.{InRow, HeadsAt, pointsOf}
 
 -- ---- the sections
@@ -70,3 +68,16 @@ pub record VariableAt (r : Raw) (bs : List ℕ) (v : ℕ) (x : Variable) (p m : 
 unfoldable pub BodiesAt : Sheet → Raw → List ℕ → ℕ → ℕ → ℕ → Type 0
 BodiesAt [] r bs v p m = m ≡ 0
 BodiesAt (x ∷ s) r bs v p m = VariableAt r bs v x p m (λ q n. BodiesAt s r bs (suc v) q n)
+
+-- ---- the whole sheet
+
+pub record Accepted (bs : List ℕ) (r : Raw) (s : Sheet) : Type 0 where
+  pub short : length bs ≤ 65536
+  pub parts : Sections bs r
+  pub heads-are : map (λ x. x .head) s ≡ r .heads
+  pub stand : BodiesAt s r bs 0 (r .first) (r .nodes)
+  pub types : (v : ℕ) → v < length s → typed (r .heads) (variable s v) ≡ true
+  pub reaches : (v : ℕ) → v < length s → reached (variable s v) ≡ true
+  -- no GAP and no CLASH
+  pub covered : (v : ℕ) (z : Point) → v < length s → isInput (variable s v) ≡ false → inDomain (variable s v) z ≡ true → holds (variable s v .body) s z ≡ true
+  pub clear : (v : ℕ) (z : Point) → v < length s → isInput (variable s v) ≡ false → inDomain (variable s v) z ≡ true → clashes (variable s v .body) s z ≡ false
