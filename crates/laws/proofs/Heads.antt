@@ -212,6 +212,13 @@ declared-gives hs bs p =
     let s : dimension hs v ≡ dimension hs (natAbs (field bs p)) = ap (dimension hs) (counted-is h) in
     record { what = record { who-is = h; what-is = k; there = omega (arith, s, k .there) }; next = omega (arith, s) }))
 
+module _ (hs : List Head) (bs : List ℕ) (p : ℕ) (d : Declared) (q : ℕ) (e : declared hs bs p ≡ got d q) where
+  pub declared-at : DeclaredAt hs bs p d
+  declared-at = given (DeclaredAt hs bs p) (p + declaredLen hs bs p) (declared-gives hs bs p) e .what
+
+  pub declared-next : q ≡ p + declaredLen hs bs p
+  declared-next = given (DeclaredAt hs bs p) (p + declaredLen hs bs p) (declared-gives hs bs p) e .next
+
 -- ---- the same reader again and again
 
 pub record RowRead {A : Type 0} (r : Reader A) (n : ℕ) (bs : List ℕ) (p : ℕ) (l : List A) (q : ℕ) : Type 0 where

@@ -14,3 +14,4 @@ pub mod NormalForm
 pub mod Heads
 pub mod Bodies
 pub mod Checked
+pub mod SameOutcome
