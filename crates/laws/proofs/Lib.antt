@@ -15,3 +15,5 @@ pub mod Heads
 pub mod Bodies
 pub mod Checked
 pub mod SameOutcome
+pub mod Branches
+pub mod NormalChecks
