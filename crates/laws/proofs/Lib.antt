@@ -17,3 +17,4 @@ pub mod Checked
 pub mod SameOutcome
 pub mod Branches
 pub mod NormalChecks
+pub mod NormalType
