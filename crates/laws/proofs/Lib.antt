@@ -18,3 +18,4 @@ pub mod SameOutcome
 pub mod Branches
 pub mod NormalChecks
 pub mod NormalType
+pub mod NormalReach

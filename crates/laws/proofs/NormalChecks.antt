@@ -21,7 +21,7 @@ use Rattle.laws.proofs.Branches.{AllBranches, all-same, joined, joined3
 
 -- ---- the form
 
-push-form : (e : Expr) (f : Map) → treeForm e ≡ true → treeForm (push e f) ≡ true
+pub push-form : (e : Expr) (f : Map) → treeForm e ≡ true → treeForm (push e f) ≡ true
 unfolding treeForm push
 push-form (var v) f h = refl
 push-form (int c) f h = refl
@@ -37,10 +37,10 @@ push-form (kase es) f h = h
 push-form (restr d cs a) f h = h
 push-form (dep g a) f h = h
 
-abbrev HasForm : Branch → Type 0
+abbrev pub HasForm : Branch → Type 0
 HasForm b = treeForm (b .term) ≡ true
 
-form-rules : (dims : ℕ → ℕ) → Rules dims (λ e b. HasForm b) (λ es b. HasForm b)
+pub form-rules : (dims : ℕ → ℕ) → Rules dims (λ e b. HasForm b) (λ es b. HasForm b)
 unfolding treeForm
 form-rules dims = record {
   of-var = λ v. refl;
