@@ -19,3 +19,4 @@ pub mod Branches
 pub mod NormalChecks
 pub mod NormalType
 pub mod NormalReach
+pub mod NormalClear

@@ -58,7 +58,7 @@ mapC-id nothing = refl
 mapC-id (just e) = refl
 
 -- a branch holds at z
-abbrev branchHolds : Branch → Sheet → Point → Bool
+abbrev pub branchHolds : Branch → Sheet → Point → Bool
 branchHolds b s z = meetsAll (b .given) z && holds (b .term) s z
 
 abbrev chosen : List Branch → Sheet → Point → Choice
@@ -92,7 +92,7 @@ module _ (s : Sheet) where
         go true false = refl
         go false t = refl
 
-  restrict-holds : (cs : List Constraint) (b : Branch) (z : Point) → branchHolds (restrict cs b) s z ≡ meetsAll cs z && branchHolds b s z
+  pub restrict-holds : (cs : List Constraint) (b : Branch) (z : Point) → branchHolds (restrict cs b) s z ≡ meetsAll cs z && branchHolds b s z
   restrict-holds cs b z = rw (meetsAll-append cs (b .given) z) (and-assoc (meetsAll cs z) (meetsAll (b .given) z) (holds (b .term) s z))
 
   chosen-restrict : (cs : List Constraint) (bs : List Branch) (z : Point) → chosen (map (restrict cs) bs) s z ≡ when (meetsAll cs z) (chosen bs s z)
