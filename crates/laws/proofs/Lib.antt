@@ -20,3 +20,5 @@ pub mod NormalChecks
 pub mod NormalType
 pub mod NormalReach
 pub mod NormalClear
+pub mod Widths
+pub mod NormalAgain

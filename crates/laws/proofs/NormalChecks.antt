@@ -71,7 +71,7 @@ length-idRows (suc n) = ap suc (length-map (idRows n) wider ∙ length-idRows n)
 
 module _ (hs : List Head) where
   -- a map pushed into what fits its rows fits its columns
-  push-fits : (e : Expr) (f : Map) (n : ℕ) → eqb (f .cols) n ≡ true → fits e hs (length (f .rows)) ≡ true → fits (push e f) hs n ≡ true
+  pub push-fits : (e : Expr) (f : Map) (n : ℕ) → eqb (f .cols) n ≡ true → fits e hs (length (f .rows)) ≡ true → fits (push e f) hs n ≡ true
   unfolding fits push
   push-fits (var v) f n c h = &&-true c h
   push-fits (int v) f n c h = &&-true c h
@@ -91,13 +91,13 @@ module _ (hs : List Head) where
       &&-true c (rw (length-map (g .rows) (rowAfter f)) (&&-right (eqb (g .cols) (length (f .rows))) (fits a hs (length (g .rows))) h))
 
   -- a branch fits wherever the expression fits
-  abbrev FitsToo : Expr → Branch → Type 0
+  abbrev pub FitsToo : Expr → Branch → Type 0
   FitsToo e b = (n : ℕ) → fits e hs n ≡ true → fits (b .term) hs n ≡ true
 
-  abbrev AllFitToo : Exprs → Branch → Type 0
+  abbrev pub AllFitToo : Exprs → Branch → Type 0
   AllFitToo es b = (n : ℕ) → allFit es hs n ≡ true → fits (b .term) hs n ≡ true
 
-  fits-rules : Rules (dimension hs) FitsToo AllFitToo
+  pub fits-rules : Rules (dimension hs) FitsToo AllFitToo
   unfolding fits
   fits-rules = record {
     of-var = λ v n h. &&-true h (eq-eqb (dimension hs v) (length (idRows (dimension hs v))) (sym (length-idRows (dimension hs v))));
