@@ -22,3 +22,4 @@ pub mod NormalReach
 pub mod NormalClear
 pub mod Widths
 pub mod NormalAgain
+pub mod NormalSheet

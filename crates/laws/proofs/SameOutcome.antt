@@ -91,17 +91,17 @@ module _ {bs : List ℕ} {r : Raw} {s : Sheet} (a : Accepted bs r s) (ins : List
       ap (λ f. eval (bodyCase (length box) (norm (x .body) f)) s look z) ds
       ∙ normal-eval s (r .heads) (length box) (x .body) z fit look (a .covered v z lt i d)
 
-  domain-same : (v : ℕ) (z : Point) → inDomain (variable (normalSheet s) v) z ≡ inDomain (variable s v) z
+  pub domain-same : (v : ℕ) (z : Point) → inDomain (variable (normalSheet s) v) z ≡ inDomain (variable s v) z
   domain-same v z = ap (λ x. inDomain x z) (normal-variable s v)
 
-  input-same : (v : ℕ) → isInput (variable (normalSheet s) v) ≡ isInput (variable s v)
+  pub input-same : (v : ℕ) → isInput (variable (normalSheet s) v) ≡ isInput (variable s v)
   input-same v = ap isInput (normal-variable s v)
 
   entry-same : (v : ℕ) (z : Point) → entry (normalSheet s) ins v z ≡ entry s ins v z
   entry-same v z = rw (normal-variable s v, inputsBefore-normal s s v)
 
   -- a variable that is not an input is one of the sheet's
-  known : (v : ℕ) → isInput (variable s v) ≡ false → v < length s
+  pub known : (v : ℕ) → isInput (variable s v) ≡ false → v < length s
   known v i = go (decLt v (length s))
     where
       go : Dec (v < length s) → v < length s
