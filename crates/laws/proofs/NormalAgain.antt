@@ -1,25 +1,25 @@
 -- The normal form of a normal form is itself. Assumes only that the expression fits its dimension and its rows are as wide as they should be.
 use mathlib.Core.Path.{_≡_, refl, sym, ap, _∙_, subst}
-use Prim.Native.Nat.{ℕ, zero, suc, _+_}
+use Prim.Native.Nat.{ℕ, zero, suc}
 use native.Mathlib.Omega.{arith}
-use mathlib.Core.Bool.{Bool, true, false, _&&_}
+use mathlib.Core.Bool.{true, false, _&&_}
 use mathlib.Core.List.{List, [], _∷_, _++_, map, append-nil}
-use lib.ListN.{length, length-map}
-use lib.IntN.{ℤ, pos, _+ℤ_, _*ℤ_, +ℤ-idl, +ℤ-idr, zero-*ℤ}
+use lib.ListN.{length}
+use lib.IntN.{ℤ, pos, _+ℤ_, +ℤ-idl, +ℤ-idr, zero-*ℤ}
 use lib.Dec.{eqb}
 use borrow.Author.Tests.{eqb-true}
-use Rattle.alpha.specs.Sheet.{Row, Unary, Binary, Constraint, Map, Head, Expr, Exprs}
-use Rattle.alpha.specs.Sheet.{Expr.var, Expr.int, Expr.boo, Expr.un, Expr.bin, Expr.ite, Expr.kase, Expr.restr, Expr.dep, Exprs.none, Exprs.more}
+use Rattle.alpha.specs.Sheet.{Row, Constraint, Map, Head, Expr, Exprs}
+use Rattle.alpha.specs.Sheet.{Expr.var, Expr.int, Expr.boo, Expr.un, Expr.bin, Expr.ite, Expr.kase, Expr.restr, Expr.dep}
 use Rattle.alpha.specs.Affine.{scale, addAll, zeroes, combine, rowAfter, constraintAfter, mapAfter, wider, idRows, identity}
 use Rattle.alpha.specs.Read.{dimension}
 use Rattle.alpha.specs.Shape.{fits, allFit}
-use Rattle.alpha.specs.Normal.{Branch, push, pushBranch, restrict, under1, pairs, triples, norm, norms, asExprs, bodyCase}
+use Rattle.alpha.specs.Normal.{Branch, push, norm, norms, asExprs, bodyCase}
 use Rattle.laws.specs.Normal.{isLeaf, treeForm}
 use Rattle.laws.specs.Wide.{RowsWide, ConstraintsWide, Wide, AllWide}
-use Rattle.laws.proofs.Tests.{true-not-false, &&-left, &&-right, &&-true}
+use Rattle.laws.proofs.Tests.{true-not-false, &&-left, &&-right}
 use Rattle.laws.proofs.Composed.{one-*ℤ}
-use Rattle.laws.proofs.Branches.{AllBranches, all-same, joined, joined3, Rules, norm-all}
-use Rattle.laws.proofs.NormalChecks.{HasForm, push-form, push-fits, form-rules, fits-rules, FitsToo, AllFitToo}
+use Rattle.laws.proofs.Branches.{AllBranches, Rules, norm-all}
+use Rattle.laws.proofs.NormalChecks.{HasForm, form-rules, fits-rules, FitsToo, AllFitToo}
 
 -- ---- rows combined
 

@@ -1,23 +1,20 @@
--- A normal form has its form, and passes the checks that its expression passes: it fits the dimension and has the type. Assumes nothing.
-use mathlib.Core.Path.{_≡_, refl, sym, ap, _∙_, subst}
-use Prim.Native.Nat.{ℕ, zero, suc, _+_, _≤_, _<_}
-use native.Mathlib.Omega.{arith}
-use mathlib.Core.Bool.{Bool, true, false, _&&_}
-use mathlib.Core.List.{List, [], _∷_, _++_, map}
-use mathlib.Core.Option.{Option, Option.none, some}
-use lib.ListN.{length, getD, length-map}
-use lib.IntN.{ℤ}
+-- A normal form has its form, and fits the dimension that its expression fits. Assumes nothing.
+use mathlib.Core.Path.{_≡_, refl, sym, ap, _∙_}
+use Prim.Native.Nat.{ℕ, zero, suc}
+use mathlib.Core.Bool.{true, _&&_}
+use mathlib.Core.List.{List, [], _∷_}
+use lib.ListN.{length, length-map}
 use lib.Dec.{eqb}
-use borrow.Author.Tests.{eqb-true, eq-eqb}
-use Rattle.alpha.specs.Sheet.{Sort, Sort.integer, Sort.boolean, Unary, Binary, Row, Constraint, Map, Head, Expr, Exprs}
-use Rattle.alpha.specs.Sheet.{Expr.var, Expr.int, Expr.boo, Expr.un, Expr.bin, Expr.ite, Expr.kase, Expr.restr, Expr.dep, Exprs.none, Exprs.more}
-use Rattle.alpha.specs.Affine.{idRows, identity, wider, rowAfter, mapAfter}
+use borrow.Author.Tests.{eq-eqb}
+use Rattle.alpha.specs.Sheet.{Map, Head, Expr, Exprs}
+use Rattle.alpha.specs.Sheet.{Expr.var, Expr.int, Expr.boo, Expr.un, Expr.bin, Expr.ite, Expr.kase, Expr.restr, Expr.dep}
+use Rattle.alpha.specs.Affine.{idRows, wider, rowAfter}
 use Rattle.alpha.specs.Read.{dimension}
 use Rattle.alpha.specs.Shape.{fits, allFit}
-use Rattle.alpha.specs.Normal.{Branch, push, pushBranch, restrict, under1, norm, norms, asExprs, bodyCase}
-use Rattle.laws.specs.Normal.{isLeaf, treeForm, branchForms, bodyForm}
-use Rattle.laws.proofs.Tests.{true-not-false, &&-left, &&-right, &&-true}
-use Rattle.laws.proofs.Branches.{AllBranches, all-same, joined, joined3, Rules, norm-all}
+use Rattle.alpha.specs.Normal.{Branch, push, norm, asExprs, bodyCase}
+use Rattle.laws.specs.Normal.{treeForm, branchForms, bodyForm}
+use Rattle.laws.proofs.Tests.{&&-left, &&-right, &&-true}
+use Rattle.laws.proofs.Branches.{AllBranches, all-same, Rules, norm-all}
 
 -- ---- the form
 

@@ -1,8 +1,8 @@
 -- Where an expression holds and no case of it clashes, one branch of its normal form holds, and so no case of the normal form clashes.
 -- Assumes only that the expression fits the dimension of the point.
-use mathlib.Core.Path.{_≡_, refl, sym, ap, _∙_}
-use Prim.Native.Nat.{ℕ, zero, suc, _+_, _*_, _≤_}
-use native.Mathlib.Nat.{zero-mul, mul-zero, one-mul, mul-one, mul-assoc, mul-add, add-mul, zero-add, add-zero, add-assoc}
+use mathlib.Core.Path.{_≡_, refl, sym, _∙_}
+use Prim.Native.Nat.{ℕ, _+_, _*_, _≤_}
+use native.Mathlib.Nat.{zero-mul, mul-zero, one-mul, mul-assoc, mul-add, add-mul, zero-add, add-assoc}
 use native.Mathlib.Omega.{arith}
 use mathlib.Core.Bool.{Bool, true, false, _&&_, _||_, and-assoc}
 use mathlib.Core.List.{List, [], _∷_, _++_, map}
@@ -11,11 +11,11 @@ use lib.Dec.{eqb, eqb·zero-suc}
 use borrow.Author.Tests.{eqb-true}
 use Rattle.alpha.specs.Sheet.{Constraint, Map, Point, Sheet, Head, Expr, Exprs}
 use Rattle.alpha.specs.Sheet.{Expr.var, Expr.int, Expr.boo, Expr.un, Expr.bin, Expr.ite, Expr.kase, Expr.restr, Expr.dep, Exprs.none, Exprs.more}
-use Rattle.alpha.specs.Affine.{meetsAll, image, idRows, identity}
+use Rattle.alpha.specs.Affine.{meetsAll, image, idRows}
 use Rattle.alpha.specs.Read.{dimension}
 use Rattle.alpha.specs.Shape.{fits, allFit}
 use Rattle.alpha.specs.Holds.{variable, inDomain, holds, someHolds, twoHold, clashes, inBranches}
-use Rattle.alpha.specs.Normal.{Branch, push, pushBranch, restrict, under1, pairs, triples, norm, norms, asExprs, bodyCase}
+use Rattle.alpha.specs.Normal.{Branch, pushBranch, restrict, under1, pairs, triples, norm, norms, asExprs, bodyCase}
 use Rattle.laws.specs.Normal.{isLeaf, treeForm}
 use Rattle.laws.proofs.Tests.{true-not-false, &&-left, &&-right}
 use Rattle.laws.proofs.Composed.{image-id, length-image, meetsAll-after}

@@ -1,24 +1,23 @@
 -- A normal form keeps the limit of reach that its expression keeps: a row after a map reaches no further than the row reaches from the map's
 -- own reach. With the sizes of sums and products in ℤ. Assumes nothing.
-use mathlib.Core.Path.{_≡_, refl, sym, ap, _∙_, subst}
-use Prim.Native.Nat.{ℕ, zero, suc, _+_, _*_, _-_, _^_, max, _≤_, _<_}
-use native.Mathlib.Nat.{zero-add, zero-mul, mul-zero, mul-add, add-mul, mul-assoc, one-mul, mul-one, le-refl, le-trans, mul-le-mul-left, mul-le-mul-right}
+use mathlib.Core.Path.{_≡_, refl, sym}
+use Prim.Native.Nat.{ℕ, zero, suc, _+_, _*_, _-_, _≤_}
+use native.Mathlib.Nat.{zero-add, zero-mul, mul-zero, mul-add, add-mul, mul-assoc, mul-one, le-refl, mul-le-mul-left, mul-le-mul-right}
 use native.Mathlib.Omega.{arith}
 use mathlib.Core.Bool.{Bool, true, false, cond, _&&_}
 use mathlib.Core.List.{List, [], _∷_, _++_, map}
-use lib.ListN.{length}
 use lib.IntN.{ℤ, pos, negsuc, natAbs, negℤ, subℕ, _+ℤ_, _*ℤ_}
 use lib.Dec.{leb, ltb}
 use borrow.Author.Tests.{leb-true, le-leb, ltb-true, ltb-false}
-use Rattle.alpha.specs.Sheet.{Row, Unary, Binary, Constraint, Map, Expr, Exprs}
-use Rattle.alpha.specs.Sheet.{Expr.var, Expr.int, Expr.boo, Expr.un, Expr.bin, Expr.ite, Expr.kase, Expr.restr, Expr.dep, Exprs.none, Exprs.more}
-use Rattle.alpha.specs.Affine.{scale, addAll, zeroes, combine, rowAfter, constraintAfter, mapAfter, wider, idRows, identity}
+use Rattle.alpha.specs.Sheet.{Row, Constraint, Map, Expr}
+use Rattle.alpha.specs.Sheet.{Expr.var, Expr.int, Expr.boo, Expr.un, Expr.bin, Expr.ite, Expr.kase, Expr.restr, Expr.dep}
+use Rattle.alpha.specs.Affine.{scale, addAll, zeroes, combine, rowAfter, constraintAfter, wider, idRows, identity}
 use Rattle.alpha.specs.Reach.{limit, sizes, rowReach, mapReach, allReach, reach, reachAll}
-use Rattle.alpha.specs.Normal.{Branch, push, pushBranch, restrict, under1, norm, asExprs, bodyCase}
+use Rattle.alpha.specs.Normal.{Branch, push, pushBranch, norm, asExprs, bodyCase}
 use Rattle.laws.specs.Normal.{isLeaf, treeForm}
 use Rattle.laws.proofs.Tests.{true-not-false, &&-left, &&-right, &&-true}
-use Rattle.laws.proofs.Branches.{AllBranches, all-same, joined, joined3, Rules, norm-all}
-use Rattle.laws.proofs.NormalChecks.{HasForm, push-form, form-rules}
+use Rattle.laws.proofs.Branches.{AllBranches, all-same, joined, Rules, norm-all}
+use Rattle.laws.proofs.NormalChecks.{HasForm, push-form}
 
 -- ---- sizes
 

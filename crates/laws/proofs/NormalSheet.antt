@@ -1,29 +1,29 @@
 -- The sheet whose bodies are the normal forms of an accepted sheet's passes the checks that the sheet passes: dimension, type, reach, GAP and
 -- CLASH; its bodies have their form, and are their own normal forms. Assumes nothing.
-use mathlib.Core.Path.{_≡_, refl, sym, ap, _∙_, subst, fun-ext}
-use Prim.Native.Nat.{ℕ, zero, suc, _≤_, _<_}
+use mathlib.Core.Path.{_≡_, refl, ap, _∙_, fun-ext}
+use Prim.Native.Nat.{ℕ, _<_}
 use native.Mathlib.Omega.{arith}
-use mathlib.Core.Bool.{Bool, true, false, _&&_, _||_}
-use mathlib.Core.List.{List, [], _∷_, map}
+use mathlib.Core.Bool.{true, false, _||_}
+use mathlib.Core.List.{List, []}
 use mathlib.Core.Option.{Option, Option.none, some}
 use lib.ListN.{length}
-use Rattle.alpha.specs.Sheet.{Sort, Sort.integer, Sort.boolean, Constraint, Map, Raw, Head, Expr, Exprs, Variable, Sheet, Point}
+use Rattle.alpha.specs.Sheet.{Sort, Sort.integer, Sort.boolean, Raw, Expr, Exprs, Sheet, Point}
 use Rattle.alpha.specs.Sheet.{Expr.var, Expr.int, Expr.boo, Expr.un, Expr.bin, Expr.ite, Expr.kase, Expr.restr, Expr.dep, Exprs.none, Exprs.more}
 use Rattle.alpha.specs.Affine.{meetsAll, image}
 use Rattle.alpha.specs.Box.{inBox}
 use Rattle.alpha.specs.Read.{dimension}
 use Rattle.alpha.specs.Shape.{fits}
 use Rattle.alpha.specs.Typing.{typeOf, isSort}
-use Rattle.alpha.specs.Reach.{limit, topReach, allReach, reach}
+use Rattle.alpha.specs.Reach.{topReach, allReach, reach}
 use Rattle.alpha.specs.Holds.{variable, isInput, inDomain, holds, someHolds, twoHold, clashes, inBranches}
 use Rattle.alpha.specs.Check.{typed, reached}
 use Rattle.alpha.specs.Normal.{norm, bodyCase}
 use Rattle.alpha.specs.Normalise.{dims, normalBody}
 use Rattle.laws.specs.Accepted.{Accepted}
-use Rattle.laws.specs.Normal.{bodyForm, normalVariable, normalSheet}
+use Rattle.laws.specs.Normal.{bodyForm, normalSheet}
 use Rattle.laws.proofs.Tests.{true-not-false, &&-left, &&-right, &&-true}
 use Rattle.laws.proofs.Boxes.{inBox-length}
-use Rattle.laws.proofs.Checked.{BodyOf, accepted-body, accepted-dimension}
+use Rattle.laws.proofs.Checked.{accepted-body, accepted-dimension}
 use Rattle.laws.proofs.NormalForm.{normal-holds}
 use Rattle.laws.proofs.NormalChecks.{normal-form, normal-fits}
 use Rattle.laws.proofs.NormalType.{normal-type}

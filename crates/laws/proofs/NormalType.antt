@@ -1,14 +1,14 @@
 -- A normal form has the type that its expression has. Assumes nothing.
 use mathlib.Core.Path.{_≡_, refl, sym, ap, _∙_, subst}
-use Prim.Native.Nat.{ℕ, zero, suc}
+use Prim.Native.Nat.{ℕ}
 use mathlib.Core.List.{List, [], _∷_, _++_, map}
 use mathlib.Core.Option.{Option, Option.none, some}
-use Rattle.alpha.specs.Sheet.{Sort, Sort.integer, Sort.boolean, Unary, Binary, Constraint, Map, Head, Expr, Exprs}
+use Rattle.alpha.specs.Sheet.{Sort, Sort.integer, Sort.boolean, Unary, Binary, Map, Head, Expr, Exprs}
 use Rattle.alpha.specs.Sheet.{Expr.var, Expr.int, Expr.boo, Expr.un, Expr.bin, Expr.ite, Expr.kase, Expr.restr, Expr.dep, Exprs.none, Exprs.more}
 use Rattle.alpha.specs.Sheet.{Unary.negate, Unary.complement, Binary.plus, Binary.minus, Binary.times, Binary.quot, Binary.rem, Binary.least, Binary.most, Binary.same, Binary.differ, Binary.under, Binary.upTo, Binary.over, Binary.from, Binary.both, Binary.either, Binary.one}
-use Rattle.alpha.specs.Typing.{agree, giving, integers, booleans, unarySort, binarySort, ifSort, typeOf, typesOf, agreeing}
+use Rattle.alpha.specs.Typing.{agree, giving, integers, unarySort, binarySort, ifSort, typeOf, typesOf, agreeing}
 use Rattle.alpha.specs.Normal.{Branch, push, pushBranch, restrict, under1, pairs, triples, norm, norms, asExprs, bodyCase}
-use Rattle.laws.proofs.Branches.{AllBranches, all-same, joined, joined3, Rules, norm-all}
+use Rattle.laws.proofs.Branches.{AllBranches, all-same, Rules, norm-all}
 
 -- ---- types that are there
 

@@ -1,15 +1,15 @@
 -- A tree that stands in the bytes has rows as wide as they should be. Assumes nothing.
 use mathlib.Core.Path.{_≡_}
-use Prim.Native.Nat.{ℕ, zero, suc, _<_}
+use Prim.Native.Nat.{ℕ, suc, _<_}
 use native.Mathlib.Omega.{arith}
 use mathlib.Core.List.{List, [], _∷_}
 use lib.ListN.{length, getD}
 use lib.IntN.{pos}
-use Rattle.alpha.specs.Sheet.{Relation, Row, Constraint, Map, Expr, Exprs, Node.nRestr, Node.nDep}
+use Rattle.alpha.specs.Sheet.{Relation, Row, Constraint, Expr, Exprs, Node.nRestr, Node.nDep}
 use Rattle.alpha.specs.Sheet.{Expr.var, Expr.int, Expr.boo, Expr.un, Expr.bin, Expr.ite, Expr.kase, Expr.restr, Expr.dep, Exprs.none, Exprs.more}
-use Rattle.laws.specs.At.{Headed, Two, At, AllAt}
+use Rattle.laws.specs.At.{At, AllAt}
 use Rattle.laws.specs.Wide.{RowsWide, ConstraintsWide, Wide, AllWide}
-use Rattle.laws.proofs.Nodes.{Restricts, Depends, NodeAt, node-at, restr-constraint, dep-row}
+use Rattle.laws.proofs.Nodes.{node-at, restr-constraint, dep-row}
 
 rows-by-item : (n : ℕ) (ws : List Row) (d : Row) → ((i : ℕ) → i < length ws → length (getD ws i d .coefs) ≡ n) → RowsWide n ws
 rows-by-item n [] d h = tt

@@ -1,7 +1,7 @@
 -- The form of a normal form, and the sheet whose bodies are the normal forms. Assumes nothing.
 use mathlib.Core.Bool.{Bool, true, false, _&&_}
-use mathlib.Core.List.{List, map}
-use Rattle.alpha.specs.Sheet.{Constraint, Map, Expr, Exprs, Variable, Sheet}
+use mathlib.Core.List.{map}
+use Rattle.alpha.specs.Sheet.{Expr, Exprs, Variable, Sheet}
 use Rattle.alpha.specs.Sheet.{Expr.var, Expr.int, Expr.boo, Expr.un, Expr.bin, Expr.ite, Expr.kase, Expr.restr, Expr.dep, Exprs.none, Exprs.more}
 use Rattle.alpha.specs.Normalise.{normalBody}
 

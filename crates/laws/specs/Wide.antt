@@ -3,7 +3,7 @@ use mathlib.Core.Path.{_≡_}
 use Prim.Native.Nat.{ℕ}
 use mathlib.Core.List.{List, [], _∷_}
 use lib.ListN.{length}
-use Rattle.alpha.specs.Sheet.{Row, Constraint, Map, Expr, Exprs}
+use Rattle.alpha.specs.Sheet.{Row, Constraint, Expr, Exprs}
 use Rattle.alpha.specs.Sheet.{Expr.var, Expr.int, Expr.boo, Expr.un, Expr.bin, Expr.ite, Expr.kase, Expr.restr, Expr.dep, Exprs.none, Exprs.more}
 
 -- each row has n coefficients
