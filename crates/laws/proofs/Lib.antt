@@ -11,3 +11,15 @@ pub mod Elements
 pub mod Growth
 pub mod Composed
 pub mod NormalForm
+pub mod Heads
+pub mod Bodies
+pub mod Checked
+pub mod SameOutcome
+pub mod Branches
+pub mod NormalChecks
+pub mod NormalType
+pub mod NormalReach
+pub mod NormalClear
+pub mod Widths
+pub mod NormalAgain
+pub mod NormalSheet

@@ -1,10 +1,10 @@
 -- The normal form means what the expression means: it holds at the same points, and where it holds it has the same outcome. Assumes
 -- only that the expression fits the dimension of the point.
 use mathlib.Core.Path.{_≡_, refl, sym, ap, _∙_}
-use Prim.Native.Nat.{ℕ, zero, suc}
+use Prim.Native.Nat.{ℕ}
 use mathlib.Core.Bool.{Bool, true, false, _&&_, _||_, and-assoc}
 use mathlib.Core.List.{List, [], _∷_, _++_, map}
-use lib.ListN.{length, getD}
+use lib.ListN.{length}
 use lib.Dec.{eqb, eqb·zero-suc}
 use borrow.Author.Tests.{eqb-true}
 use Rattle.alpha.specs.Pick.{ifb}
@@ -14,7 +14,7 @@ use Rattle.alpha.specs.Affine.{meets, meetsAll, image, idRows, identity}
 use Rattle.alpha.specs.Read.{dimension}
 use Rattle.alpha.specs.Shape.{fits, allFit}
 use Rattle.alpha.specs.Holds.{variable, inDomain, holds, someHolds}
-use Rattle.alpha.specs.Outcome.{Outcome, outside, andThen, eval, evalFirst}
+use Rattle.alpha.specs.Outcome.{Outcome, outside, eval, evalFirst}
 use Rattle.alpha.specs.Normal.{Branch, push, pushBranch, restrict, under1, pairs, triples, norm, norms, asExprs, bodyCase}
 use Rattle.laws.proofs.Tests.{&&-left, &&-right, true-not-false}
 use Rattle.laws.proofs.Composed.{image-after, meetsAll-after, image-id, length-image}
@@ -58,7 +58,7 @@ mapC-id nothing = refl
 mapC-id (just e) = refl
 
 -- a branch holds at z
-abbrev branchHolds : Branch → Sheet → Point → Bool
+abbrev pub branchHolds : Branch → Sheet → Point → Bool
 branchHolds b s z = meetsAll (b .given) z && holds (b .term) s z
 
 abbrev chosen : List Branch → Sheet → Point → Choice
@@ -92,7 +92,7 @@ module _ (s : Sheet) where
         go true false = refl
         go false t = refl
 
-  restrict-holds : (cs : List Constraint) (b : Branch) (z : Point) → branchHolds (restrict cs b) s z ≡ meetsAll cs z && branchHolds b s z
+  pub restrict-holds : (cs : List Constraint) (b : Branch) (z : Point) → branchHolds (restrict cs b) s z ≡ meetsAll cs z && branchHolds b s z
   restrict-holds cs b z = rw (meetsAll-append cs (b .given) z) (and-assoc (meetsAll cs z) (meetsAll (b .given) z) (holds (b .term) s z))
 
   chosen-restrict : (cs : List Constraint) (bs : List Branch) (z : Point) → chosen (map (restrict cs) bs) s z ≡ when (meetsAll cs z) (chosen bs s z)
@@ -195,7 +195,8 @@ module _ (s : Sheet) where
     Agrees z h o (just t) = (h ≡ true) × (o ≡ eval t s look z)
 
     -- one branch with no constraints, whose tree has the expression's test and outcome
-    leaf : (e t : Expr) (z : Point) → holds t s z ≡ holds e s z → eval t s look z ≡ eval e s look z → Agrees z (holds e s z) (eval e s look z) (chooseIf (holds t s z) t nothing)
+    leaf : (e t : Expr) (z : Point) → holds t s z ≡ holds e s z → eval t s look z ≡ eval e s look z →
+        Agrees z (holds e s z) (eval e s look z) (chooseIf (holds t s z) t nothing)
     leaf e t z p q = go (holds t s z) p
       where
         go : (b : Bool) → b ≡ holds e s z → Agrees z (holds e s z) (eval e s look z) (chooseIf b t nothing)
@@ -219,7 +220,8 @@ module _ (s : Sheet) where
       bin-agrees o a b (just x) nothing h g = rw (h .0, g) refl
       bin-agrees o a b (just x) (just y) h g = (rw (h .0, g .0) refl, rw (h .1, g .1) refl)
 
-      ite-agrees : (a b e : Expr) (c d f : Choice) → Agrees z (holds a s z) (eval a s look z) c → Agrees z (holds b s z) (eval b s look z) d → Agrees z (holds e s z) (eval e s look z) f →
+      ite-agrees : (a b e : Expr) (c d f : Choice) → Agrees z (holds a s z) (eval a s look z) c →
+          Agrees z (holds b s z) (eval b s look z) d → Agrees z (holds e s z) (eval e s look z) f →
           Agrees z (holds a s z && holds b s z && holds e s z) (eval (ite a b e) s look z) (allThree ite c d f)
       unfolding eval
       ite-agrees a b e nothing d f h g k = rw h refl
@@ -298,7 +300,8 @@ module _ (s : Sheet) where
     body-agrees n (b ∷ bs) z = go (branchHolds b s z) (body-agrees n bs z)
       where
         go : (t : Bool) → Agrees z (someHolds (asExprs n bs) s z) (evalFirst (asExprs n bs) s look z) (chosen bs s z) →
-            Agrees z (t || someHolds (asExprs n bs) s z) (ifb t (λ _. eval (b .term) s look z) (λ _. evalFirst (asExprs n bs) s look z)) (chooseIf t (b .term) (chosen bs s z))
+            Agrees z (t || someHolds (asExprs n bs) s z) (ifb t (λ _. eval (b .term) s look z) (λ _. evalFirst (asExprs n bs) s look z))
+            (chooseIf t (b .term) (chosen bs s z))
         go true h = (refl, refl)
         go false h = h
 

@@ -1,7 +1,7 @@
 -- What a reader has read, if it gave a value: a field, a count, a choice, a number, and the same reader several times. Each law says
 -- what holds of the value, and which the next place is; `given` takes that out of an equation. Assumes nothing.
-use mathlib.Core.Path.{_≡_, refl, sym, ap, _∙_, subst}
-use Prim.Native.Nat.{ℕ, zero, suc, _+_, _*_, _-_, _^_, _≤_, _<_}
+use mathlib.Core.Path.{_≡_, refl, sym, ap, subst}
+use Prim.Native.Nat.{ℕ, zero, suc, _+_, _*_, _^_, _≤_, _<_}
 use native.Mathlib.Nat.{suc-mul, zero-mul}
 use native.Mathlib.Omega.{arith}
 use mathlib.Core.Bool.{Bool, true, false}
@@ -68,7 +68,8 @@ pub record Counted (lo hi : ℕ) (bs : List ℕ) (p : ℕ) (n : ℕ) : Type 0 wh
 pub counted-is : {lo hi : ℕ} {bs : List ℕ} {p n : ℕ} → Counted lo hi bs p n → n ≡ natAbs (field bs p)
 counted-is c = sym (ap natAbs (c .field-is))
 
-counted : (code lo hi : ℕ) (bs : List ℕ) (p : ℕ) → Gives (Counted lo hi bs p) (p + 8) (after (passing code (within (pos lo) (pos hi)) bs p) (λ x q. got (natAbs x) q))
+counted : (code lo hi : ℕ) (bs : List ℕ) (p : ℕ) →
+    Gives (Counted lo hi bs p) (p + 8) (after (passing code (within (pos lo) (pos hi)) bs p) (λ x q. got (natAbs x) q))
 counted code lo hi bs p =
     then-gives (Passed (within (pos lo) (pos hi)) bs p) (p + 8) (Counted lo hi bs p) (p + 8) (passing code (within (pos lo) (pos hi)) bs p) (λ x q. got (natAbs x) q)
     (passing-gives code (within (pos lo) (pos hi)) bs p) (λ x e h.
