@@ -1,0 +1,13 @@
+// Reading a sheet's fields in order. Assumes nothing.
+use alpha::Refusal;
+
+mod constraint;
+mod field;
+mod name;
+mod node;
+
+// How far reading came: the next place, or the refusal.
+pub enum Pass {
+    To(usize),
+    Refused(Refusal),
+}
