@@ -128,11 +128,11 @@ module _ (f : Map) (w : Row) (n : Neat f) (rest : Padded (f .height) (w .coef)) 
 
 -- ---- a map after a map
 
-map-same : {h : ℕ} {rs qs : List Sheet.Row} → rs ≡ qs → _≡_ {A = Sheet.Map} (record { cols = h; rows = rs }) (record { cols = h; rows = qs })
+pub map-same : {h : ℕ} {rs qs : List Sheet.Row} → rs ≡ qs → _≡_ {A = Sheet.Map} (record { cols = h; rows = rs }) (record { cols = h; rows = qs })
 map-same e = rw e
 
 -- a row past the four is 0
-past-line : (a b c d : Row) (h k i : ℕ) → 4 ≤ i → ZeroRow (line (record { rows = a ∷ b ∷ c ∷ d ∷ []; height = h; width = k }) i)
+pub past-line : (a b c d : Row) (h k i : ℕ) → 4 ≤ i → ZeroRow (line (record { rows = a ∷ b ∷ c ∷ d ∷ []; height = h; width = k }) i)
 past-line a b c d h k i l =
     rw (past-four a b c d (record { coef = []; constant = record { v = pos 0 } }) i l) (record { coefs = λ j q. refl; const = refl })
 
