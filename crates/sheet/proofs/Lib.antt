@@ -3,3 +3,6 @@ pub mod Places
 pub mod Names
 pub mod Readers
 pub mod Heads
+pub mod Boxes
+pub mod Variables
+pub mod Sections

@@ -3,6 +3,7 @@ use mathlib.Core.Path.{_≡_, refl, sym, ap, _∙_}
 use mathlib.Core.Bool.{Bool, true, false}
 use mathlib.Core.List.{List, [], _∷_}
 use Prim.Native.Nat.{ℕ, zero, suc, _+_, _-_, _≤_, _<_}
+use native.Mathlib.Omega.{arith}
 use lib.ListN.{length, getD}
 use lib.IntN.{ℤ, pos, negℤ, natAbs}
 use Rattle.alpha.specs.Answer.{Answer, accepted, refused, next, COUNT, NUMBER}
@@ -47,18 +48,32 @@ module _ {m : Answer ℕ} (r : Pass) (says : passed r ≡ m) where
   pub stops : (j : ℕ → Answer ℕ) (e : Refusal) → r ≡ Refused e → next m j ≡ passed r
   stops j e v = ap (λ (a : Answer ℕ). next a j) (sym says ∙ ap passed v) ∙ sym (ap passed v)
 
+-- a sequence that came to a place came to one after its first part
+pub next-accepted : (m : Answer ℕ) (j : ℕ → Answer ℕ) {q : ℕ} → next m j ≡ accepted q → (t : ℕ) × (m ≡ accepted t) × (j t ≡ accepted q)
+next-accepted (accepted t) j e = (t, refl, e)
+next-accepted (refused n p) j e = absurd (let z : _≡_ {A = ℕ} 0 1 = cc in omega arith)
+
 -- ---- the readers
+
+-- where a record comes to from its ranges, dimension, type and kind on
+abbrev pub boxPlace : List ℕ → ℕ → ℕ → Answer ℕ
+boxPlace bs p q = placeAfter (repeat (natAbs (field bs p)) range bs q)
+
+abbrev pub dimensionPlace : List ℕ → ℕ → Answer ℕ
+dimensionPlace bs p = next (placeAfter (count 0 4 bs p)) (boxPlace bs p)
+
+abbrev pub sortPlace : List ℕ → ℕ → Answer ℕ
+sortPlace bs p = next (placeAfter (choice 1 bs p)) (dimensionPlace bs)
+
+abbrev pub kindPlace : List ℕ → ℕ → Answer ℕ
+kindPlace bs p = next (placeAfter (choice 2 bs p)) (sortPlace bs)
 
 module _ (bs : List ℕ) (p : ℕ) where
   pub range-place : placeAfter (range bs p) ≡ next (placeAfter (number (negℤ (pos 32768)) (pos 32767) bs p)) (λ q. placeAfter (number (field bs p) (pos 32767) bs q))
   unfolding range
   range-place = number-next bs p (negℤ (pos 32768)) (pos 32767) _ _ (λ q. pure-after (number (field bs p) (pos 32767) bs q) (λ hi. record { lo = field bs p; hi = hi }))
 
-  pub head-place : (earlier : List Head) → placeAfter (headRecord earlier bs p) ≡
-      next (placeAfter (nameField earlier bs p)) (λ q.
-      next (placeAfter (choice 2 bs q)) (λ t.
-      next (placeAfter (choice 1 bs t)) (λ u.
-      next (placeAfter (count 0 4 bs u)) (λ v. placeAfter (repeat (natAbs (field bs u)) range bs v)))))
+  pub head-place : (earlier : List Head) → placeAfter (headRecord earlier bs p) ≡ next (placeAfter (nameField earlier bs p)) (kindPlace bs)
   unfolding headRecord
   head-place earlier =
       any-next (nameField earlier bs p) _ _ (λ name q.

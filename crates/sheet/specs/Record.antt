@@ -44,13 +44,13 @@ pub record Ranges (bs : List ℕ) (p n : ℕ) : Type 0 where
   pub low : (i : ℕ) → i < n → within (negℤ (pos 32768)) (pos 32767) (field bs (p + 16 * i)) ≡ true
   pub high : (i : ℕ) → i < n → within (field bs (p + 16 * i)) (pos 32767) (field bs (p + 16 * i + 8)) ≡ true
 
--- r is how many numbers the range at p has, which are at most 65,536
+-- r is how many numbers the range at p has, and small
 pub record Side (bs : List ℕ) (p r : ℕ) : Type 0 where
   pub is : r ≡ side (record { lo = field bs p; hi = field bs (p + 8) })
   pub small : r ≤ 65537
 
 -- a number of points, and 4,097 for any over 4,096
-abbrev pub capped : ℕ → ℕ
+unfoldable pub capped : ℕ → ℕ
 capped n = ifb (leb n 4096) (λ _. n) (λ _. 4097)
 
 -- a record stands at p: its fields are there, its dimension is at most 4, and its ranges are as they must be
