@@ -61,7 +61,7 @@ ranges-head bs p n h =
     record {
       there = omega (arith, h .there);
       low = λ i l. h .low i (omega arith);
-      high = λ i l. h .high i (omega arith)
+      high = λ i l. h .high i (omega arith);
     }
 
 pub ranges-tail : (bs : List ℕ) (p n : ℕ) → Ranges bs p (suc n) → Ranges bs (p + 16) n
@@ -69,7 +69,7 @@ ranges-tail bs p n h =
     record {
       there = omega (arith, h .there);
       low = λ i l. rw (next i) at (h .low (suc i) (omega arith));
-      high = λ i l. rw (next i) at (h .high (suc i) (omega arith))
+      high = λ i l. rw (next i) at (h .high (suc i) (omega arith));
     }
   where
     next : (i : ℕ) → p + 16 * suc i ≡ p + 16 + 16 * i
@@ -149,7 +149,7 @@ module _ {bs : List ℕ} {asked : Found} {z : List Int} {p k e : ℕ} where
         number = sym (step-in bs p k e z n i d) ∙ h .number;
         low = omega (arith, mul-le-mul-right rest i-low, mul-assoc (e + 1) w rest, h .low);
         ranges = ranges-tail bs p n (h .ranges);
-        few = omega (arith, h .few)
+        few = omega (arith, h .few);
       }
 
   pub kept-more : (n i : ℕ) → 0 < n → Kept bs asked z p k e n → digitIn (rangeAt bs p) (at z k) ≡ At i →

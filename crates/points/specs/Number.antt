@@ -1,13 +1,14 @@
 -- The number of a point in a box, or that it is not in the box; and what the code's answer says of that. Assumes nothing.
 use Prim.Native.Nat.{ℕ, _+_, _*_}
+use mathlib.Core.Path.{_≡_}
 use mathlib.Core.List.{List}
 use lib.IntN.{ℤ, natAbs, _-ℤ_}
 use Rattle.alpha.specs.Pick.{ifb}
 use Rattle.alpha.specs.Field.{field}
 use Rattle.alpha.specs.Sheet.{Range, Point}
-use Rattle.alpha.specs.Box.{within, size, inBox, index}
+use Rattle.alpha.specs.Box.{within, size, inBox, index, pointAt}
 use Rattle.alpha.specs.declared.Int.{Int}
-use Rattle.affine.specs.Value.{several, at}
+use Rattle.affine.specs.Value.{several, at, pointOf, Padded}
 use Rattle.sheet.specs.Record.{boxAt, dimensionAt}
 use Rattle.points.specs.declared.Found.{Found}
 use Rattle.points.specs.declared.Found.the-variants.{At, Off}
@@ -34,3 +35,8 @@ numberIn box z = ifb (inBox box z) (λ _. At (index box z)) (λ _. Off)
 -- n coordinates from the k-th on
 abbrev pub pointFrom : ℕ → ℕ → List Int → Point
 pointFrom k n z = several n (λ i. at z (k + i))
+
+-- z is the point with the number i in the box of the record at p, with zeros beyond
+pub record PointAt (bs : List ℕ) (p i : ℕ) (z : List Int) : Type 0 where
+  pub is : pointOf (dimensionAt bs p) z ≡ pointAt (boxOf bs p) i
+  pub rest : Padded (dimensionAt bs p) z

@@ -4,12 +4,12 @@ use alpha::Int;
 ghost use mathlib.Core.Path.{_≡_};
 ghost use Prim.Native.Nat.{ℕ, _+_, _*_, _≤_, _<_};
 ghost use lib.ListN.{length};
-ghost use lib.IntN.{ℤ, natAbs, _-ℤ_};
-ghost use Rattle.alpha.specs.Box.{side, size, pointAt};
+ghost use lib.IntN.{ℤ, pos, natAbs, _+ℤ_, _-ℤ_};
+ghost use Rattle.alpha.specs.Box.{side, size};
 ghost use Rattle.alpha.specs.Field.{field};
-ghost use Rattle.affine.specs.Value.{pointOf, Padded};
+ghost use Rattle.affine.specs.Value.{pointOf};
 ghost use Rattle.sheet.specs.Record.{dimensionAt, Recorded, Ranges};
-ghost use Rattle.points.specs.Number.{rangeAt, boxOf, digitIn, numberIn};
+ghost use Rattle.points.specs.Number.{rangeAt, boxOf, digitIn, numberIn, PointAt};
 
 // The number of a point in a box, or that it is not in the box.
 pub enum Found {
@@ -77,4 +77,34 @@ pub fn index(s: &[u8], place: usize, z: [Int; 4]) -> Found
         left -= 1;
     }
     Found::At(e)
+}
+
+// The number that lies n above the least of the range at p.
+fn nth(s: &[u8], p: usize, n: usize) -> Int
+    requires { ⌜ Ranges (now s) p 1 × (n ≤ 4096) ⌝ }
+    ensures { λ x. ⌜ x .v ≡ field (now (s .entry)) p +ℤ pos n ⌝ }
+{
+    integer::add(integer::number_at(s, p), integer::of_usize(n))
+}
+
+// The point with the number i in the box of the record at `place`, which has `points` points.
+pub fn point(s: &[u8], place: usize, points: usize, i: usize) -> [Int; 4]
+    requires { ⌜ Recorded (now s) place × (points ≡ size (boxOf (now s) place)) × (points ≤ 4096) × (i < points) ⌝ }
+    ensures { λ z. ⌜ PointAt (now (s .entry)) place i z ⌝ }
+{
+    let mut z = [integer::of(0); 4];
+    let mut left = dimension(s, place);
+    let mut p = place + 32;
+    let mut k: usize = 0;
+    let mut rest = points;
+    let mut j = i;
+    while left > 0 {
+        rest = rest / width(s, p);
+        z[k] = nth(s, p, j / rest);
+        j = j % rest;
+        p += 16;
+        k += 1;
+        left -= 1;
+    }
+    z
 }

@@ -38,9 +38,10 @@ above-requires c κs =
     let hi = c .before .before .number-at2 .ensures in
     let lo = c .before .before .before .number-at .ensures in
     let isIn : within (field (start .args .s .now) (start .args .p)) (field (start .args .s .now) (start .args .p + 8)) (start .args .x .v) ≡ true =
-        rw (← hi, ← lo) (sym (c .before .within .ensures) ∙ c .if1 .taken) in
-    (within-small (start .args .s .now) (start .args .p) (start .pre) (start .args .x .v) isIn,
-    rw lo (low-small (start .args .s .now) (start .args .p) (start .pre)))
+    rw (← hi, ← lo) (sym (c .before .within .ensures) ∙ c .if1 .taken) in (
+      within-small (start .args .s .now) (start .args .p) (start .pre) (start .args .x .v) isIn,
+      rw lo (low-small (start .args .s .now) (start .args .p) (start .pre)),
+    )
 
 returns : tie.Need-returns
 returns c =

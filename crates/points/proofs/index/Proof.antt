@@ -42,7 +42,7 @@ loop-holds c =
       number = rw n (numberFrom-none (boxOf bs place) (pointFrom 0 (dimensionAt bs place) (start .args .t3)) ∙ ap (numberIn (boxOf bs place)) (pointFrom-zero (dimensionAt bs place) (start .args .t3)));
       low = rw n (omega (arith, start .pre .1));
       ranges = rw n (start .pre .0 .ranges);
-      few = omega (arith, n, start .pre .0 .small)
+      few = omega (arith, n, start .pre .0 .small);
     }
 
 -- src/lib.rt:70:29
