@@ -23,3 +23,4 @@ pub mod NormalClear
 pub mod Widths
 pub mod NormalAgain
 pub mod NormalSheet
+pub mod Written
