@@ -24,3 +24,6 @@ pub mod Widths
 pub mod NormalAgain
 pub mod NormalSheet
 pub mod Written
+pub mod NormalWritable
+pub mod Local
+pub mod Prefix

@@ -1,0 +1,1 @@
+-- A tree's nodes in prefix order stand one after another where the tree stands. Assumes nothing.
