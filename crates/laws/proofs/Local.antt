@@ -3,16 +3,18 @@ use mathlib.Core.Path.{_≡_, refl, sym, ap, _∙_, subst}
 use Prim.Native.Nat.{ℕ, zero, suc, _+_, _-_, _≤_, _<_}
 use native.Mathlib.Nat.{le-refl}
 use native.Mathlib.Omega.{arith}
-use mathlib.Core.Bool.{Bool, true, false, not, _&&_}
+use mathlib.Core.Bool.{Bool, true, not, _&&_}
 use mathlib.Core.List.{List, [], _∷_}
 use lib.ListN.{length, getD}
 use lib.IntN.{ℤ, pos, negℤ, natAbs}
 use borrow.Author.Tests.{le-leb}
 use Rattle.alpha.specs.Answer.{COUNT, NUMBER}
-use Rattle.alpha.specs.Field.{byte, wordAt, signedOf, field, eight}
-use Rattle.alpha.specs.Sheet.{Range, Head, Constraint, Row, Declared, Node}
+use Rattle.alpha.specs.Field.{wordAt, signedOf, field, eight, nameForm}
+use Rattle.alpha.specs.Sheet.{Range, Head, Row, Constraint, Declared}
 use Rattle.alpha.specs.Box.{within}
-use Rattle.alpha.specs.Read.{Got, got, bad, Reader, after, _>>=_, pure, repeat, here, passing, count, number, choice, free, range, rowOf, constraint, declared, dimension}
+use Rattle.alpha.specs.Read.{Got, got, bad, Reader, after, _>>=_, pure, repeat, here, passing, count, number, choice, free, taken, nameField, kindOf, sortOf, range, headRecord, relationOf, rowOf, constraint, declared, dimension}
+use Rattle.laws.proofs.Tests.{&&-true}
+use Rattle.laws.proofs.Heads.{NameAt, nameField-gives}
 use Rattle.laws.proofs.Readers.{given, Passed, passing-gives}
 
 -- the bytes agree below q, and reach there
@@ -76,3 +78,85 @@ module _ (bs cs : List ℕ) where
             again = λ h. rw (s .again (agree-less o (t .onward) h)) (t .again h);
           }
       go (bad n o) u v = let z : _≡_ {A = ℕ} 0 1 = cc in absurd (omega arith)
+
+  pub local-repeat : {A : Type 0} (n : ℕ) (r : Reader A) → Local r bs cs → Local (repeat n r) bs cs
+  local-repeat zero r f p l q e = let y : p ≡ q = cc in record { onward = omega arith; again = λ _. e }
+  local-repeat (suc n) r f p l q e =
+      local-then r (λ a. repeat n r >>= λ k. pure (a ∷ k)) f (λ a. local-then (repeat n r) (λ k. pure (a ∷ k)) (local-repeat n r f) (λ k. local-pure (a ∷ k))) p l q e
+
+  pub local-here : Local here bs cs
+  local-here p a q e = let y : p ≡ q = cc in record { onward = omega arith; again = λ _. e }
+
+  pub local-count : (lo hi : ℕ) → Local (count lo hi) bs cs
+  local-count lo hi = local-then (passing COUNT (within (pos lo) (pos hi))) (λ x. pure (natAbs x)) (local-passing COUNT (within (pos lo) (pos hi))) (λ x. local-pure (natAbs x))
+
+  pub local-choice : (hi : ℕ) → Local (choice hi) bs cs
+  local-choice hi = local-then (number (pos 0) (pos hi)) (λ x. pure (natAbs x)) (local-passing NUMBER (within (pos 0) (pos hi))) (λ x. local-pure (natAbs x))
+
+  pub local-free : Local free bs cs
+  local-free = local-passing NUMBER _
+
+  pub local-range : Local range bs cs
+  unfolding range
+  local-range =
+      local-then (number (negℤ (pos 32768)) (pos 32767)) _ (local-passing NUMBER _) (λ lo.
+      local-then (number lo (pos 32767)) _ (local-passing NUMBER _) (λ hi. local-pure (record { lo = lo; hi = hi })))
+
+  pub local-row : (n : ℕ) → Local (rowOf n) bs cs
+  unfolding rowOf
+  local-row n = local-then (repeat n free) _ (local-repeat n free local-free) (λ cs′. local-then free _ local-free (λ c. local-pure (record { coefs = cs′; const = c })))
+
+  pub local-constraint : (n : ℕ) → Local (constraint n) bs cs
+  unfolding constraint
+  local-constraint n = local-then (choice 1) _ (local-choice 1) (λ k. local-then (rowOf n) _ (local-row n) (λ w. local-pure (record { rel = relationOf k; row = w })))
+
+  pub local-declared : (hs : List Head) → Local (declared hs) bs cs
+  unfolding declared
+  local-declared hs =
+      local-then (choice (length hs - 1)) _ (local-choice (length hs - 1)) (λ v.
+      local-then (constraint (dimension hs v)) _ (local-constraint (dimension hs v)) (λ c. local-pure (record { who = v; what = c })))
+
+  eight-agree : (p : ℕ) → Agree bs cs (p + 8) → eight cs p ≡ eight bs p
+  eight-agree p h =
+      rw (
+        h .same p (omega arith),
+        h .same (p + 1) (omega arith),
+        h .same (p + 2) (omega arith),
+        h .same (p + 3) (omega arith),
+        h .same (p + 4) (omega arith),
+        h .same (p + 5) (omega arith),
+        h .same (p + 6) (omega arith),
+        h .same (p + 7) (omega arith),
+      )
+
+  -- a name that is well formed and new is read
+  name-got : (earlier : List Head) (ds : List ℕ) (p : ℕ) → p + 8 ≤ length ds → nameForm (eight ds p) && not (taken (eight ds p) earlier) ≡ true →
+      nameField earlier ds p ≡ got (eight ds p) (p + 8)
+  unfolding nameField
+  name-got earlier ds p t h = rw (le-leb (p + 8) (length ds) t, h)
+
+  pub local-name : (earlier : List Head) → Local (nameField earlier) bs cs
+  local-name earlier p x q e =
+      let g = given (NameAt earlier bs p) (p + 8) (nameField-gives earlier bs p) e in
+      let k = g .what in
+      let fine : nameForm (eight bs p) && not (taken (eight bs p) earlier) ≡ true = &&-true (k .formed) (ap not (k .new)) in
+      record {
+        onward = omega (arith, g .next);
+        again = λ h.
+            let h₈ : Agree bs cs (p + 8) = rw (g .next) at h in
+            let same = eight-agree p h₈ in
+            name-got earlier cs p (h₈ .there) (subst (λ l. nameForm l && not (taken l earlier) ≡ true) (sym same) fine)
+            ∙ ap (λ l. got l (p + 8)) (same ∙ sym (k .is))
+            ∙ ap (got x) (sym (g .next));
+      }
+
+  pub local-head : (earlier : List Head) → Local (headRecord earlier) bs cs
+  unfolding headRecord
+  local-head earlier =
+      local-then here _ local-here (λ p.
+      local-then (nameField earlier) _ (local-name earlier) (λ name.
+      local-then (choice 2) _ (local-choice 2) (λ kind.
+      local-then (choice 1) _ (local-choice 1) (λ sort.
+      local-then (count 0 4) _ (local-count 0 4) (λ n.
+      local-then (repeat n range) _ (local-repeat n range local-range) (λ box.
+      local-pure (record { name = name; kind = kindOf kind; sort = sortOf sort; box = box; place = p })))))))
