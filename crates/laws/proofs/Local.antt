@@ -3,16 +3,19 @@ use mathlib.Core.Path.{_≡_, refl, sym, ap, _∙_, subst}
 use Prim.Native.Nat.{ℕ, zero, suc, _+_, _-_, _≤_, _<_}
 use native.Mathlib.Nat.{le-refl}
 use native.Mathlib.Omega.{arith}
-use mathlib.Core.Bool.{Bool, true, not, _&&_}
-use mathlib.Core.List.{List, [], _∷_}
-use lib.ListN.{length, getD}
+use mathlib.Core.Bool.{Bool, true, false, not, _&&_}
+use mathlib.Core.List.{List, [], _∷_, _++_}
+use lib.ListN.{length, getD, take, length-append, List·getD-append}
+use lib.Seq.{length-take-le, getD-take}
 use lib.IntN.{ℤ, pos, negℤ, natAbs}
+use lib.Dec.{leb}
 use borrow.Author.Tests.{le-leb}
+use Rattle.alpha.specs.Pick.{ifb}
 use Rattle.alpha.specs.Answer.{COUNT, NUMBER}
 use Rattle.alpha.specs.Field.{wordAt, signedOf, field, eight, nameForm}
 use Rattle.alpha.specs.Sheet.{Range, Head, Row, Constraint, Declared}
-use Rattle.alpha.specs.Box.{within}
-use Rattle.alpha.specs.Read.{Got, got, bad, Reader, after, _>>=_, pure, repeat, here, passing, count, number, choice, free, taken, nameField, kindOf, sortOf, range, headRecord, relationOf, rowOf, constraint, declared, dimension}
+use Rattle.alpha.specs.Box.{within, size}
+use Rattle.alpha.specs.Read.{Got, got, bad, Reader, after, _>>=_, pure, repeat, here, passing, count, number, choice, free, taken, nameField, kindOf, sortOf, range, headRecord, heads, relationOf, rowOf, constraint, declared, dimension}
 use Rattle.laws.proofs.Tests.{&&-true}
 use Rattle.laws.proofs.Heads.{NameAt, nameField-gives}
 use Rattle.laws.proofs.Readers.{given, Passed, passing-gives}
@@ -160,3 +163,36 @@ module _ (bs cs : List ℕ) where
       local-then (count 0 4) _ (local-count 0 4) (λ n.
       local-then (repeat n range) _ (local-repeat n range local-range) (λ box.
       local-pure (record { name = name; kind = kindOf kind; sort = sortOf sort; box = box; place = p })))))))
+
+  pub local-heads : (k : ℕ) (earlier : List Head) (points : ℕ) → Local (heads k earlier points) bs cs
+  unfolding heads
+  local-heads zero earlier points p l q e = let y : p ≡ q = cc in record { onward = omega arith; again = λ _. e }
+  local-heads (suc k) earlier points p l q e = go (headRecord earlier bs p) refl (λ h. local-heads k (earlier ++ (h ∷ [])) (points + size (h .box))) e
+    where
+      rest : List ℕ → Head → ℕ → Got (List Head)
+      rest ds h o = ifb (leb (points + size (h .box)) 4096) (λ _. heads k (earlier ++ (h ∷ [])) (points + size (h .box)) ds o) (λ _. bad COUNT p)
+
+      fits : (h : Head) (t : Bool) → leb (points + size (h .box)) 4096 ≡ t → (g : Got (List Head)) → ifb t (λ _. g) (λ _. bad COUNT p) ≡ got l q → (t ≡ true) × (g ≡ got l q)
+      fits h true e g f = (refl, f)
+      fits h false e g f = let z : _≡_ {A = ℕ} 0 1 = cc in absurd (omega arith)
+
+      go : (g : Got Head) → headRecord earlier bs p ≡ g → ((h : Head) → Local (heads k (earlier ++ (h ∷ [])) (points + size (h .box))) bs cs) →
+          after g (λ h o. rest bs h o) ≡ got l q → Again (heads (suc k) earlier points) bs cs p l q
+      go (bad n o) u f v = let z : _≡_ {A = ℕ} 0 1 = cc in absurd (omega arith)
+      go (got h o) u f v =
+          let b = leb (points + size (h .box)) 4096 in
+          let x = fits h b refl (heads k (earlier ++ (h ∷ [])) (points + size (h .box)) bs o) v in
+          let s = local-head earlier p h o u in
+          let t = f h o l q (x .1) in
+          record {
+            onward = omega (arith, s .onward, t .onward);
+            again = λ a. rw (s .again (agree-less o (t .onward) a), x .0) (t .again a);
+          }
+
+-- ---- bytes that begin alike
+
+pub agree-take : (n : ℕ) (bs rest : List ℕ) → n ≤ length bs → Agree bs (take n bs ++ rest) n
+agree-take n bs rest h = record {
+  there = omega (arith, length-append (take n bs) rest, length-take-le n bs h);
+  same = λ i lt. List·getD-append (take n bs) rest 0 i (omega (arith, length-take-le n bs h)) ∙ getD-take n bs i 0 lt;
+}
