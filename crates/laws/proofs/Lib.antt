@@ -27,3 +27,4 @@ pub mod Written
 pub mod NormalWritable
 pub mod Local
 pub mod Prefix
+pub mod Rewritten
