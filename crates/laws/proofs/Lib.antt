@@ -28,3 +28,4 @@ pub mod NormalWritable
 pub mod Local
 pub mod Prefix
 pub mod Rewritten
+pub mod SectionsAgain

@@ -25,7 +25,7 @@ pub record Agree (bs cs : List ℕ) (q : ℕ) : Type 0 where
   pub there : q ≤ length cs
   pub same : (i : ℕ) → i < q → getD cs i 0 ≡ getD bs i 0
 
-agree-less : {bs cs : List ℕ} {q : ℕ} (p : ℕ) → p ≤ q → Agree bs cs q → Agree bs cs p
+pub agree-less : {bs cs : List ℕ} {q : ℕ} (p : ℕ) → p ≤ q → Agree bs cs q → Agree bs cs p
 agree-less p l h = record { there = omega (arith, h .there); same = λ i lt. h .same i (omega arith) }
 
 word-agree : (bs cs : List ℕ) (p : ℕ) → Agree bs cs (p + 8) → wordAt cs p ≡ wordAt bs p
