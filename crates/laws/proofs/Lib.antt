@@ -29,3 +29,4 @@ pub mod Local
 pub mod Prefix
 pub mod Rewritten
 pub mod SectionsAgain
+pub mod NormalAccepted

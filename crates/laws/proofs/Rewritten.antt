@@ -10,7 +10,7 @@ use lib.Dec.{leb}
 use borrow.Author.Tests.{leb-true}
 use Rattle.alpha.specs.Pick.{ifb}
 use Rattle.alpha.specs.Answer.{Answer, accepted, refused, next, WIDE}
-use Rattle.alpha.specs.Sheet.{Kind, Kind.input, Kind.output, Kind.local, Head, Constraint, Node, Raw, Expr, Exprs, Variable, Sheet, Expr.kase, Exprs.none}
+use Rattle.alpha.specs.Sheet.{Kind, Kind.input, Kind.output, Kind.local, Head, Constraint, Declared, Node, Raw, Expr, Exprs, Variable, Sheet, Expr.kase, Exprs.none}
 use Rattle.alpha.specs.Read.{node}
 use Rattle.alpha.specs.Shape.{Parsed, tree, exprAt, fits, ofVariable, Bodied, shaped, bodyOf, bodies}
 use Rattle.alpha.specs.Holds.{isInputKind, isInput}
@@ -137,9 +137,9 @@ AllReady hs s [] = Unit {0}
 AllReady hs s (x ∷ xs) = (isInput x ≡ false → Ready hs s x) × AllReady hs s xs
 
 -- the declared constraints are those of the second section
-abbrev pub DeclaredAre : Raw → Sheet → ℕ → Type 0
-DeclaredAre r [] v = Unit {0}
-DeclaredAre r (x ∷ xs) v = (x .declared ≡ ofVariable v (r .decls)) × DeclaredAre r xs (suc v)
+abbrev pub DeclaredAre : List Declared → Sheet → ℕ → Type 0
+DeclaredAre ds [] v = Unit {0}
+DeclaredAre ds (x ∷ xs) v = (x .declared ≡ ofVariable v ds) × DeclaredAre ds xs (suc v)
 
 module _ (r : Raw) (bs : List ℕ) (s : Sheet) (few : length (r .heads) ≤ 2 ^ 62) where
   -- a body is read back
@@ -173,7 +173,7 @@ module _ (r : Raw) (bs : List ℕ) (s : Sheet) (few : length (r .heads) ≤ 2 ^ 
       _≡_ {A = Answer Sheet} (accepted (record { head = x .head; declared = ds; body = e; start = p; end = q } ∷ xs)) (accepted (placed x e p q ∷ xs))
   with-declared x ds e p q xs h = ap (λ cs. accepted (record { head = x .head; declared = cs; body = e; start = p; end = q } ∷ xs)) (sym h)
 
-  pub bodies-back : (xs : Sheet) (v p : ℕ) → AllReady (r .heads) s xs → DeclaredAre r xs v → Stands (bodyBytes s xs) bs p →
+  pub bodies-back : (xs : Sheet) (v p : ℕ) → AllReady (r .heads) s xs → DeclaredAre (r .decls) xs v → Stands (bodyBytes s xs) bs p →
       bodies r bs (map (λ x. x .head) xs) v p (bodyNodes s xs) ≡ accepted (rewritten s xs p)
   unfolding bodies
   bodies-back [] v p a d h = refl

@@ -47,7 +47,7 @@ module _ (l m bs : List ℕ) (p : ℕ) (h : Stands (l ++ m) bs p) where
 digit : (w b r : ℕ) → b ≡ w % 256 → r ≡ w / 256 → b + 256 * r ≡ w
 digit w b r p q = omega arith
 
-length-bytesOf : (k w : ℕ) → length (bytesOf k w) ≡ k
+pub length-bytesOf : (k w : ℕ) → length (bytesOf k w) ≡ k
 unfolding bytesOf
 length-bytesOf zero w = refl
 length-bytesOf (suc k) w = ap suc (length-bytesOf k (w / 256))
