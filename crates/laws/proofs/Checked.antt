@@ -104,7 +104,8 @@ faults-pass s n (e ∷ es) h = rw (fault-passes s n e (h 0 (omega arith) e)) (fa
 -- ---- the whole check
 
 module _ (bs : List ℕ) (r : Raw) where
-  accepted-from : SheetRead bs r → (s : Sheet) → BodiesRead r bs (r .heads) 0 (r .first) (r .nodes) s → AllPass (typed (r .heads)) s → AllPass reached s → AllFaultless s (elements s) → Accepted bs r s
+  accepted-from : SheetRead bs r → (s : Sheet) → BodiesRead r bs (r .heads) 0 (r .first) (r .nodes) s →
+      AllPass (typed (r .heads)) s → AllPass reached s → AllFaultless s (elements s) → Accepted bs r s
   accepted-from sh s b t c f = record {
     short = sh .short;
     parts = sh .parts;
@@ -221,10 +222,14 @@ module _ {bs : List ℕ} {r : Raw} {s : Sheet} (a : Accepted bs r s) where
     in-heads = omega (arith, accepted-length)
 
     pub accepted-box : readBox (variable s v .head .box) ≡ true
-    accepted-box = rw (accepted-head v) (headsAt-each (λ h. readBox (h .box) ≡ true) bs (λ e p h k. head-box k) (r .heads) [] 8 (r .second) (a .parts .heads-stand) v in-heads noHead)
+    accepted-box =
+        rw (accepted-head v)
+        (headsAt-each (λ h. readBox (h .box) ≡ true) bs (λ e p h k. head-box k) (r .heads) [] 8 (r .second) (a .parts .heads-stand) v in-heads noHead)
 
     pub accepted-few : length (variable s v .head .box) ≤ 4
-    accepted-few = rw (accepted-head v) (headsAt-each (λ h. length (h .box) ≤ 4) bs (λ e p h k. k .dim .high) (r .heads) [] 8 (r .second) (a .parts .heads-stand) v in-heads noHead)
+    accepted-few =
+        rw (accepted-head v)
+        (headsAt-each (λ h. length (h .box) ≤ 4) bs (λ e p h k. k .dim .high) (r .heads) [] 8 (r .second) (a .parts .heads-stand) v in-heads noHead)
 
     pub accepted-body : isInput (variable s v) ≡ false → BodyOf bs r s v
     accepted-body i =

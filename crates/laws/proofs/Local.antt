@@ -1,7 +1,6 @@
 -- A reader that gives a value looks at no byte from its next place on: over bytes that agree up to there it gives the same. Assumes nothing.
 use mathlib.Core.Path.{_≡_, refl, sym, ap, _∙_, subst}
 use Prim.Native.Nat.{ℕ, zero, suc, _+_, _-_, _≤_, _<_}
-use native.Mathlib.Nat.{le-refl}
 use native.Mathlib.Omega.{arith}
 use mathlib.Core.Bool.{Bool, true, false, not, _&&_}
 use mathlib.Core.List.{List, [], _∷_, _++_}
@@ -13,7 +12,7 @@ use borrow.Author.Tests.{le-leb}
 use Rattle.alpha.specs.Pick.{ifb}
 use Rattle.alpha.specs.Answer.{COUNT, NUMBER}
 use Rattle.alpha.specs.Field.{wordAt, signedOf, field, eight, nameForm}
-use Rattle.alpha.specs.Sheet.{Range, Head, Row, Constraint, Declared}
+use Rattle.alpha.specs.Sheet.{Head}
 use Rattle.alpha.specs.Box.{within, size}
 use Rattle.alpha.specs.Read.{Got, got, bad, Reader, after, _>>=_, pure, repeat, here, passing, count, number, choice, free, taken, nameField, kindOf, sortOf, range, headRecord, heads, relationOf, rowOf, constraint, declared, dimension}
 use Rattle.laws.proofs.Tests.{&&-true}
@@ -91,7 +90,9 @@ module _ (bs cs : List ℕ) where
   local-here p a q e = let y : p ≡ q = cc in record { onward = omega arith; again = λ _. e }
 
   pub local-count : (lo hi : ℕ) → Local (count lo hi) bs cs
-  local-count lo hi = local-then (passing COUNT (within (pos lo) (pos hi))) (λ x. pure (natAbs x)) (local-passing COUNT (within (pos lo) (pos hi))) (λ x. local-pure (natAbs x))
+  local-count lo hi =
+      local-then (passing COUNT (within (pos lo) (pos hi))) (λ x. pure (natAbs x))
+      (local-passing COUNT (within (pos lo) (pos hi))) (λ x. local-pure (natAbs x))
 
   pub local-choice : (hi : ℕ) → Local (choice hi) bs cs
   local-choice hi = local-then (number (pos 0) (pos hi)) (λ x. pure (natAbs x)) (local-passing NUMBER (within (pos 0) (pos hi))) (λ x. local-pure (natAbs x))

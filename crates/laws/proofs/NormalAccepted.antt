@@ -5,37 +5,40 @@ use Prim.Native.Nat.{ℕ, zero, suc, _+_, _^_, _≤_, _<_}
 use native.Mathlib.Nat.{zero-add}
 use native.Mathlib.Omega.{arith}
 use native.Mathlib.Decide.{decLt}
-use mathlib.Core.Bool.{Bool, true, false, not, _&&_, _||_}
+use mathlib.Core.Bool.{Bool, true, false, not, _||_}
 use mathlib.Core.List.{List, [], _∷_, _++_, map, append-assoc, append-nil}
 use lib.ListN.{length, getD, take, length-append, List·getD-append, List·getD-eq-default}
 use lib.Seq.{length-take-le, getD-append-add}
+use lib.IntN.{ℤ}
 use borrow.Author.Tests.{not-true}
 use Rattle.alpha.specs.Pick.{ifb}
 use Rattle.alpha.specs.Answer.{Answer, accepted, refused, next, TYPE, REACH}
 use Rattle.alpha.specs.Field.{nat}
-use Rattle.alpha.specs.Sheet.{Kind, Head, Raw, Expr, Exprs, Variable, Sheet, Point, Expr.kase, Exprs.none}
-use Rattle.alpha.specs.Read.{Got, got, read, dimension}
-use Rattle.alpha.specs.Shape.{fits, bodies}
+use Rattle.alpha.specs.Sheet.{Head, Raw, Expr, Variable, Sheet, Point, Expr.kase, Exprs.none}
+use Rattle.alpha.specs.Read.{got, read, dimension}
+use Rattle.alpha.specs.Shape.{bodies}
 use Rattle.alpha.specs.Typing.{typeOf, isSort}
 use Rattle.alpha.specs.Reach.{topReach, reach, allReach}
-use Rattle.alpha.specs.Holds.{noVariable, variable, isInput, inDomain, holds, clashes}
-use Rattle.alpha.specs.Check.{Element, elements, typed, reached, tested, first, faults, checked, afterRead, check}
-use Rattle.alpha.specs.Normal.{norm}
+use Rattle.alpha.specs.Holds.{noVariable, variable, isInput, inDomain}
+use Rattle.alpha.specs.Box.{size}
+use Rattle.alpha.specs.Outcome.{eval, inputsBefore, outcome}
+use Rattle.alpha.specs.Check.{Element, elements, typed, reached, tested, first, checked, afterRead, check}
+use Rattle.alpha.specs.Written.{bytes}
 use Rattle.alpha.specs.Normalise.{dims, normalBody, Body, writeBodies, normalForm}
 use Rattle.laws.specs.Accepted.{BodiesAt, Accepted}
-use Rattle.laws.specs.Normal.{bodyBytes, bodyNodes, placed, rewritten, normalSheet}
+use Rattle.laws.specs.Normal.{bodyBytes, bodyNodes, placed, rewritten}
 use Rattle.laws.specs.Stands.{Stands}
 use Rattle.laws.specs.Writable.{Writable}
-use Rattle.laws.proofs.Tests.{true-not-false, &&-left, &&-right}
-use Rattle.laws.proofs.Checked.{AllPass, first-passes, Faultless, AllFaultless, faults-pass, BodyOf, accepted-length, accepted-dimension, accepted-few, accepted-body}
+use Rattle.laws.proofs.Tests.{&&-left, &&-right}
+use Rattle.laws.proofs.Checked.{first-passes, Faultless, faults-pass, accepted-length, accepted-dimension, accepted-few, accepted-body}
 use Rattle.laws.proofs.Widths.{at-wide}
 use Rattle.laws.proofs.Written.{length-bytesOf}
-use Rattle.laws.proofs.SameOutcome.{normal-variable, known}
+use Rattle.laws.proofs.SameOutcome.{outcome-alike, normal-variable, body-same, known}
 use Rattle.laws.proofs.NormalType.{norm-some}
 use Rattle.laws.proofs.NormalSheet.{isSort-is, body-fits, body-typed, body-reached, body-covered, body-clear}
 use Rattle.laws.proofs.NormalWritable.{at-writable, normal-writable}
 use Rattle.laws.proofs.Local.{agree-take}
-use Rattle.laws.proofs.Rewritten.{Kept, AllKept, Wrote, write-wrote, Ready, AllReady, DeclaredAre, bodies-back, NodesBack, nodes-back}
+use Rattle.laws.proofs.Rewritten.{Kept, AllKept, Wrote, write-wrote, Ready, AllReady, DeclaredAre, bodies-back, nodes-back}
 use Rattle.laws.proofs.SectionsAgain.{read-again}
 
 -- ---- the variables that are read back
@@ -59,7 +62,7 @@ rewritten-variable s (x ∷ xs) p v = go (isInput x) refl v (λ q w. rewritten-v
     go : (t : Bool) → isInput x ≡ t → (v : ℕ) → ((q w : ℕ) → Placed s (variable xs w) (variable (rewritten s xs q) w)) →
         Placed s (variable (x ∷ xs) v)
         (variable (ifb t (λ _. placed x (kase none) p p ∷ rewritten s xs p)
-        (λ _. placed x (normalBody s x) p (p + length (Rattle.alpha.specs.Written.bytes (normalBody s x))) ∷ rewritten s xs (p + length (Rattle.alpha.specs.Written.bytes (normalBody s x))))) v)
+        (λ _. placed x (normalBody s x) p (p + length (bytes (normalBody s x))) ∷ rewritten s xs (p + length (bytes (normalBody s x))))) v)
     go true i zero ih = here true i p
     go true i (suc w) ih = ih p w
     go false i zero ih = here false i _
@@ -106,7 +109,8 @@ module _ {bs : List ℕ} {r : Raw} {s : Sheet} (a : Accepted bs r s) where
       let sorted : isSort (x .head .sort) (typeOf (x .body) (r .heads)) ≡ true = rw i at (a .types v lt) in
       let some = norm-some (r .heads) (x .body) (dimension (r .heads)) (x .head .sort) (isSort-is (x .head .sort) (typeOf (x .body) (r .heads)) sorted) in
       record {
-        numbers = rw ds (normal-writable (r .heads) (length (r .heads)) few-dimensions n topReach (accepted-few a v lt) (omega arith) (omega arith) (x .body) w wide (b .fitting) far some
+        numbers = rw ds (normal-writable (r .heads) (length (r .heads)) few-dimensions n topReach (accepted-few a v lt) (omega arith) (omega arith)
+            (x .body) w wide (b .fitting) far some
             (rw ds at (k .few-branches)) (rw ds at (k .narrow-branches)));
         shallow = k .deep;
         fitting = body-fits a v lt i;
@@ -152,10 +156,15 @@ module _ {bs : List ℕ} {r : Raw} {s : Sheet} (a : Accepted bs r s) where
         y = variable (rewritten s s p) (e .who)
 
         input-no : tested (rewritten s s p) e ≡ true → isInput (variable s (e .who)) ≡ false
-        input-no t = sym (same-kind (e .who)) ∙ not-true (isInput (variable (rewritten s s p) (e .who))) (&&-left (not (isInput (variable (rewritten s s p) (e .who)))) (inDomain (variable (rewritten s s p) (e .who)) (e .at)) t)
+        input-no t =
+            sym (same-kind (e .who))
+            ∙ not-true (isInput (variable (rewritten s s p) (e .who)))
+            (&&-left (not (isInput (variable (rewritten s s p) (e .who)))) (inDomain (variable (rewritten s s p) (e .who)) (e .at)) t)
 
         domain-yes : tested (rewritten s s p) e ≡ true → inDomain (variable s (e .who)) (e .at) ≡ true
-        domain-yes t = sym (same-domain (e .who) (e .at)) ∙ &&-right (not (isInput (variable (rewritten s s p) (e .who)))) (inDomain (variable (rewritten s s p) (e .who)) (e .at)) t
+        domain-yes t =
+            sym (same-domain (e .who) (e .at))
+            ∙ &&-right (not (isInput (variable (rewritten s s p) (e .who)))) (inDomain (variable (rewritten s s p) (e .who)) (e .at)) t
 
     types-pass : (v : ℕ) → v < length s → typed (r .heads) (variable (rewritten s s p) v) ≡ true
     types-pass = passes (typed (r .heads)) (λ x e m n i h. rw i refl) (a .types) (λ v m n lt i. rw (normal-variable s v) at (body-typed a v lt i))
@@ -180,7 +189,7 @@ rewritten-length s (x ∷ xs) p = go (isInput x) (rewritten-length s xs p) (λ q
   where
     go : (t : Bool) → length (rewritten s xs p) ≡ length xs → ((q : ℕ) → length (rewritten s xs q) ≡ length xs) →
         length (ifb t (λ _. placed x (kase none) p p ∷ rewritten s xs p)
-        (λ _. placed x (normalBody s x) p (p + length (Rattle.alpha.specs.Written.bytes (normalBody s x))) ∷ rewritten s xs (p + length (Rattle.alpha.specs.Written.bytes (normalBody s x)))))
+        (λ _. placed x (normalBody s x) p (p + length (bytes (normalBody s x))) ∷ rewritten s xs (p + length (bytes (normalBody s x)))))
         ≡ suc (length xs)
     go true h k = ap suc h
     go false h k = ap suc (k _)
@@ -223,7 +232,14 @@ module _ {bs : List ℕ} {r : Raw} {s : Sheet} (a : Accepted bs r s) where
 
     out-length : r .third + 8 + length (bodyBytes s s) ≡ length (take (r .third) bs ++ nat (w .nodes) ++ w .out)
     out-length =
-        omega (arith, length-append (take (r .third) bs ++ nat (w .nodes)) (w .out), length-append (take (r .third) bs) (nat (w .nodes)), front, length-bytesOf 8 (w .nodes), ap length (h .out-is))
+        omega (
+          arith,
+          length-append (take (r .third) bs ++ nat (w .nodes)) (w .out),
+          length-append (take (r .third) bs) (nat (w .nodes)),
+          front,
+          length-bytesOf 8 (w .nodes),
+          ap length (h .out-is),
+        )
 
     read-out : read (take (r .third) bs ++ nat (w .nodes) ++ w .out) ≡ got again (length (take (r .third) bs ++ nat (w .nodes) ++ w .out))
     read-out =
@@ -265,3 +281,24 @@ module _ {bs : List ℕ} {r : Raw} {s : Sheet} (a : Accepted bs r s) where
           let same : take (r .third) bs ++ nat (w .nodes) ++ w .out ≡ o = cc in
           subst (λ l. check l ≡ accepted (rewritten s s (r .third + 8))) same (written-accepted w (write-wrote s (r .third + 8) 0 k))
       go (refused n p) k f = let z : _≡_ {A = ℕ} 0 1 = cc in absurd (omega arith)
+
+-- ---- the same outcomes
+
+inputsBefore-rewritten : (s xs : Sheet) (p v : ℕ) → inputsBefore (rewritten s xs p) v ≡ inputsBefore xs v
+inputsBefore-rewritten s xs p zero = refl
+inputsBefore-rewritten s [] p (suc v) = refl
+inputsBefore-rewritten s (x ∷ xs) p (suc v) = go (isInput x) refl (λ q. inputsBefore-rewritten s xs q v)
+  where
+    go : (t : Bool) → isInput x ≡ t → ((q : ℕ) → inputsBefore (rewritten s xs q) v ≡ inputsBefore xs v) →
+        inputsBefore (ifb t (λ _. placed x (kase none) p p ∷ rewritten s xs p)
+        (λ _. placed x (normalBody s x) p (p + length (bytes (normalBody s x))) ∷ rewritten s xs (p + length (bytes (normalBody s x))))) (suc v)
+        ≡ ifb t (λ _. size (x .head .box) + inputsBefore xs v) (λ _. inputsBefore xs v)
+    go true i h = rw (i, h p)
+    go false i h = rw (i, h (p + length (bytes (normalBody s x))))
+
+pub outcome-rewritten : {bs : List ℕ} {r : Raw} {s : Sheet} → Accepted bs r s → (p : ℕ) (ins : List ℤ) (k v : ℕ) (z : Point) →
+    outcome k (rewritten s s p) ins v z ≡ outcome k s ins v z
+outcome-rewritten {s = s} a p ins =
+    outcome-alike s (rewritten s s p) ins (same-domain a p) (same-kind a p)
+    (λ v z. rw (ap (λ x. x .head) (place-of a p v .is), inputsBefore-rewritten s s p v))
+    (λ v z look i d. ap (λ e. eval e s look z) (body-new a p v i) ∙ body-same a ins v z look (known a ins v i) i d)

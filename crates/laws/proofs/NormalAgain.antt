@@ -181,7 +181,8 @@ module _ (hs : List Head) where
     of-dep = λ f e a q w n h.
         let x = q (w .1) (length (f .rows)) (&&-right (eqb (f .cols) n) (fits e hs (length (f .rows))) h) in
         let same : f .cols ≡ n = eqb-true (f .cols) n (&&-left (eqb (f .cols) n) (fits e hs (length (f .rows))) h) in
-        record { given-wide = subst (λ m. ConstraintsWide m (map (constraintAfter f) (a .given))) same (constraints-after-wide f (a .given) (w .0)); term-wide = push-wide (a .term) f (w .0) (x .term-wide) };
+        let given = subst (λ m. ConstraintsWide m (map (constraintAfter f) (a .given))) same (constraints-after-wide f (a .given) (w .0)) in
+        record { given-wide = given; term-wide = push-wide (a .term) f (w .0) (x .term-wide) };
     of-first = λ e es a q w n h. q (w .0) n (&&-left (fits e hs n) (allFit es hs n) h);
     of-rest = λ e es a q w n h. q (w .1) n (&&-right (fits e hs n) (allFit es hs n) h);
   }

@@ -4,7 +4,7 @@ use mathlib.Core.Path.{_≡_, refl, ap, _∙_, fun-ext}
 use Prim.Native.Nat.{ℕ, _<_}
 use native.Mathlib.Omega.{arith}
 use mathlib.Core.Bool.{true, false, _||_}
-use mathlib.Core.List.{List, []}
+use mathlib.Core.List.{List}
 use mathlib.Core.Option.{Option, Option.none, some}
 use lib.ListN.{length}
 use Rattle.alpha.specs.Sheet.{Sort, Sort.integer, Sort.boolean, Raw, Expr, Exprs, Sheet, Point}
@@ -31,7 +31,7 @@ use Rattle.laws.proofs.NormalReach.{normal-reach}
 use Rattle.laws.proofs.NormalClear.{normal-clear}
 use Rattle.laws.proofs.NormalAgain.{normal-again}
 use Rattle.laws.proofs.Widths.{at-wide}
-use Rattle.laws.proofs.SameOutcome.{holds-same, normal-variable, domain-same}
+use Rattle.laws.proofs.SameOutcome.{holds-same, normal-variable}
 
 -- ---- clashes over two sheets whose variables have the same declared domains
 

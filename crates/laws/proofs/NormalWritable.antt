@@ -1,10 +1,10 @@
 -- What can be written: every tree that stands in the bytes, and every branch of the normal form of one that fits and keeps the limit of
 -- reach. Assumes nothing.
-use mathlib.Core.Path.{_≡_, refl, sym, ap, _∙_, subst}
-use Prim.Native.Nat.{ℕ, zero, suc, _+_, _*_, _-_, _^_, _≤_, _<_}
+use mathlib.Core.Path.{_≡_, refl, ap}
+use Prim.Native.Nat.{ℕ, suc, _-_, _^_, _≤_, _<_}
 use native.Mathlib.Omega.{arith}
-use mathlib.Core.Bool.{Bool, true, false, _&&_}
-use mathlib.Core.List.{List, [], _∷_, _++_, map}
+use mathlib.Core.Bool.{true, false, _&&_}
+use mathlib.Core.List.{List, [], _∷_}
 use lib.ListN.{length, getD}
 use lib.IntN.{ℤ, pos, negℤ, natAbs}
 use lib.Dec.{leb, eqb}
@@ -19,17 +19,17 @@ use Rattle.alpha.specs.Reach.{limit, sizes, rowReach, mapReach, allReach, reach
 use Rattle.alpha.specs.Written.{branchCount}
 use Rattle.alpha.specs.Normal.{Branch, push, norm, asExprs, bodyCase}
 use Rattle.alpha.specs.Normalise.{narrow}
-use Rattle.laws.specs.At.{Headed, Two, At, AllAt}
+use Rattle.laws.specs.At.{At, AllAt}
 use Rattle.laws.specs.Normal.{isLeaf, treeForm}
 use Rattle.laws.specs.Wide.{RowsWide, ConstraintsWide, Wide}
 use Rattle.laws.specs.Writable.{All, RowOk, Writable, AllWritable}
 use Rattle.laws.proofs.Tests.{true-not-false, &&-left, &&-right}
 use Rattle.laws.proofs.Rows.{RowAt}
-use Rattle.laws.proofs.Nodes.{NodeAt, node-at, restr-constraint, dep-row}
+use Rattle.laws.proofs.Nodes.{node-at, restr-constraint, dep-row}
 use Rattle.laws.proofs.Branches.{AllBranches, Rules, norm-all}
-use Rattle.laws.proofs.NormalReach.{Reaches, ReachesToo, reach-rules, row-small}
+use Rattle.laws.proofs.NormalReach.{ReachesToo, reach-rules, row-small}
 use Rattle.laws.proofs.NormalChecks.{HasForm, form-rules, FitsToo, AllFitToo, fits-rules}
-use Rattle.laws.proofs.NormalAgain.{BranchWide, WideToo, AllWideToo, wide-rules}
+use Rattle.laws.proofs.NormalAgain.{WideToo, AllWideToo, wide-rules}
 
 -- ---- a tree that stands in the bytes
 
@@ -147,8 +147,10 @@ rows-within n r (x ∷ ws) w low h = (row-within n r x (w .0) low (omega arith),
 constraints-within : (n r : ℕ) (cs : List Constraint) → ConstraintsWide n cs → 1 ≤ r → allReach r cs ≡ true → All (λ c. RowOk n (c .row)) cs
 constraints-within n r [] w low h = tt
 constraints-within n r (c ∷ cs) w low h =
-    let k = &&-left (leb (rowReach r (c .row)) limit) (allReach r cs) h in
-    (row-within n r (c .row) (w .0) low (leb-true (rowReach r (c .row)) limit k), constraints-within n r cs (w .1) low (&&-right (leb (rowReach r (c .row)) limit) (allReach r cs) h))
+    let k = &&-left (leb (rowReach r (c .row)) limit) (allReach r cs) h in (
+      row-within n r (c .row) (w .0) low (leb-true (rowReach r (c .row)) limit k),
+      constraints-within n r cs (w .1) low (&&-right (leb (rowReach r (c .row)) limit) (allReach r cs) h),
+    )
 
 -- ---- trees
 

@@ -1,6 +1,6 @@
 -- The normaliser's bodies: what was written keeps the limits, and is read back as the normal forms, one after another. Assumes nothing.
 use mathlib.Core.Path.{_≡_, refl, sym, ap, _∙_, subst}
-use Prim.Native.Nat.{ℕ, zero, suc, _+_, _^_, _≤_, _<_}
+use Prim.Native.Nat.{ℕ, suc, _+_, _^_, _≤_}
 use native.Mathlib.Nat.{add-zero}
 use native.Mathlib.Omega.{arith}
 use mathlib.Core.Bool.{Bool, true, false, _&&_}
@@ -10,14 +10,13 @@ use lib.Dec.{leb}
 use borrow.Author.Tests.{leb-true}
 use Rattle.alpha.specs.Pick.{ifb}
 use Rattle.alpha.specs.Answer.{Answer, accepted, refused, next, WIDE}
-use Rattle.alpha.specs.Sheet.{Kind, Kind.input, Kind.output, Kind.local, Head, Constraint, Declared, Node, Raw, Expr, Exprs, Variable, Sheet, Expr.kase, Exprs.none}
+use Rattle.alpha.specs.Sheet.{Kind, Kind.input, Kind.output, Kind.local, Head, Constraint, Declared, Node, Raw, Expr, Variable, Sheet, Expr.kase, Exprs.none}
 use Rattle.alpha.specs.Read.{node}
-use Rattle.alpha.specs.Shape.{Parsed, tree, exprAt, fits, ofVariable, Bodied, shaped, bodyOf, bodies}
+use Rattle.alpha.specs.Shape.{tree, exprAt, fits, ofVariable, shaped, bodyOf, bodies}
 use Rattle.alpha.specs.Holds.{isInputKind, isInput}
 use Rattle.alpha.specs.Written.{bytes, nodeCount, depth}
-use Rattle.alpha.specs.Normal.{Branch, bodyCase}
+use Rattle.alpha.specs.Normal.{Branch}
 use Rattle.alpha.specs.Normalise.{branchesOf, normalBody, narrow, keepsLimits, Body, written, writeBodies}
-use Rattle.laws.specs.At.{At}
 use Rattle.laws.specs.Heads.{InRow}
 use Rattle.laws.specs.Normal.{bodyBytes, bodyNodes, placed, rewritten}
 use Rattle.laws.specs.Stands.{Stands}
@@ -103,7 +102,9 @@ module _ (s : Sheet) (front : ℕ) where
     where
       inner : (t : Bool) → keepsLimits (branchesOf s x) (normalBody s x) (w .nodes + nodeCount (normalBody s x)) (front + length (w .out ++ bytes (normalBody s x))) ≡ t →
           isInput x ≡ false → (m : Answer Body) → Tells (Wrote s front xs (written w (normalBody s x))) m → Tells (Wrote s front (x ∷ xs) w) (ifb t (λ _. m) (λ _. refused WIDE n))
-      inner true k i (accepted v) h = one-body x xs w v i (limits (branchesOf s x) (normalBody s x) (w .nodes + nodeCount (normalBody s x)) (front + length (w .out ++ bytes (normalBody s x))) k) h
+      inner true k i (accepted v) h =
+          one-body x xs w v i
+          (limits (branchesOf s x) (normalBody s x) (w .nodes + nodeCount (normalBody s x)) (front + length (w .out ++ bytes (normalBody s x))) k) h
       inner true k i (refused a b) h = tt
       inner false k i m h = tt
 
@@ -163,7 +164,8 @@ module _ (r : Raw) (bs : List ℕ) (s : Sheet) (few : length (r .heads) ≤ 2 ^ 
       by-kind output e = shape
       by-kind local e = shape
 
-  no-body-back : (k : Kind) (x : Variable) (v p m : ℕ) → isInputKind k ≡ true → bodyOf k v (x .head) (r .heads) bs p m ≡ accepted (record { expr = kase none; next = p; left = m })
+  no-body-back : (k : Kind) (x : Variable) (v p m : ℕ) → isInputKind k ≡ true →
+      bodyOf k v (x .head) (r .heads) bs p m ≡ accepted (record { expr = kase none; next = p; left = m })
   no-body-back input x v p m i = refl
   no-body-back output x v p m i = true-not-false {b = false} i refl
   no-body-back local x v p m i = true-not-false {b = false} i refl

@@ -1,19 +1,16 @@
 -- Bytes that begin with the first two sections of a sheet, and go on with a count and as many nodes, are read as those. Assumes nothing.
 use mathlib.Core.Path.{_≡_, refl, sym, ap, _∙_, subst}
-use Prim.Native.Nat.{ℕ, zero, suc, _+_, _^_, _≤_, _<_}
-use native.Mathlib.Nat.{zero-add}
+use Prim.Native.Nat.{ℕ, _+_, _≤_}
 use native.Mathlib.Omega.{arith}
-use mathlib.Core.Bool.{Bool, true, false}
 use mathlib.Core.List.{List, [], _∷_, _++_, append-nil, append-assoc}
 use lib.ListN.{length}
-use lib.IntN.{ℤ, pos, natAbs}
-use lib.Dec.{leb, eqb}
+use lib.IntN.{pos, natAbs}
 use borrow.Author.Tests.{le-leb, eq-eqb}
 use Rattle.alpha.specs.Answer.{COUNT}
 use Rattle.alpha.specs.Field.{field, nat}
-use Rattle.alpha.specs.Sheet.{Node, Head, Declared, Raw}
+use Rattle.alpha.specs.Sheet.{Node, Head, Raw}
 use Rattle.alpha.specs.Box.{within, size}
-use Rattle.alpha.specs.Read.{Got, got, repeat, count, headRecord, heads, declared, node, ended, sections, read}
+use Rattle.alpha.specs.Read.{got, repeat, count, heads, declared, node, ended, sections, read}
 use Rattle.laws.specs.Heads.{InRow, HeadsAt, pointsOf}
 use Rattle.laws.specs.Accepted.{Sections}
 use Rattle.laws.specs.Stands.{Stands}
@@ -67,7 +64,8 @@ module _ (bs : List ℕ) (r : Raw) (s : Sections bs r) (cs : List ℕ) (n : ℕ)
       let e₃ = count-known 0 256 (length (r .decls)) cs (r .second) (f₂ .0) (f₂ .1 ∙ s .declared-count) (omega arith) (s .few-declared) in
       let e₄ = declared-again .again alike in
       let e₅ = count-got 0 2048 n cs (r .third) (omega arith) few (omega arith) counted in
-      let e₆ = subst (λ m. repeat m (node (length (r .heads))) cs (r .third + 8) ≡ got ns (length cs)) many (row-repeat (node (length (r .heads))) cs ns (r .third + 8) (length cs) row) in
+      let e₆ = subst (λ m. repeat m (node (length (r .heads))) cs (r .third + 8) ≡ got ns (length cs)) many
+      (row-repeat (node (length (r .heads))) cs ns (r .third + 8) (length cs) row) in
       rw (e₁, e₂, e₃, e₄, e₅, e₆, eq-eqb (length cs) (length cs) refl)
 
   pub read-again : length cs ≤ 65536 →
