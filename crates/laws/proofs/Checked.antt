@@ -28,7 +28,7 @@ use Rattle.laws.proofs.Bodies.{SheetRead, read-says, Tells, next-tells,
 -- ---- the tests of each variable
 
 -- every variable of the sheet passes
-abbrev AllPass : (Variable → Bool) → Sheet → Type 0
+abbrev pub AllPass : (Variable → Bool) → Sheet → Type 0
 AllPass test s = (i : ℕ) → i < length s → test (variable s i) ≡ true
 
 first-tells : (code : ℕ) (test : Variable → Bool) (v : ℕ) (s : Sheet) → Tells (λ _. AllPass test s) (first code test v s)
@@ -44,6 +44,11 @@ first-tells code test v (x ∷ s) = go (test x) refl (first code test (suc v) s)
     go true e (accepted u) h = more e h
     go true e (refused n p) h = tt
     go false e m h = tt
+
+pub first-passes : (code : ℕ) (test : Variable → Bool) (v : ℕ) (s : Sheet) → AllPass test s → first code test v s ≡ accepted tt
+unfolding first
+first-passes code test v [] h = refl
+first-passes code test v (x ∷ s) h = rw (h 0 (omega arith)) (first-passes code test (suc v) s (λ i lt. h (suc i) (omega arith)))
 
 -- ---- the tests of each element
 
@@ -62,7 +67,7 @@ fault-tells s n e = go (tested s e) (holds (variable s (e .who) .body) s (e .at)
     go true false c x y z = tt
     go false h c x y z = record { covered = λ k. true-not-false k x; clear = λ k. true-not-false k x }
 
-abbrev AllFaultless : Sheet → List Element → Type 0
+abbrev pub AllFaultless : Sheet → List Element → Type 0
 AllFaultless s es = (i : ℕ) → i < length es → (d : Element) → Faultless s (getD es i d)
 
 faults-tell : (s : Sheet) (n : ℕ) (es : List Element) → Tells (λ _. AllFaultless s es) (faults s n es)
@@ -80,10 +85,27 @@ faults-tell s n (e ∷ es) =
     go f (accepted u) h = more f h
     go f (refused n p) h = tt
 
+fault-passes : (s : Sheet) (n : ℕ) (e : Element) → Faultless s e → fault s n e ≡ accepted tt
+fault-passes s n e h = go (tested s e) refl
+  where
+    go : (t : Bool) → tested s e ≡ t →
+        ifb t (λ _.
+        ifb (holds (variable s (e .who) .body) s (e .at)) (λ _.
+        ifb (clashes (variable s (e .who) .body) s (e .at)) (λ _. refused CLASH n) (λ _. accepted (tt {0}))) (λ _. refused GAP n)) (λ _. accepted (tt {0}))
+        ≡ accepted tt
+    go true k = rw (h .covered k, h .clear k)
+    go false k = refl
+
+pub faults-pass : (s : Sheet) (n : ℕ) (es : List Element) → AllFaultless s es → faults s n es ≡ accepted tt
+unfolding faults
+faults-pass s n [] h = refl
+faults-pass s n (e ∷ es) h = rw (fault-passes s n e (h 0 (omega arith) e)) (faults-pass s (suc n) es (λ i lt d. h (suc i) (omega arith) d))
+
 -- ---- the whole check
 
 module _ (bs : List ℕ) (r : Raw) where
-  accepted-from : SheetRead bs r → (s : Sheet) → BodiesRead r bs (r .heads) 0 (r .first) (r .nodes) s → AllPass (typed (r .heads)) s → AllPass reached s → AllFaultless s (elements s) → Accepted bs r s
+  accepted-from : SheetRead bs r → (s : Sheet) → BodiesRead r bs (r .heads) 0 (r .first) (r .nodes) s →
+      AllPass (typed (r .heads)) s → AllPass reached s → AllFaultless s (elements s) → Accepted bs r s
   accepted-from sh s b t c f = record {
     short = sh .short;
     parts = sh .parts;
@@ -200,10 +222,14 @@ module _ {bs : List ℕ} {r : Raw} {s : Sheet} (a : Accepted bs r s) where
     in-heads = omega (arith, accepted-length)
 
     pub accepted-box : readBox (variable s v .head .box) ≡ true
-    accepted-box = rw (accepted-head v) (headsAt-each (λ h. readBox (h .box) ≡ true) bs (λ e p h k. head-box k) (r .heads) [] 8 (r .second) (a .parts .heads-stand) v in-heads noHead)
+    accepted-box =
+        rw (accepted-head v)
+        (headsAt-each (λ h. readBox (h .box) ≡ true) bs (λ e p h k. head-box k) (r .heads) [] 8 (r .second) (a .parts .heads-stand) v in-heads noHead)
 
     pub accepted-few : length (variable s v .head .box) ≤ 4
-    accepted-few = rw (accepted-head v) (headsAt-each (λ h. length (h .box) ≤ 4) bs (λ e p h k. k .dim .high) (r .heads) [] 8 (r .second) (a .parts .heads-stand) v in-heads noHead)
+    accepted-few =
+        rw (accepted-head v)
+        (headsAt-each (λ h. length (h .box) ≤ 4) bs (λ e p h k. k .dim .high) (r .heads) [] 8 (r .second) (a .parts .heads-stand) v in-heads noHead)
 
     pub accepted-body : isInput (variable s v) ≡ false → BodyOf bs r s v
     accepted-body i =

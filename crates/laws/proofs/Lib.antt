@@ -23,3 +23,10 @@ pub mod NormalClear
 pub mod Widths
 pub mod NormalAgain
 pub mod NormalSheet
+pub mod Written
+pub mod NormalWritable
+pub mod Local
+pub mod Prefix
+pub mod Rewritten
+pub mod SectionsAgain
+pub mod NormalAccepted
