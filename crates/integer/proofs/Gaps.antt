@@ -1,13 +1,13 @@
 -- How far apart two numbers are: b = a + (b - a) where a is at most b, and what lies within two bounds lies no further from the lower
 -- than the upper does. Assumes nothing.
-use Prim.Native.Nat.{ℕ, zero, suc, _+_, _-_, _≤_, _<_}
+use Prim.Native.Nat.{ℕ, zero, suc, _+_, _-_, _≤_}
 use mathlib.Core.Path.{_≡_, refl, sym, ap, _∙_}
 use mathlib.Core.Bool.{Bool, true, false, cond, false≢true}
 use native.Mathlib.Omega.{arith}
-use lib.Dec.{ltb, leb}
-use lib.IntN.{ℤ, pos, negsuc, negℤ, natAbs, _+ℤ_, _-ℤ_, +ℤ-assoc, +ℤ-comm, +ℤ-negℤ-cancel, -ℤ-+ℤ-cancel}
+use lib.Dec.{ltb}
+use lib.IntN.{ℤ, pos, negsuc, natAbs, _+ℤ_, _-ℤ_, +ℤ-assoc, +ℤ-comm, +ℤ-negℤ-cancel, -ℤ-+ℤ-cancel}
 use lib.Signed.{leZ}
-use borrow.Author.Tests.{leb-true, ltb-true, ltb-false, le-leb, le-ltb}
+use borrow.Author.Tests.{leb-true, ltb-true, le-leb, le-ltb}
 use Rattle.alpha.specs.Box.{within}
 use Rattle.integer.proofs.Order.{within-true, true-and}
 
