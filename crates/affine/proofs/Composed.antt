@@ -2,11 +2,12 @@
 use Prim.Native.Nat.{ℕ, zero, suc}
 use mathlib.Core.Path.{_≡_, refl, sym, ap, _∙_}
 use mathlib.Core.List.{List, [], _∷_, map}
-use lib.ListN.{length}
+use native.Mathlib.Omega.{arith}
+use lib.ListN.{length, length-map}
 use lib.IntN.{ℤ, pos, _+ℤ_, _*ℤ_, +ℤ-idl, +ℤ-idr, +ℤ-assoc, zero-*ℤ, *ℤ-zero}
 use Rattle.integer.proofs.Ring.{*ℤ-distr, *ℤ-distl, *ℤ-assoc, +ℤ-middle, one-*ℤ}
 use Rattle.alpha.specs.Sheet.{Row, Constraint, Map, Point}
-use Rattle.alpha.specs.Affine.{dot, rowAt, stands, meets, meetsAll, image, scale, addAll, zeroes, combine, rowAfter, constraintAfter, mapAfter, wider, idRows, identity}
+use Rattle.alpha.specs.Affine.{dot, rowAt, stands, meets, meetsAll, image, scale, addAll, zeroes, combine, rowAfter, constraintAfter, wider, idRows, identity}
 
 -- ---- at a point, coefficients scaled and added
 
@@ -81,3 +82,44 @@ length-image (r ∷ rs) z = ap suc (length-image rs z)
 pub length-zeroes : (n : ℕ) → length (zeroes n) ≡ n
 length-zeroes zero = refl
 length-zeroes (suc n) = ap suc (length-zeroes n)
+
+-- each row has n coefficients
+abbrev pub Even : ℕ → List Row → Type 0
+Even n [] = Unit {0}
+Even n (r ∷ rs) = (length (r .coefs) ≡ n) × Even n rs
+
+length-scale : (c : ℤ) (xs : List ℤ) → length (scale c xs) ≡ length xs
+length-scale c [] = refl
+length-scale c (x ∷ xs) = ap suc (length-scale c xs)
+
+length-addAll : (xs ys : List ℤ) → length xs ≡ length ys → length (addAll xs ys) ≡ length ys
+length-addAll [] ys e = refl
+length-addAll (x ∷ xs) [] e = e
+length-addAll (x ∷ xs) (y ∷ ys) e = ap suc (length-addAll xs ys (omega arith))
+
+length-combine : (cs : List ℤ) (rs : List Row) (n : ℕ) → Even n rs → length (combine cs rs n .coefs) ≡ n
+length-combine [] rs n h = length-zeroes n
+length-combine (c ∷ cs) [] n h = length-zeroes n
+length-combine (c ∷ cs) (r ∷ rs) n h =
+    let rest = length-combine cs rs n (h .1) in
+    length-addAll (scale c (r .coefs)) (combine cs rs n .coefs) (length-scale c (r .coefs) ∙ h .0 ∙ sym rest) ∙ rest
+
+-- a row after f has as many coefficients as f has columns
+pub length-rowAfter : (f : Map) (w : Row) → Even (f .cols) (f .rows) → length (rowAfter f w .coefs) ≡ f .cols
+length-rowAfter f w h = length-combine (w .coefs) (f .rows) (f .cols) h
+
+pub even-after : (f : Map) (rs : List Row) → Even (f .cols) (f .rows) → Even (f .cols) (map (rowAfter f) rs)
+even-after f [] h = tt
+even-after f (r ∷ rs) h = (length-rowAfter f r h, even-after f rs h)
+
+even-wider : (n : ℕ) (rs : List Row) → Even n rs → Even (suc n) (map wider rs)
+even-wider n [] h = tt
+even-wider n (r ∷ rs) h = (ap suc (h .0), even-wider n rs (h .1))
+
+pub even-identity : (n : ℕ) → Even n (identity n .rows)
+even-identity zero = tt
+even-identity (suc n) = (ap suc (length-zeroes n), even-wider n (idRows n) (even-identity n))
+
+pub length-identity : (n : ℕ) → length (identity n .rows) ≡ n
+length-identity zero = refl
+length-identity (suc n) = ap suc (length-map (idRows n) wider ∙ length-identity n)
