@@ -6,3 +6,4 @@ pub mod Heads
 pub mod Boxes
 pub mod Variables
 pub mod Sections
+pub mod Rows

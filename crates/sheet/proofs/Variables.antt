@@ -4,7 +4,7 @@ use mathlib.Core.Bool.{Bool, true, false, not, _&&_, _||_}
 use mathlib.Core.List.{List, [], _∷_, _++_, map}
 use Prim.Native.Nat.{ℕ, zero, suc, _+_, _-_, _*_, _≤_, _<_}
 use native.Mathlib.Omega.{arith}
-use native.Mathlib.Decide.{ℕ-discrete}
+use borrow.Author.Count.{below-more}
 use borrow.Author.Tests.{le-leb, lt-leb, leb-true, leb-false}
 use lib.ListN.{length, getD, take, set, length-set}
 use lib.Seq.{getD-set-same, getD-set-other, take-set-le, take-suc-set, take-append-le, take-at, take-all}
@@ -150,14 +150,6 @@ points-last : (hs : List Head) (h : Head) → points (hs ++ (h ∷ [])) ≡ poin
 points-last [] h = omega arith
 points-last (x ∷ hs) h = let e = points-last hs h in omega arith
 
--- what holds below k and at k holds up to k
-below-or-last : (k : ℕ) (P : ℕ → Type 0) → ((i : ℕ) → i < k → P i) → P k → (i : ℕ) → i < k + 1 → P i
-below-or-last k P below last i h = go (ℕ-discrete i k)
-  where
-    go : Dec (i ≡ k) → P i
-    go (yes e) = subst P (sym e) last
-    go (no ne) = below i (let r : ¬ (i ≡ k) = ne in omega arith)
-
 head-size : (bs : List ℕ) (p : ℕ) → size (headAt bs p .box) ≡ size (boxAt bs (p + 32) (dimensionAt bs p))
 unfolding headAt
 head-size bs p = refl
@@ -255,12 +247,12 @@ module _ {bs : List ℕ} {at n : ℕ} {tab : List ℕ} {k total p : ℕ} (inv : 
             known = record {
               sized = length-set (set tab k p) (32 + k) total ∙ length-set tab k p ∙ sized;
               few = omega arith;
-              recorded = below-or-last k (λ i. Recorded bs (getD (stored tab k p total) i 0))
+              recorded = below-more (λ i. Recorded bs (getD (stored tab k p total) i 0)) k
                   (λ i h. rw (stored-before tab k p total sized small i h) (inv .known .recorded i h))
                   (rw (stored-record tab k p total sized small) (read .recorded));
             };
             decides = onward exact (omega arith) ∙ ap2 all-heads;
-            firsts = below-or-last k (λ i. getD (stored tab k p total) (32 + i) 0 ≡ before (headsAt bs (take (k + 1) (stored tab k p total))) i)
+            firsts = below-more (λ i. getD (stored tab k p total) (32 + i) 0 ≡ before (headsAt bs (take (k + 1) (stored tab k p total))) i) k
                 (λ i h. stored-first-before tab k p total sized small i h ∙ inv .firsts i h ∙ sym (ap (λ (l : List Head). before l i) all-heads ∙ ap points (take-append-le i hs (headAt bs p ∷ []) (omega arith))))
                 (stored-first tab k p total sized small ∙ inv .sum ∙ sym (ap (λ (l : List Head). before l k) all-heads ∙ ap points (take-at hs (headAt bs p ∷ []) k length-hs)));
             sum =
@@ -300,7 +292,7 @@ module _ {bs : List ℕ} {at n : ℕ} {tab : List ℕ} {k total p : ℕ} (inv : 
               recorded = λ i l. rw (getD-set-other tab (32 + n) i total 0 (λ r. omega arith)) (inv .known .recorded i (omega arith));
             };
             gives = inv .decides ∙ ap (λ (m : ℕ). heads m hs total bs p) none ∙ ap (λ (l : List Head). got l p) (sym all-heads);
-            firsts = λ i l. below-or-last n (λ j. getD (set tab (32 + n) total) (32 + j) 0 ≡ before (headsAt bs (take n (set tab (32 + n) total))) j)
+            firsts = λ i l. below-more (λ j. getD (set tab (32 + n) total) (32 + j) 0 ≡ before (headsAt bs (take n (set tab (32 + n) total))) j) n
                 (λ j m. getD-set-other tab (32 + n) (32 + j) total 0 (λ r. omega arith) ∙ inv .firsts j (omega arith) ∙ sym (ap (λ (x : List Head). before x j) all-heads))
                 (getD-set-same tab (32 + n) total 0 (omega arith) ∙ inv .sum ∙ sym (ap (λ (x : List Head). before x n) all-heads ∙ ap points (take-all n hs (omega arith))))
                 i (omega arith);

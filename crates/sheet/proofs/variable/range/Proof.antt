@@ -1,7 +1,9 @@
 -- `range` meets its contract: lo, then hi from lo on. Assumes nothing.
 use borrow.Author.Needs.{needs}
-use mathlib.Core.Path.{sym, _∙_}
-use lib.IntN.{pos, negℤ}
+use mathlib.Core.Path.{sym, ap, _∙_}
+use lib.IntN.{ℤ, pos, negℤ}
+use Rattle.alpha.specs.Read.{number}
+use Rattle.sheet.specs.Place.{placeAfter}
 use Rattle.sheet.proofs.Readers.{range-place, goes-on, stops}
 use Rattle.sheet.proofs.Places.{number-came}
 use Rattle.sheet.proofs.variable.range.Statement.{statement}
@@ -39,7 +41,8 @@ returns-2 : tie.Need-returns-2
 returns-2 c =
     let ends = c .before .before .before .before .before .before in
     let first = rw (ends .before .of .ensures, ends .of2 .ensures) at (c .before .before .before .before .before .number-field .ensures) in
-    rw (c .before .number-at .ensures, ends .of2 .ensures) at (c .number-field2 .ensures)
+    rw (ends .of2 .ensures) at (c .number-field2 .ensures)
+    ∙ ap (λ (x : ℤ). placeAfter (number x (pos 32767) (c .before .before .before .before .before .before .before .before .before .args .s .now) (c .before .before .before .r .given .0 .0))) (c .before .number-at .ensures)
     ∙ sym (range-place _ _ ∙ goes-on _ first _ _ (c .before .before .before .r .given .1))
 
 pub range-spec : {M : Type 1} → statement M
