@@ -7,3 +7,4 @@ pub mod Boxes
 pub mod Variables
 pub mod Sections
 pub mod Rows
+pub mod Accepted

@@ -146,7 +146,7 @@ heads-last : (bs ps : List ℕ) (p : ℕ) → headsAt bs (ps ++ (p ∷ [])) ≡ 
 heads-last bs [] p = refl
 heads-last bs (q ∷ ps) p = ap (λ (l : List Head). headAt bs q ∷ l) (heads-last bs ps p)
 
-points-last : (hs : List Head) (h : Head) → points (hs ++ (h ∷ [])) ≡ points hs + size (h .box)
+pub points-last : (hs : List Head) (h : Head) → points (hs ++ (h ∷ [])) ≡ points hs + size (h .box)
 points-last [] h = omega arith
 points-last (x ∷ hs) h = let e = points-last hs h in omega arith
 
