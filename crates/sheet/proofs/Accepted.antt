@@ -48,7 +48,8 @@ record Stand (bs : List ℕ) (hs : List Head) (n : ℕ) : Type 0 where
   total : points hs ≤ 4096
   head : (v : ℕ) → v < length hs → HeadStands bs (getD hs v noHead)
 
-one-more : (bs : List ℕ) (hs : List Head) (n p : ℕ) → Stand bs hs n → Recorded bs p → points hs + size (headAt bs p .box) ≤ 4096 → Stand bs (hs ++ (headAt bs p ∷ [])) (n + 1)
+one-more : (bs : List ℕ) (hs : List Head) (n p : ℕ) → Stand bs hs n → Recorded bs p →
+    points hs + size (headAt bs p .box) ≤ 4096 → Stand bs (hs ++ (headAt bs p ∷ [])) (n + 1)
 unfolding headAt
 one-more bs hs n p s r few =
     let longer : length (hs ++ (headAt bs p ∷ [])) ≡ length hs + 1 = length-append hs (headAt bs p ∷ []) in
@@ -63,13 +64,16 @@ one-more bs hs n p s r few =
 
 -- a record more, within the limit
 judged : (bs : List ℕ) (k : ℕ) (earlier : List Head) (p t : ℕ) {hs : List Head} {q : ℕ} →
-    ifb (leb (points earlier + size (headAt bs p .box)) 4096) (λ _. heads k (earlier ++ (headAt bs p ∷ [])) (points earlier + size (headAt bs p .box)) bs t) (λ _. bad COUNT p) ≡ got hs q →
+    ifb (leb (points earlier + size (headAt bs p .box)) 4096)
+    (λ _. heads k (earlier ++ (headAt bs p ∷ [])) (points earlier + size (headAt bs p .box)) bs t)
+    (λ _. bad COUNT p) ≡ got hs q →
     (points earlier + size (headAt bs p .box) ≤ 4096) × (heads k (earlier ++ (headAt bs p ∷ [])) (points (earlier ++ (headAt bs p ∷ []))) bs t ≡ got hs q)
 judged bs k earlier p t h =
     let test = test-got (leb (points earlier + size (headAt bs p .box)) 4096) _ COUNT p h in
     (leb-true (points earlier + size (headAt bs p .box)) 4096 (test .0), rw (points-last earlier (headAt bs p)) (test .1))
 
-heads-stand : (bs : List ℕ) (k : ℕ) (earlier : List Head) (p n : ℕ) {hs : List Head} {q : ℕ} → heads k earlier (points earlier) bs p ≡ got hs q → Stand bs earlier n → Stand bs hs (n + k)
+heads-stand : (bs : List ℕ) (k : ℕ) (earlier : List Head) (p n : ℕ) {hs : List Head} {q : ℕ} →
+    heads k earlier (points earlier) bs p ≡ got hs q → Stand bs earlier n → Stand bs hs (n + k)
 unfolding heads
 heads-stand bs zero earlier p n {hs} e s =
     let same : earlier ≡ hs = cc in
@@ -99,7 +103,8 @@ record ThirdRead (bs : List ℕ) (hs : List Head) (ds : List Declared) (second t
   all : placeAfter (repeat (natAbs (field bs third)) (node (length hs)) bs (third + 8)) ≡ accepted (length bs)
   is : rawOf hs ds second third (third + 8) (natAbs (field bs third)) ≡ raw
 
-third-read : (bs : List ℕ) (hs : List Head) (ds : List Declared) (second third : ℕ) (raw : Raw) (p : ℕ) → fromThird bs hs second ds third ≡ got raw p → ThirdRead bs hs ds second third raw
+third-read : (bs : List ℕ) (hs : List Head) (ds : List Declared) (second third : ℕ) (raw : Raw) (p : ℕ) →
+    fromThird bs hs second ds third ≡ got raw p → ThirdRead bs hs ds second third raw
 unfolding fromThird ended
 third-read bs hs ds second third raw p e =
     let one = after-got (count 0 2048 bs third) _ e in
@@ -117,7 +122,8 @@ record SecondRead (bs : List ℕ) (hs : List Head) (second : ℕ) (raw : Raw) (p
   gives : repeat (natAbs (field bs second)) (declared hs) bs (second + 8) ≡ got ds third
   rest : fromThird bs hs second ds third ≡ got raw p
 
-second-read : (bs : List ℕ) (hs : List Head) (second : ℕ) (raw : Raw) (p : ℕ) → fromSecond bs hs second ≡ got raw p → (ds : List Declared) × (third : ℕ) × SecondRead bs hs second raw p ds third
+second-read : (bs : List ℕ) (hs : List Head) (second : ℕ) (raw : Raw) (p : ℕ) →
+    fromSecond bs hs second ≡ got raw p → (ds : List Declared) × (third : ℕ) × SecondRead bs hs second raw p ds third
 unfolding fromSecond
 second-read bs hs second raw p e =
     let one = after-got (count 0 256 bs second) _ e in
@@ -144,8 +150,17 @@ first-read bs raw p e =
     let two = after-got (heads (natAbs (field bs 0)) [] 0 bs (one .1)) (fromSecond bs) (rw is at (one .3)) in
     let none : Stand bs [] 0 = record { many = refl; total = omega arith; head = λ v h. absurd (omega arith) } in
     let stand = heads-stand bs (natAbs (field bs 0)) [] (one .1) 0 (two .2) none in
-    let plain : 0 + natAbs (field bs 0) ≡ natAbs (field bs 0) = omega arith in
-    (two .0, two .1, record { short = fits; stand = subst (λ (m : ℕ). Stand bs (two .0) m) plain stand; some = counted 1 32 came .0; few = counted 1 32 came .1; rest = two .3 })
+    let plain : 0 + natAbs (field bs 0) ≡ natAbs (field bs 0) = omega arith in (
+      two .0,
+      two .1,
+      record {
+        short = fits;
+        stand = subst (λ (m : ℕ). Stand bs (two .0) m) plain stand;
+        some = counted 1 32 came .0;
+        few = counted 1 32 came .1;
+        rest = two .3;
+      },
+    )
 
 -- ---- the whole
 

@@ -14,7 +14,8 @@ use Rattle.alpha.specs.Sheet.{Head, Row, Constraint, Declared}
 use Rattle.alpha.specs.Box.{within}
 use Rattle.alpha.specs.Read.{Got, got, Reader, after, repeat, choice, free, rowOf, constraint, declared, dimension, relationOf}
 use Rattle.sheet.specs.Place.{placeAfter}
-use Rattle.sheet.specs.Rows.{each, rowAt, constraintAt, declaredAt, declaredBytes, declaredPlace, declarationsAt, RowStands, ConstraintStands, DeclaredStands}
+use Rattle.sheet.specs.Rows.{each, rowAt, constraintAt, declaredAt, declaredBytes, declaredPlace, declarationsAt}
+use Rattle.sheet.specs.Rows.{RowStands, ConstraintStands, DeclaredStands}
 use Rattle.sheet.proofs.Places.{after-gave, pure-after, Passed, passing-passed, passing-gives, choice-passed, choice-then, counted}
 use Rattle.sheet.proofs.Readers.{any-next, next-accepted, row-place, constraint-place, declared-place}
 
@@ -61,7 +62,9 @@ repeat-strides {r = r} {bs} {f} {w} {P} s (suc n) p q e =
     let on = s .goes p (parts .0) (parts .1) in
     let rest = repeat-strides s n (p + w) q (rw on at (parts .2)) in
     record {
-      gives = after-gave (r bs p) _ (f p) (p + w) (rw on at (s .gives p (parts .0) (parts .1))) ∙ after-gave (repeat n r bs (p + w)) _ (each f w (p + w) n) q (rest .gives);
+      gives =
+          after-gave (r bs p) _ (f p) (p + w) (rw on at (s .gives p (parts .0) (parts .1)))
+          ∙ after-gave (repeat n r bs (p + w)) _ (each f w (p + w) n) q (rest .gives);
       goes = rest .goes ∙ later n;
       holds = each-holds (s .holds p (parts .0) (parts .1)) (rest .holds);
     }
@@ -102,14 +105,17 @@ row-strides bs n = record {
       let on = coefs p q e .goes in
       record {
         there = let room = last .0 in omega arith;
-        sizes = λ i h. below-more (λ j. natAbs (field bs (p + 8 * j)) ≤ 1099511627776) n (λ j l. coefs p q e .holds j l .1) (rw on at (last .1)) i (omega arith);
+        sizes = λ i h. below-more (λ j. natAbs (field bs (p + 8 * j)) ≤ 1099511627776) n
+            (λ j l. coefs p q e .holds j l .1) (rw on at (last .1)) i (omega arith);
       };
 }
   where
-    parts : (p q : ℕ) → placeAfter (rowOf n bs p) ≡ accepted q → (t : ℕ) × (placeAfter (repeat n free bs p) ≡ accepted t) × (placeAfter (free bs t) ≡ accepted q)
+    parts : (p q : ℕ) → placeAfter (rowOf n bs p) ≡ accepted q →
+        (t : ℕ) × (placeAfter (repeat n free bs p) ≡ accepted t) × (placeAfter (free bs t) ≡ accepted q)
     parts p q e = next-accepted (placeAfter (repeat n free bs p)) (λ t. placeAfter (free bs t)) (sym (row-place bs p n) ∙ e)
 
-    coefs : (p q : ℕ) (e : placeAfter (rowOf n bs p) ≡ accepted q) → Repeated free bs (field bs) 8 (λ t. (t + 8 ≤ length bs) × (natAbs (field bs t) ≤ 1099511627776)) n p (parts p q e .0)
+    coefs : (p q : ℕ) (e : placeAfter (rowOf n bs p) ≡ accepted q) →
+        Repeated free bs (field bs) 8 (λ t. (t + 8 ≤ length bs) × (natAbs (field bs t) ≤ 1099511627776)) n p (parts p q e .0)
     coefs p q e = repeat-strides (free-strides bs) n p (parts p q e .0) (parts p q e .1)
 
     const : (p q : ℕ) (e : placeAfter (rowOf n bs p) ≡ accepted q) → q ≡ parts p q e .0 + 8
@@ -132,7 +138,8 @@ constraint-strides bs n = record {
   };
 }
   where
-    parts : (p q : ℕ) → placeAfter (constraint n bs p) ≡ accepted q → (t : ℕ) × (placeAfter (choice 1 bs p) ≡ accepted t) × (placeAfter (rowOf n bs t) ≡ accepted q)
+    parts : (p q : ℕ) → placeAfter (constraint n bs p) ≡ accepted q →
+        (t : ℕ) × (placeAfter (choice 1 bs p) ≡ accepted t) × (placeAfter (rowOf n bs t) ≡ accepted q)
     parts p q e = next-accepted (placeAfter (choice 1 bs p)) (λ t. placeAfter (rowOf n bs t)) (sym (constraint-place bs p n) ∙ e)
 
     relation : (p q : ℕ) (e : placeAfter (constraint n bs p) ≡ accepted q) → Passed (within (pos 0) (pos 1)) bs p (parts p q e .0)
@@ -155,7 +162,9 @@ module _ (bs : List ℕ) (hs : List Head) (some : 1 ≤ length hs) where
       let what = rw (who .next) at (parts .2) in
       let on = constraint-strides bs n .goes (p + 8) q what in
       record {
-        gives = choice-then (length hs - 1) bs p _ (p + 8) (rw (who .next) at (parts .1)) ∙ after-gave (constraint n bs (p + 8)) _ (constraintAt bs n (p + 8)) q (constraint-strides bs n .gives (p + 8) q what);
+        gives =
+            choice-then (length hs - 1) bs p _ (p + 8) (rw (who .next) at (parts .1))
+            ∙ after-gave (constraint n bs (p + 8)) _ (constraintAt bs n (p + 8)) q (constraint-strides bs n .gives (p + 8) q what);
         goes = omega arith;
         stands = record { who = omega arith; what = constraint-strides bs n .holds (p + 8) q what };
       }
@@ -177,7 +186,9 @@ module _ (bs : List ℕ) (hs : List Head) (some : 1 ≤ length hs) where
       let one = declared-came p (parts .0) (parts .1) in
       let rest = declarations-came n (p + declaredBytes bs hs p) q (rw (one .goes) at (parts .2)) in
       record {
-        gives = after-gave (declared hs bs p) _ (declaredAt bs hs p) (p + declaredBytes bs hs p) (rw (one .goes) at (one .gives)) ∙ after-gave (repeat n (declared hs) bs (p + declaredBytes bs hs p)) _ (declarationsAt bs hs (p + declaredBytes bs hs p) n) q (rest .gives);
+        gives =
+            after-gave (declared hs bs p) _ (declaredAt bs hs p) (p + declaredBytes bs hs p) (rw (one .goes) at (one .gives))
+            ∙ after-gave (repeat n (declared hs) bs (p + declaredBytes bs hs p)) _ (declarationsAt bs hs (p + declaredBytes bs hs p) n) q (rest .gives);
         goes = rest .goes;
         stands = all (one .stands) (rest .stands);
       }
@@ -192,7 +203,8 @@ unfolding declarationsAt
 declarations-length bs hs p zero = refl
 declarations-length bs hs p (suc n) = ap suc (declarations-length bs hs (p + declaredBytes bs hs p) n)
 
-pub declarations-at : (bs : List ℕ) (hs : List Head) (p n : ℕ) (d : Declared) (k : ℕ) → k < n → getD (declarationsAt bs hs p n) k d ≡ declaredAt bs hs (declaredPlace bs hs p k)
+pub declarations-at : (bs : List ℕ) (hs : List Head) (p n : ℕ) (d : Declared) (k : ℕ) → k < n →
+    getD (declarationsAt bs hs p n) k d ≡ declaredAt bs hs (declaredPlace bs hs p k)
 unfolding declarationsAt declaredPlace
 declarations-at bs hs p zero d k h = absurd (omega arith)
 declarations-at bs hs p (suc n) d zero h = refl
