@@ -9,6 +9,8 @@ pub mod Order
 pub mod Boxes
 pub mod Elements
 pub mod Growth
+pub mod Ring
+pub mod Sizes
 pub mod Composed
 pub mod NormalForm
 pub mod Heads

@@ -17,7 +17,7 @@ use Rattle.alpha.specs.Normal.{Branch, push, norm, norms, asExprs, bodyCase}
 use Rattle.laws.specs.Normal.{isLeaf, treeForm}
 use Rattle.laws.specs.Wide.{RowsWide, ConstraintsWide, Wide, AllWide}
 use Rattle.laws.proofs.Tests.{true-not-false, &&-left, &&-right}
-use Rattle.laws.proofs.Composed.{one-*ℤ}
+use Rattle.laws.proofs.Ring.{one-*ℤ}
 use Rattle.laws.proofs.Branches.{AllBranches, Rules, norm-all}
 use Rattle.laws.proofs.NormalChecks.{HasForm, form-rules, fits-rules, FitsToo, AllFitToo}
 
