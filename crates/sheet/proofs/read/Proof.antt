@@ -17,7 +17,9 @@ use Rattle.sheet.specs.Section.{secondSection, thirdSection}
 use Rattle.sheet.specs.Table.{Table, noted}
 use Rattle.sheet.proofs.Places.{Passed, came-to, count-came, counted}
 use Rattle.sheet.proofs.Heads.{heads-length}
-use Rattle.sheet.proofs.Sections.{rawOf, fromSecond, fromThird, read-long, read-sections, part-stops, first-goes, heads-go, second-goes, third-stops, third-goes, third-there, tail-refused, read-ends, reads-refused, reads-stopped, reads-accepted, noted-table, table-total}
+use Rattle.sheet.proofs.Sections.{rawOf, fromSecond, fromThird}
+use Rattle.sheet.proofs.Sections.{read-long, read-sections, part-stops, first-goes, heads-go, second-goes, third-stops, third-goes, third-there, tail-refused, read-ends}
+use Rattle.sheet.proofs.Sections.{reads-refused, reads-stopped, reads-accepted, noted-table, table-total}
 use Rattle.sheet.proofs.read.Statement.{statement}
 use Rattle.sheet.proofs.read.Tie as tie
 
@@ -34,7 +36,7 @@ binding c = c .before .before .before .before
 -- what stands there: the sheet, the number of variables, the place of the first record, the table that was filled, the records,
 -- and the places of the sections and of the end
 abbrev sheet : tie.After-count-at → List ℕ
-sheet c = c .before .before .before .before .before .before .before .args .s .now
+sheet c = c .before .before .before .before .before .before .before .before .before .args .s .now
 
 abbrev start : tie.After-count-at → ℕ
 start c = c .before .before .a .given .0 .0
@@ -61,8 +63,10 @@ abbrev end : tie.After-known-told4 → ℕ
 end c = c .before .d .given .0 .0
 
 -- the count of variables was read
-counts : (c : tie.After-known-told) → Passed (within (pos 1) (pos 32)) (c .before .before .before .before .before .before .args .s .now) 0 (c .before .a .given .0 .0)
-counts c = let s = c .before .before .before .before .before .before .args .s .now in count-came s 0 _ _ (c .before .a .given .1) 1 32 (c .before .before .before .count-field .ensures)
+counts : (c : tie.After-known-told) → Passed (within (pos 1) (pos 32)) (c .before .before .before .before .before .before .before .before .args .s .now) 0 (c .before .a .given .0 .0)
+counts c =
+    let s = c .before .before .before .before .before .before .before .before .args .s .now in
+    count-came s 0 _ _ (c .before .a .given .1) 1 32 (c .before .before .before .count-field .ensures)
 
 some : (c : tie.After-count-at) → (1 ≤ c .count-at .result) × (c .count-at .result ≤ 32)
 some c = let e = c .count-at .ensures in let h = counted 1 32 (counts (c .before)) in (omega arith, omega arith)
@@ -111,6 +115,9 @@ read-all c =
     let all = subst (λ (n : ℕ). placeAfter (thirdSection n (bytes m) t) ≡ accepted (end c)) many-heads (came-third c) in
     third-goes (bytes m) (records m) (second m) (b .0) t (b .1) (end c) all
 
+entries-requires : tie.Need-entries-requires
+entries-requires c κs = search needs
+
 returns : tie.Need-returns
 returns c = reads-refused refl (read-long _ (search needs))
 
@@ -128,7 +135,7 @@ verdict-requires c κs = search needs
 
 returns-2 : tie.Need-returns-2
 returns-2 c =
-    let s = c .before .before .before .before .before .before .args .s .now in
+    let s = c .before .before .before .before .before .before .before .before .args .s .now in
     let refused = c .before .enum-told .given .1 in
     let stops = part-stops s (count 1 32 s 0) _ (read-sections s (search needs)) _ (c .before .before .before .count-field .ensures) _ refused in
     reads-stopped _ _ _ refused (c .verdict .ensures) stops
@@ -137,7 +144,7 @@ count-at-requires : tie.Need-count-at-requires
 count-at-requires c κs = counts c .there
 
 heads-requires : tie.Need-heads-requires
-heads-requires c κs = (c .before .before .before .before .before .before .before .before .pre, some (c .before) .1)
+heads-requires c κs = (c .before .before .before .before .before .before .before .entries .ensures .1, some (c .before) .1)
 
 enum-known-b : tie.Need-enum-known-b
 enum-known-b c = search needs
@@ -228,6 +235,7 @@ pub read-spec : {M : Type 1} → statement M
 read-spec =
     tie.close
     (tie.spec
+    entries-requires
     returns
     count-field-requires
     enum-known-a

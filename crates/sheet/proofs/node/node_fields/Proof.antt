@@ -3,7 +3,8 @@ use borrow.Author.Needs.{needs}
 use native.Mathlib.Omega.{arith}
 use mathlib.Core.Path.{_≡_, sym, _∙_}
 use Prim.Native.Nat.{ℕ, suc, _≤_, zero-le}
-use Rattle.sheet.proofs.Readers.{variable-fields, integer-fields, boolean-fields, unary-fields, binary-fields, if-fields, case-fields, restriction-fields, dependence-fields}
+use Rattle.sheet.proofs.Readers.{variable-fields, integer-fields, boolean-fields, unary-fields, binary-fields}
+use Rattle.sheet.proofs.Readers.{if-fields, case-fields, restriction-fields, dependence-fields}
 use Rattle.sheet.proofs.node.node_fields.Statement.{statement}
 use Rattle.sheet.proofs.node.node_fields.Tie as tie
 

@@ -38,7 +38,9 @@ count-at-requires : tie.Need-count-at-requires
 count-at-requires c κs = count-came _ _ _ _ (c .before .b .given .1) 0 64 (c .before .before .before .count-field2 .ensures) .there
 
 count-at-requires-2 : tie.Need-count-at-requires-2
-count-at-requires-2 c κs = let a = c .before .before .before .before .before .before in count-came _ _ _ _ (a .a .given .1) 0 4 (a .before .before .count-field .ensures) .there
+count-at-requires-2 c κs =
+    let a = c .before .before .before .before .before .before in
+    count-came _ _ _ _ (a .a .given .1) 0 4 (a .before .before .count-field .ensures) .there
 
 constraints-requires : tie.Need-constraints-requires
 constraints-requires c κs = search needs

@@ -5,7 +5,8 @@ use mathlib.Core.Path.{_≡_, sym, ap, _∙_, subst}
 use Prim.Native.Nat.{ℕ, _-_, _+_, _≤_}
 use lib.ListN.{take}
 use Rattle.sheet.specs.Record.{headsAt, dimensionAt, boxAt, Ranges}
-use Rattle.sheet.proofs.Variables.{Reading, HeadRead, capped-small, head-passed, reading-start, reading-stops, reading-over, reading-more, reading-done, filled-fills}
+use Rattle.sheet.proofs.Variables.{Reading, HeadRead, capped-small, head-passed}
+use Rattle.sheet.proofs.Variables.{reading-start, reading-stops, reading-over, reading-more, reading-done, filled-fills}
 use Rattle.sheet.proofs.variable.heads.Statement.{statement}
 use Rattle.sheet.proofs.variable.heads.Tie as tie
 
