@@ -1,0 +1,6 @@
+-- The three demands are met by the definitions and by every result that keeps the promises.
+pub mod Records
+pub mod SameRun
+pub mod Again
+pub mod Limits
+pub mod Demands
