@@ -1,6 +1,6 @@
 -- Rewriting the normal form of an accepted sheet writes the same bytes again. Assumes nothing.
-use mathlib.Core.Path.{_≡_, refl, sym, ap, _∙_, subst, fun-ext}
-use Prim.Native.Nat.{ℕ, zero, suc, _+_, _≤_, _<_}
+use mathlib.Core.Path.{_≡_, refl, ap, _∙_, subst, fun-ext}
+use Prim.Native.Nat.{ℕ, suc, _+_, _≤_, _<_}
 use native.Mathlib.Nat.{zero-add}
 use native.Mathlib.Omega.{arith}
 use mathlib.Core.Bool.{Bool, true, false}
@@ -12,7 +12,7 @@ use borrow.Author.Tests.{le-leb, leb-true}
 use Rattle.alpha.specs.Pick.{ifb}
 use Rattle.alpha.specs.Answer.{Answer, accepted, refused, next, WIDE, ROOM}
 use Rattle.alpha.specs.Field.{nat}
-use Rattle.alpha.specs.Sheet.{Raw, Variable, Sheet, Expr.kase, Exprs.none}
+use Rattle.alpha.specs.Sheet.{Raw, Sheet, Expr.kase, Exprs.none}
 use Rattle.alpha.specs.Read.{got, read, dimension}
 use Rattle.alpha.specs.Holds.{variable, isInput}
 use Rattle.alpha.specs.Check.{checked, afterRead, check}

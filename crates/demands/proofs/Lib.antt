@@ -3,4 +3,7 @@ pub mod Records
 pub mod SameRun
 pub mod Again
 pub mod Limits
+pub mod Listed
+pub mod Passes
+pub mod Kept
 pub mod Demands

@@ -1,9 +1,9 @@
 -- The normaliser writes the normal form exactly where it keeps the limits: WIDE is refused for no other sheet. Assumes nothing.
-use mathlib.Core.Path.{_≡_, refl, sym, ap, _∙_, subst}
+use mathlib.Core.Path.{_≡_, refl, sym, ap, _∙_}
 use Prim.Native.Nat.{ℕ, zero, suc, _+_, _≤_, _<_}
 use native.Mathlib.Nat.{zero-add, add-zero}
 use native.Mathlib.Omega.{arith}
-use mathlib.Core.Bool.{Bool, true, false, _&&_}
+use mathlib.Core.Bool.{Bool, true, false}
 use mathlib.Core.List.{List, [], _∷_, _++_, append-nil, append-assoc}
 use lib.ListN.{length, getD, take, length-append}
 use lib.Seq.{length-take-le}
@@ -15,16 +15,20 @@ use Rattle.alpha.specs.Field.{nat}
 use Rattle.alpha.specs.Sheet.{Raw, Variable, Sheet}
 use Rattle.alpha.specs.Read.{got, read}
 use Rattle.alpha.specs.Holds.{variable, isInput}
+use Rattle.alpha.specs.Check.{check}
+use Rattle.alpha.specs.Run.{room}
 use Rattle.alpha.specs.Written.{bytes, nodeCount, depth}
 use Rattle.alpha.specs.Normal.{Branch}
-use Rattle.alpha.specs.Normalise.{branchesOf, normalBody, narrow, keepsLimits, Body, written, writeBodies, normalForm}
+use Rattle.alpha.specs.Normalise.{branchesOf, normalBody, narrow, keepsLimits, Body, written, writeBodies, normalForm, normalise}
 use Rattle.laws.specs.Accepted.{Accepted}
 use Rattle.laws.specs.Normal.{bodyBytes, bodyNodes}
 use Rattle.laws.specs.Sheets.{gotRaw}
 use Rattle.laws.proofs.Tests.{&&-left, &&-right, &&-true}
+use Rattle.laws.proofs.Checked.{check-accepts}
 use Rattle.laws.proofs.Written.{length-bytesOf}
-use Rattle.laws.proofs.Rewritten.{Kept, AllKept, Wrote, write-wrote}
+use Rattle.laws.proofs.Rewritten.{Kept, AllKept, write-wrote}
 use Rattle.laws.proofs.NormalAccepted.{kept-at}
+use Rattle.demands.proofs.Again.{room-enough, after-found}
 use Rattle.demands.specs.Demands.{sections, normalBytes, BodyKeeps, KeepsLimits}
 
 -- ---- a body
@@ -137,3 +141,13 @@ module _ {bs : List ℕ} {r : Raw} {s : Sheet} {q : ℕ} (a : Accepted bs r s) (
             long = omega (arith, normal-length, ap length (h .out-is), h .few-bytes (omega (arith, a .short, a .parts .first-is, a .parts .first-there)));
           }
       go (refused n p) k f = let z : _≡_ {A = ℕ} 0 1 = cc in absurd (omega arith)
+
+-- with the room lent
+pub kept-written : (bs : List ℕ) (s : Sheet) (lent : ℕ) → check bs ≡ accepted s → KeepsLimits bs s → length (normalBytes bs s) ≤ lent →
+    normalise bs lent ≡ accepted (normalBytes bs s)
+unfolding normalise
+kept-written bs s lent c k l =
+    let f = check-accepts c in
+    let o = normalBytes bs s in
+    ap (λ m. next m (λ out. next (room (length out) lent) (λ _. accepted out))) (after-found f c ∙ kept-form (f .holds-all) (f .read-is) k)
+    ∙ ap (λ m. next m (λ _. accepted o)) (room-enough (length o) lent l)

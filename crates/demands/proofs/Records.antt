@@ -3,14 +3,13 @@
 use mathlib.Core.Path.{_≡_, refl, sym, ap, _∙_}
 use Prim.Native.Nat.{ℕ, suc, _+_}
 use mathlib.Core.Bool.{Bool, true, false}
-use mathlib.Core.List.{List, [], _∷_, _++_, map}
+use mathlib.Core.List.{List, [], _∷_, map}
 use lib.ListN.{length}
 use lib.IntN.{ℤ}
 use Rattle.alpha.specs.Pick.{ifb}
-use Rattle.alpha.specs.Answer.{Answer}
 use Rattle.alpha.specs.Sheet.{Head, Expr, Variable, Sheet, Expr.kase, Exprs.none}
 use Rattle.alpha.specs.Holds.{isInput}
-use Rattle.alpha.specs.Check.{Element, elementsFrom, elements, total}
+use Rattle.alpha.specs.Check.{elementsFrom, elements, total}
 use Rattle.alpha.specs.Run.{inputCount, entries, inputs}
 use Rattle.alpha.specs.Written.{bytes}
 use Rattle.alpha.specs.Normalise.{normalBody}

@@ -1,15 +1,14 @@
 -- The bytes of the normal form run as the sheet's do: for every input list and every length lent, the same tables or the same refusal; and
 -- the program reports the same of both. Assumes nothing.
-use mathlib.Core.Path.{_≡_, refl, sym, ap, _∙_, fun-ext}
+use mathlib.Core.Path.{_≡_, refl, ap, _∙_, fun-ext}
 use Prim.Native.Nat.{ℕ, _/_}
-use mathlib.Core.List.{List, [], _∷_, map}
+use mathlib.Core.List.{List, map}
 use lib.ListN.{length}
 use lib.IntN.{ℤ}
 use Rattle.alpha.specs.Answer.{Answer, accepted, refused, next}
-use Rattle.alpha.specs.Sheet.{Head, Raw, Sheet}
-use Rattle.alpha.specs.Holds.{variable}
+use Rattle.alpha.specs.Sheet.{Raw, Sheet}
 use Rattle.alpha.specs.Check.{Element, elements, total, check}
-use Rattle.alpha.specs.Outcome.{outcome, deepest}
+use Rattle.alpha.specs.Outcome.{deepest}
 use Rattle.alpha.specs.Run.{outcomeAt, codeOf, valueOf, Tables, tables, inputs, room, admitted, run}
 use Rattle.alpha.specs.Program.{line, report, valuesAt, inputsFrom, framed}
 use Rattle.laws.specs.Accepted.{Accepted}

@@ -2,14 +2,14 @@
 -- document 01; demands 1 and 2 say what a result that keeps its promise is, and demand 3 says what the normal form is. Assumes nothing.
 use mathlib.Core.Path.{_≡_}
 use mathlib.Core.Logic.{_↔_}
-use Prim.Native.Nat.{ℕ, _+_, _≤_, _<_}
+use Prim.Native.Nat.{ℕ, _-_, _≤_, _<_}
 use mathlib.Core.Bool.{true, false}
-use mathlib.Core.List.{List, [], _∷_, _++_, map}
+use mathlib.Core.List.{List, [], _++_, map}
 use lib.ListN.{length, getD, take, drop}
 use lib.IntN.{ℤ, pos}
-use Rattle.alpha.specs.Answer.{Answer, accepted, refused}
+use Rattle.alpha.specs.Answer.{accepted, refused}
 use Rattle.alpha.specs.Field.{nat}
-use Rattle.alpha.specs.Sheet.{Head, Raw, Constraint, Variable, Sheet, Point}
+use Rattle.alpha.specs.Sheet.{Raw, Variable, Sheet, Point}
 use Rattle.alpha.specs.Box.{inBox}
 use Rattle.alpha.specs.Holds.{variable, isInput}
 use Rattle.alpha.specs.Check.{Element, elements, total, check}
@@ -101,6 +101,14 @@ pub record Rewrote (sheet out out′ : List ℕ) (n : ℕ) : Type 0 where
   pub beyond : drop n out′ ≡ drop n out
   pub out-length : length out′ ≡ length out
 
+-- the element z of variable v has number n
+pub record HasNumber (sheet : List ℕ) (v : ℕ) (z : Point) (n : ℕ) : Type 0 where
+  pub sheet-is : Sheet
+  pub checked : check sheet ≡ accepted sheet-is
+  pub known : v < length sheet-is
+  pub inside : inBox (variable sheet-is v .head .box) z ≡ true
+  pub number-is : n ≡ Ask.numberOf sheet-is v z
+
 pub record Demand2 : Type 0 where
   -- the check accepts exactly the sheets that stand in their bytes as document 01 says and pass its tests
   pub passes : (bs : List ℕ) (s : Sheet) → (check bs ≡ accepted s) ↔ ((r : Raw) × Checked.Accepted bs r s)
@@ -117,6 +125,14 @@ pub record Demand2 : Type 0 where
   pub normalise-accepts : (sheet out out′ : List ℕ) (n : ℕ) → Normalises sheet out out′ (Accepted n) → Rewrote sheet out out′ n
   pub normalise-accepted : (sheet out out′ : List ℕ) (s : Sheet) (r : Verdict) → check sheet ≡ accepted s → KeepsLimits sheet s →
       length (normalBytes sheet s) ≤ length out → Normalises sheet out out′ r → r ≡ Accepted (length (normalBytes sheet s))
+  -- the element number
+  pub number-accepts : (sheet : List ℕ) (v : ℕ) (z : Point) (n : ℕ) → Numbers sheet v z (Accepted n) → HasNumber sheet v z n
+  pub number-accepted : (sheet : List ℕ) (v : ℕ) (z : Point) (s : Sheet) (r : Verdict) → check sheet ≡ accepted s → v < length s →
+      inBox (variable s v .head .box) z ≡ true → Numbers sheet v z r → r ≡ Accepted (Ask.numberOf s v z)
+  -- the body of a variable: its bytes; and nothing for an input or an unknown number
+  pub body-found : (sheet part : List ℕ) (v : ℕ) (s : Sheet) → check sheet ≡ accepted s → isInput (variable s v) ≡ false → Finds sheet v part →
+      part ≡ take (variable s v .end - variable s v .start) (drop (variable s v .start) sheet)
+  pub body-absent : (sheet part : List ℕ) (v : ℕ) (s : Sheet) → check sheet ≡ accepted s → isInput (variable s v) ≡ true → Finds sheet v part → part ≡ []
 
 -- ---- demand 3: the normal form
 
