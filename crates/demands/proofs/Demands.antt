@@ -18,14 +18,14 @@ use Prim.Native.Nat.{ℕ, _+_}
 use native.Mathlib.Omega.{arith}
 use mathlib.Core.Bool.{false}
 use mathlib.Core.List.{List}
-use lib.ListN.{take}
+use lib.ListN.{length, take}
 use Rattle.alpha.specs.Answer.{accepted}
 use Rattle.alpha.specs.Sheet.{Raw, Sheet}
 use Rattle.alpha.specs.Read.{got, read}
 use Rattle.alpha.specs.Holds.{variable, isInput}
 use Rattle.alpha.specs.Check.{check}
 use Rattle.alpha.specs.Outcome.{deepest}
-use Rattle.alpha.specs.Normalise.{normalForm}
+use Rattle.alpha.specs.Normalise.{normalForm, normalise}
 use Rattle.laws.specs.Accepted.{Accepted}
 use Rattle.laws.specs.Normal.{rewritten}
 use Rattle.laws.specs.Sheets.{gotRaw}
@@ -37,11 +37,12 @@ use Rattle.demands.proofs.Records.{elements-same, inputs-same, rewritte
 use Rattle.demands.proofs.SameRun.{run-same, framed-same}
 use Rattle.demands.proofs.Again.{normal-of, normalise-again, normalise-form}
 use Rattle.demands.proofs.Limits.{kept-written}
-use Rattle.demands.proofs.Listed.{check-answers, run-answers, normalise-answers, number-answers}
+use Rattle.demands.proofs.Listed.{check-answers, run-answers, normalise-answers, number-answers, body-answers}
 use Rattle.demands.proofs.Passes.{passes-exactly}
 use Rattle.demands.proofs.Kept.{check-refuses, check-accepts-only, check-accepted, run-refuses, run-accepts, run-accepted}
-use Rattle.demands.proofs.Kept.{normalise-refuses, normalise-accepts, normalise-accepted, number-refuses, number-accepts, number-accepted}
+use Rattle.demands.proofs.Kept.{normalise-refuses, normalise-wrote, normalise-accepts, normalise-accepted, number-refuses, number-accepts, number-accepted}
 use Rattle.demands.proofs.Kept.{body-refuses, body-found, body-absent}
+use Rattle.demands.proofs.Calls.{rewritten-calls}
 
 -- ---- demand 1
 
@@ -51,6 +52,7 @@ demand-1 = record {
   run-answers = run-answers;
   normalise-answers = normalise-answers;
   number-answers = number-answers;
+  body-answers = body-answers;
   check-refuses = check-refuses;
   run-refuses = run-refuses;
   normalise-refuses = normalise-refuses;
@@ -102,8 +104,16 @@ module _ {bs : List ℕ} {r : Raw} {s : Sheet} {q : ℕ} (a : Accepted bs r s) (
         again = normalise-again o (n .again);
       }
 
+normal-form-written : (bs : List ℕ) (s : Sheet) (lent : ℕ) (o : List ℕ) → check bs ≡ accepted s → normalise bs lent ≡ accepted o → NormalFormOf bs s o
+normal-form-written bs s lent o c e = let f = check-accepts c in normal-form-of (f .holds-all) (f .read-is) c o (normalise-form f lent o c e .form)
+
 pub demand-3 : Demand3
 demand-3 = record {
   writes = kept-written;
-  holds = λ bs s lent o c e. let f = check-accepts c in normal-form-of (f .holds-all) (f .read-is) c o (normalise-form f lent o c e .form);
+  holds = normal-form-written;
+  calls = λ sheet out out′ n h.
+      let w = normalise-wrote sheet out out′ n h in
+      let r = normalise-accepts sheet out out′ n h in
+      let f = normal-form-written sheet (r .sheet-is) (length out) (take n out′) (r .checked) (w .0) in
+      rewritten-calls sheet (r .sheet-is) (take n out′) (r .checked) f n (w .1);
 }

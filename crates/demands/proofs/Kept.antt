@@ -222,11 +222,20 @@ module _ (sheet out out′ : List ℕ) where
     out-length = length-same o out out′ os (r .fits);
   }
 
-  pub normalise-accepts : (n : ℕ) → Normalises sheet out out′ (Accepted n) → Rewrote sheet out out′ n
-  normalise-accepts n h =
+  -- what was written
+  pub normalise-wrote : (n : ℕ) → Normalises sheet out out′ (Accepted n) → (normalise sheet (length out) ≡ accepted (take n out′)) × (length (take n out′) ≡ n)
+  normalise-wrote n h =
       let a = next-accepted (normalise sheet (length out)) (λ o. accepted (length o)) n (sym (h .answer)) in
       let n-is : length (a .0) ≡ n = let e = a .2 in cc in
-      rewrote n (a .0) n-is (h .out-after ∙ ap (λ m. lentAfter m (λ o. o) out) (a .1)) (normalise-accepts-parts sheet (length out) (a .0) (a .1))
+      let os = h .out-after ∙ ap (λ m. lentAfter m (λ o. o) out) (a .1) in
+      let is : take n out′ ≡ a .0 = ap (λ m. take m out′) (sym n-is) ∙ front-written (a .0) out out′ os in
+      (a .1 ∙ ap accepted (sym is), ap length is ∙ n-is)
+
+  pub normalise-accepts : (n : ℕ) → Normalises sheet out out′ (Accepted n) → Rewrote sheet out out′ n
+  normalise-accepts n h =
+      let w = normalise-wrote n h in
+      let o = take n out′ in
+      rewrote n o (w .1) (h .out-after ∙ ap (λ m. lentAfter m (λ o. o) out) (w .0)) (normalise-accepts-parts sheet (length out) o (w .0))
 
   pub normalise-accepted : (s : Sheet) (r : Verdict) → check sheet ≡ accepted s → KeepsLimits sheet s → length (normalBytes sheet s) ≤ length out →
       Normalises sheet out out′ r → r ≡ Accepted (length (normalBytes sheet s))

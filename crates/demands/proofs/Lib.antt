@@ -6,4 +6,5 @@ pub mod Limits
 pub mod Listed
 pub mod Passes
 pub mod Kept
+pub mod Calls
 pub mod Demands

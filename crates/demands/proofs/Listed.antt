@@ -20,10 +20,10 @@ use Rattle.alpha.specs.Holds.{variable, isInput, holds, clashes}
 use Rattle.alpha.specs.Check.{Element, elements, total, first, typed, reached, tested, fault, faults, checked, afterRead, check}
 use Rattle.alpha.specs.Run.{inputCount, bits, entriesOf, entries, inputs, room, admitted, run}
 use Rattle.alpha.specs.Normalise.{branchesOf, normalBody, keepsLimits, Body, written, writeBodies, normalForm, normalAfter, normalise}
-use Rattle.alpha.specs.Ask.{asks, elementNumber}
+use Rattle.alpha.specs.Ask.{asks, elementNumber, bodyPart, bytesIn}
 use Rattle.alpha.specs.Ask as Ask
 use Rattle.alpha.specs.Verdict.{numberOf, placeOf, told}
-use Rattle.alpha.specs.Promise.{totalOf, lentAfter, Checks, Runs, Normalises, Numbers}
+use Rattle.alpha.specs.Promise.{totalOf, lentAfter, Checks, Runs, Normalises, Numbers, Finds}
 use Rattle.alpha.specs.declared.Refusal.{Refusal}
 use Rattle.alpha.specs.declared.Refusal.the-variants.{Long, Cut, Count, Name, Number, Tail, Shape, Typing, Reach, Gap, Clash, Input, Wide, Room, Ask}
 use Rattle.alpha.specs.declared.Verdict.{Verdict}
@@ -376,3 +376,6 @@ normalise-answers sheet out =
 
 pub number-answers : (sheet : List ℕ) (v : ℕ) (z : Point) → (r : Verdict) × Numbers sheet v z r
 number-answers sheet v z = let w = verdict-for (elementNumber sheet v z) (told-number sheet v z) in (w .0, record { answer = w .1 })
+
+pub body-answers : (sheet : List ℕ) (v : ℕ) → (part : List ℕ) × Finds sheet v part
+body-answers sheet v = (bytesIn (bodyPart sheet v) sheet, record { answer = refl })

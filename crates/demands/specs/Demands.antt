@@ -52,7 +52,7 @@ pub record KeepsLimits (bs : List ℕ) (s : Sheet) : Type 0 where
   pub nodes : bodyNodes s s ≤ 2048
   pub long : length (normalBytes bs s) ≤ 65536
 
--- ---- demand 1: a refusal gives its number and its place, and no lent entry differs from before
+-- ---- demand 1: every call has an answer, a refusal gives its number and its place, and no lent entry differs from before
 
 pub record Demand1 : Type 0 where
   -- every call has an answer for all that it is given
@@ -61,6 +61,7 @@ pub record Demand1 : Type 0 where
       (r : Verdict) × (codes′ : List ℕ) × (values′ : List ℤ) × Runs sheet ins codes codes′ values values′ r
   pub normalise-answers : (sheet out : List ℕ) → (r : Verdict) × (out′ : List ℕ) × Normalises sheet out out′ r
   pub number-answers : (sheet : List ℕ) (v : ℕ) (z : Point) → (r : Verdict) × Numbers sheet v z r
+  pub body-answers : (sheet : List ℕ) (v : ℕ) → (part : List ℕ) × Finds sheet v part
   -- the refusals
   pub check-refuses : (sheet : List ℕ) (k : Refusal) → Checks sheet (Refused k) → check sheet ≡ refused (numberOf k) (placeOf k)
   pub run-refuses : (sheet : List ℕ) (ins : List ℤ) (codes codes′ : List ℕ) (values values′ : List ℤ) (k : Refusal) →
@@ -157,9 +158,18 @@ pub record NormalFormOf (bs : List ℕ) (s : Sheet) (o : List ℕ) : Type 0 wher
   -- rewriting it writes the same bytes again
   pub again : (lent : ℕ) → length o ≤ lent → normalise o lent ≡ accepted o
 
+-- the same of the calls: o is what the normaliser has written of the sheet in n bytes
+pub record RewrittenCalls (sheet o : List ℕ) (n : ℕ) : Type 0 where
+  pub same-check : (r r′ : Verdict) → Checks sheet r → Checks o r′ → r′ ≡ r
+  pub same-run : (ins : List ℤ) (codes codes₁ codes₂ : List ℕ) (values values₁ values₂ : List ℤ) (r r′ : Verdict) →
+      Runs sheet ins codes codes₁ values values₁ r → Runs o ins codes codes₂ values values₂ r′ → (r′ ≡ r) × (codes₂ ≡ codes₁) × (values₂ ≡ values₁)
+  pub again : (out out′ : List ℕ) (r : Verdict) → n ≤ length out → Normalises o out out′ r → (r ≡ Accepted n) × (take n out′ ≡ o)
+
 pub record Demand3 : Type 0 where
   -- every accepted sheet whose normal form keeps the limits and fits the room lent is rewritten
   pub writes : (bs : List ℕ) (s : Sheet) (lent : ℕ) → check bs ≡ accepted s → KeepsLimits bs s → length (normalBytes bs s) ≤ lent →
       normalise bs lent ≡ accepted (normalBytes bs s)
   -- what is written is as demanded
   pub holds : (bs : List ℕ) (s : Sheet) (lent : ℕ) (o : List ℕ) → check bs ≡ accepted s → normalise bs lent ≡ accepted o → NormalFormOf bs s o
+  -- and so are the calls
+  pub calls : (sheet out out′ : List ℕ) (n : ℕ) → Normalises sheet out out′ (Accepted n) → RewrittenCalls sheet (take n out′) n
