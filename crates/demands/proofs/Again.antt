@@ -7,10 +7,8 @@ use mathlib.Core.Bool.{Bool, true, false}
 use mathlib.Core.List.{List, [], _∷_, _++_, append-assoc}
 use lib.ListN.{length, take}
 use lib.Seq.{take-at}
-use lib.Dec.{leb}
-use borrow.Author.Tests.{le-leb, leb-true}
 use Rattle.alpha.specs.Pick.{ifb}
-use Rattle.alpha.specs.Answer.{Answer, accepted, refused, next, WIDE, ROOM}
+use Rattle.alpha.specs.Answer.{accepted, refused, next, WIDE}
 use Rattle.alpha.specs.Field.{nat}
 use Rattle.alpha.specs.Sheet.{Raw, Sheet, Expr.kase, Exprs.none}
 use Rattle.alpha.specs.Read.{got, read, dimension}
@@ -26,6 +24,7 @@ use Rattle.laws.proofs.Checked.{Found, accepted-dimension, accepted-body}
 use Rattle.laws.proofs.Widths.{at-wide}
 use Rattle.laws.proofs.NormalAgain.{normal-again}
 use Rattle.laws.proofs.Rewritten.{Wrote, write-wrote}
+use Rattle.demands.proofs.Steps.{next-accepted, room-enough, room-there}
 use Rattle.laws.proofs.NormalAccepted.{place-of, front, again, read-out, written-accepted}
 
 -- ---- the bodies
@@ -110,24 +109,13 @@ module _ {bs : List ℕ} {r : Raw} {s : Sheet} (a : Accepted bs r s) where
 
   pub normal-of : (o : List ℕ) → normalForm bs r s ≡ accepted o → NormalOf bs r s o
   unfolding normalForm
-  normal-of o e = go (writeBodies s (r .third + 8) 0 s (record { nodes = 0; out = [] })) refl e
-    where
-      go : (m : Answer Body) → writeBodies s (r .third + 8) 0 s (record { nodes = 0; out = [] }) ≡ m →
-          next m (λ w. accepted (take (r .third) bs ++ nat (w .nodes) ++ w .out)) ≡ accepted o → NormalOf bs r s o
-      go (accepted w) k f = let same : take (r .third) bs ++ nat (w .nodes) ++ w .out ≡ o = cc in subst (NormalOf bs r s) same (normal-of-written w k)
-      go (refused n p) k f = let z : _≡_ {A = ℕ} 0 1 = cc in absurd (omega arith)
+  normal-of o e =
+      let a = next-accepted (writeBodies s (r .third + 8) 0 s (record { nodes = 0; out = [] })) _ o e in
+      let w = a .0 in
+      let same : take (r .third) bs ++ nat (w .nodes) ++ w .out ≡ o = let f = a .2 in cc in
+      subst (NormalOf bs r s) same (normal-of-written w (a .1))
 
 -- ---- with the room lent
-
-pub room-enough : (needed lent : ℕ) → needed ≤ lent → room needed lent ≡ accepted tt
-room-enough needed lent h = rw (le-leb needed lent h)
-
-pub room-there : (needed lent : ℕ) → room needed lent ≡ accepted tt → needed ≤ lent
-room-there needed lent h = go (leb needed lent) refl h
-  where
-    go : (b : Bool) → leb needed lent ≡ b → _≡_ {A = Answer (Unit {0})} (ifb b (λ _. accepted tt) (λ _. refused ROOM needed)) (accepted tt) → needed ≤ lent
-    go true e k = leb-true needed lent e
-    go false e k = let z : _≡_ {A = ℕ} 0 1 = cc in absurd (omega arith)
 
 -- bytes that are their own normal form are written again wherever they have room
 pub normalise-again : (o : List ℕ) → normalAfter o (read o) ≡ accepted o → (lent : ℕ) → length o ≤ lent → normalise o lent ≡ accepted o
@@ -147,15 +135,8 @@ pub record Normalised (bs : List ℕ) (r : Raw) (s : Sheet) (lent : ℕ) (o : Li
 pub normalise-form : {bs : List ℕ} {s : Sheet} (f : Found bs s) (lent : ℕ) (o : List ℕ) → check bs ≡ accepted s → normalise bs lent ≡ accepted o →
     Normalised bs (f .raw) s lent o
 unfolding normalise
-normalise-form {bs} {s} f lent o c e = go (normalForm bs (f .raw) s) refl (rw (after-found f c) at e)
-  where
-    go : (m : Answer (List ℕ)) → normalForm bs (f .raw) s ≡ m → next m (λ out. next (room (length out) lent) (λ _. accepted out)) ≡ accepted o →
-        Normalised bs (f .raw) s lent o
-    go (accepted out) k h = fits (room (length out) lent) refl h
-      where
-        fits : (m : Answer (Unit {0})) → room (length out) lent ≡ m → next m (λ _. accepted out) ≡ accepted o → Normalised bs (f .raw) s lent o
-        fits (accepted u) l g =
-            let same : out ≡ o = cc in
-            record { form = k ∙ ap accepted same; room-is = rw same at (room-there (length out) lent l) }
-        fits (refused n q) l g = let z : _≡_ {A = ℕ} 0 1 = cc in absurd (omega arith)
-    go (refused n q) k h = let z : _≡_ {A = ℕ} 0 1 = cc in absurd (omega arith)
+normalise-form {bs} {s} f lent o c e =
+    let a = next-accepted (normalForm bs (f .raw) s) (λ out. next (room (length out) lent) (λ _. accepted out)) o (rw (after-found f c) at e) in
+    let b = next-accepted (room (length (a .0)) lent) (λ _. accepted (a .0)) o (a .2) in
+    let same : a .0 ≡ o = let g = b .2 in cc in
+    record { form = a .1 ∙ ap accepted same; room-is = subst (λ l. length l ≤ lent) same (room-there (length (a .0)) lent (b .1)) }

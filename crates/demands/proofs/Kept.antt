@@ -11,7 +11,7 @@ use lib.IntN.{ℤ, pos}
 use lib.Dec.{ltb}
 use borrow.Author.Tests.{ltb-true, lt-ltb}
 use Rattle.alpha.specs.Pick.{ifb}
-use Rattle.alpha.specs.Answer.{Answer, accepted, refused, next, ASK}
+use Rattle.alpha.specs.Answer.{accepted, refused, next, ASK}
 use Rattle.alpha.specs.Sheet.{Raw, Sheet, Point}
 use Rattle.alpha.specs.Box.{inBox}
 use Rattle.alpha.specs.Read.{Got, got, bad, read}
@@ -31,21 +31,9 @@ use Rattle.laws.proofs.Tests.{&&-left, &&-right}
 use Rattle.laws.proofs.Elements.{getD-map, length-elements, number-low, element-of-number}
 use Rattle.laws.proofs.Checked.{check-accepts}
 use Rattle.demands.specs.Demands.{normalBytes, KeepsLimits, Ran, Rewrote, HasNumber}
-use Rattle.demands.proofs.Again.{room-enough, room-there, normalise-form}
+use Rattle.demands.proofs.Steps.{next-accepted, next-refused, room-enough, room-there}
+use Rattle.demands.proofs.Again.{normalise-form}
 use Rattle.demands.proofs.Limits.{kept-form, form-kept, kept-written}
-
--- ---- steps
-
--- where the last step accepts, so did the first
-next-accepted : {A B : Type 0} (m : Answer A) (k : A → Answer B) (b : B) → next m k ≡ accepted b → (a : A) × (m ≡ accepted a) × (k a ≡ accepted b)
-next-accepted (accepted a) k b h = (a, refl, h)
-next-accepted (refused n p) k b h = let z : _≡_ {A = ℕ} 0 1 = cc in absurd (omega arith)
-
--- where the last step always accepts, a refusal is the first's
-next-refused : {A B : Type 0} (m : Answer A) (k : A → Answer B) (n p : ℕ) → ((a : A) → m ≡ accepted a → (b : B) × (k a ≡ accepted b)) →
-    next m k ≡ refused n p → m ≡ refused n p
-next-refused (accepted a) k n p f h = let g = f a refl in let e = g .1 in let z : _≡_ {A = ℕ} 0 1 = cc in absurd (omega arith)
-next-refused (refused m q) k n p f h = let a : m ≡ n = cc in let b : q ≡ p = cc in ap (λ i. refused i q) a ∙ ap (λ i. refused n i) b
 
 -- ---- what is lent, after an acceptance
 

@@ -1,4 +1,5 @@
 -- The three demands are met by the definitions and by every result that keeps the promises.
+pub mod Steps
 pub mod Records
 pub mod SameRun
 pub mod Again

@@ -28,7 +28,8 @@ use Rattle.laws.proofs.Checked.{check-accepts}
 use Rattle.laws.proofs.Written.{length-bytesOf}
 use Rattle.laws.proofs.Rewritten.{Kept, AllKept, write-wrote}
 use Rattle.laws.proofs.NormalAccepted.{kept-at}
-use Rattle.demands.proofs.Again.{room-enough, after-found}
+use Rattle.demands.proofs.Steps.{next-accepted, room-enough}
+use Rattle.demands.proofs.Again.{after-found}
 use Rattle.demands.specs.Demands.{sections, normalBytes, BodyKeeps, KeepsLimits}
 
 -- ---- a body
@@ -129,18 +130,14 @@ module _ {bs : List ℕ} {r : Raw} {s : Sheet} {q : ℕ} (a : Accepted bs r s) (
   -- and nowhere else
   pub form-kept : (o : List ℕ) → normalForm bs r s ≡ accepted o → KeepsLimits bs s
   unfolding normalForm
-  form-kept o e = go (writeBodies s (r .third + 8) 0 s (record { nodes = 0; out = [] })) refl e
-    where
-      go : (m : Answer Body) → writeBodies s (r .third + 8) 0 s (record { nodes = 0; out = [] }) ≡ m →
-          next m (λ w. accepted (take (r .third) bs ++ nat (w .nodes) ++ w .out)) ≡ accepted o → KeepsLimits bs s
-      go (accepted w) k f =
-          let h = write-wrote s (r .third + 8) 0 k in
-          record {
-            bodies = λ v lt i. kept-keeps s (variable s v) (kept-at s s (h .kept) v lt i);
-            nodes = omega (arith, h .nodes-are, h .few-nodes (omega arith));
-            long = omega (arith, normal-length, ap length (h .out-is), h .few-bytes (omega (arith, a .short, a .parts .first-is, a .parts .first-there)));
-          }
-      go (refused n p) k f = let z : _≡_ {A = ℕ} 0 1 = cc in absurd (omega arith)
+  form-kept o e =
+      let w = next-accepted (writeBodies s (r .third + 8) 0 s (record { nodes = 0; out = [] })) _ o e in
+      let h = write-wrote s (r .third + 8) 0 (w .1) in
+      record {
+        bodies = λ v lt i. kept-keeps s (variable s v) (kept-at s s (h .kept) v lt i);
+        nodes = omega (arith, h .nodes-are, h .few-nodes (omega arith));
+        long = omega (arith, normal-length, ap length (h .out-is), h .few-bytes (omega (arith, a .short, a .parts .first-is, a .parts .first-there)));
+      }
 
 -- with the room lent
 pub kept-written : (bs : List ℕ) (s : Sheet) (lent : ℕ) → check bs ≡ accepted s → KeepsLimits bs s → length (normalBytes bs s) ≤ lent →

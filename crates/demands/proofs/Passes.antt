@@ -4,24 +4,21 @@ use mathlib.Core.Path.{_≡_, refl, sym, ap, _∙_, subst}
 use mathlib.Core.Logic.{_↔_}
 use Prim.Native.Nat.{ℕ, suc, _+_, _≤_, _<_}
 use native.Mathlib.Omega.{arith}
-use mathlib.Core.Bool.{true, false, not}
 use mathlib.Core.List.{List, [], _∷_, map}
 use lib.ListN.{length, getD}
-use borrow.Author.Tests.{le-leb, eq-eqb, not-true}
+use borrow.Author.Tests.{le-leb, eq-eqb}
 use Rattle.alpha.specs.Answer.{Answer, accepted, TYPE, REACH}
 use Rattle.alpha.specs.Sheet.{Kind, Kind.input, Kind.output, Kind.local, Raw, Variable, Sheet}
 use Rattle.alpha.specs.Read.{Got, got, repeat, count, heads, declared, node, ended, sections, read}
 use Rattle.alpha.specs.Shape.{exprAt, Bodied, shaped, bodyOf, bodies}
-use Rattle.alpha.specs.Holds.{variable, isInput, inDomain}
-use Rattle.alpha.specs.Check.{Element, elements, tested, typed, reached, checked, afterRead, check}
+use Rattle.alpha.specs.Check.{Element, elements, typed, reached, checked, afterRead, check}
 use Rattle.laws.specs.Accepted.{Sections, TreeAt, BodyAt, BodiesAt, Accepted}
-use Rattle.laws.proofs.Tests.{&&-left, &&-right}
 use Rattle.laws.proofs.Elements.{length-elements, number-of-element}
 use Rattle.laws.proofs.Trees.{at-exprAt}
 use Rattle.laws.proofs.Local.{local-heads, local-repeat, local-declared}
 use Rattle.laws.proofs.Prefix.{row-repeat}
 use Rattle.laws.proofs.SectionsAgain.{headsAt-got, count-known}
-use Rattle.laws.proofs.Checked.{Faultless, first-passes, faults-pass, check-accepts}
+use Rattle.laws.proofs.Checked.{Faultless, tested-body, tested-inside, first-passes, faults-pass, check-accepts}
 
 -- ---- the sections
 
@@ -84,15 +81,9 @@ module _ (r : Raw) (bs : List ℕ) where
 module _ {bs : List ℕ} {r : Raw} {s : Sheet} (a : Accepted bs r s) where
   faultless : (e : Element) → e .who < length s → Faultless s e
   faultless e lt = record {
-    covered = λ t. a .covered (e .who) (e .at) lt (input-no t) (domain-yes t);
-    clear = λ t. a .clear (e .who) (e .at) lt (input-no t) (domain-yes t);
+    covered = λ t. a .covered (e .who) (e .at) lt (tested-body s e t) (tested-inside s e t);
+    clear = λ t. a .clear (e .who) (e .at) lt (tested-body s e t) (tested-inside s e t);
   }
-    where
-      input-no : tested s e ≡ true → isInput (variable s (e .who)) ≡ false
-      input-no t = not-true (isInput (variable s (e .who))) (&&-left (not (isInput (variable s (e .who)))) (inDomain (variable s (e .who)) (e .at)) t)
-
-      domain-yes : tested s e ≡ true → inDomain (variable s (e .who)) (e .at) ≡ true
-      domain-yes t = &&-right (not (isInput (variable s (e .who)))) (inDomain (variable s (e .who)) (e .at)) t
 
   pub passing-accepted : check bs ≡ accepted s
   unfolding check afterRead checked

@@ -5,12 +5,11 @@ use Prim.Native.Nat.{ℕ, zero, suc, _+_, _^_, _≤_, _<_}
 use native.Mathlib.Nat.{zero-add}
 use native.Mathlib.Omega.{arith}
 use native.Mathlib.Decide.{decLt}
-use mathlib.Core.Bool.{Bool, true, false, not, _||_}
+use mathlib.Core.Bool.{Bool, true, false, _||_}
 use mathlib.Core.List.{List, [], _∷_, _++_, map, append-assoc, append-nil}
 use lib.ListN.{length, getD, take, length-append, List·getD-append, List·getD-eq-default}
 use lib.Seq.{length-take-le, getD-append-add}
 use lib.IntN.{ℤ}
-use borrow.Author.Tests.{not-true}
 use Rattle.alpha.specs.Pick.{ifb}
 use Rattle.alpha.specs.Answer.{Answer, accepted, refused, next, TYPE, REACH}
 use Rattle.alpha.specs.Field.{nat}
@@ -30,7 +29,7 @@ use Rattle.laws.specs.Normal.{bodyBytes, bodyNodes, placed, rewritten}
 use Rattle.laws.specs.Stands.{Stands}
 use Rattle.laws.specs.Writable.{Writable}
 use Rattle.laws.proofs.Tests.{&&-left, &&-right}
-use Rattle.laws.proofs.Checked.{first-passes, Faultless, faults-pass, accepted-length, accepted-dimension, accepted-few, accepted-body}
+use Rattle.laws.proofs.Checked.{first-passes, Faultless, tested-body, tested-inside, faults-pass, accepted-length, accepted-dimension, accepted-few, accepted-body}
 use Rattle.laws.proofs.Widths.{at-wide}
 use Rattle.laws.proofs.Written.{length-bytesOf}
 use Rattle.laws.proofs.SameOutcome.{outcome-alike, normal-variable, body-same, known}
@@ -146,25 +145,17 @@ module _ {bs : List ℕ} {r : Raw} {s : Sheet} (a : Accepted bs r s) where
 
     faultless : (e : Element) → Faultless (rewritten s s p) e
     faultless e = record {
-      covered = λ t. let i = input-no t in let d = domain-yes t in
-          rw (body-new (e .who) i) (body-covered a (e .who) (known a [] (e .who) i) i (e .at) d (rewritten s s p) same-domain);
-      clear = λ t. let i = input-no t in let d = domain-yes t in
-          rw (body-new (e .who) i) (body-clear a (e .who) (known a [] (e .who) i) i (e .at) d (rewritten s s p) same-domain);
+      covered = λ t. let i = input-no t in
+          rw (body-new (e .who) i) (body-covered a (e .who) (known a [] (e .who) i) i (e .at) (domain-yes t) (rewritten s s p) same-domain);
+      clear = λ t. let i = input-no t in
+          rw (body-new (e .who) i) (body-clear a (e .who) (known a [] (e .who) i) i (e .at) (domain-yes t) (rewritten s s p) same-domain);
     }
       where
-        y : Variable
-        y = variable (rewritten s s p) (e .who)
-
         input-no : tested (rewritten s s p) e ≡ true → isInput (variable s (e .who)) ≡ false
-        input-no t =
-            sym (same-kind (e .who))
-            ∙ not-true (isInput (variable (rewritten s s p) (e .who)))
-            (&&-left (not (isInput (variable (rewritten s s p) (e .who)))) (inDomain (variable (rewritten s s p) (e .who)) (e .at)) t)
+        input-no t = sym (same-kind (e .who)) ∙ tested-body (rewritten s s p) e t
 
         domain-yes : tested (rewritten s s p) e ≡ true → inDomain (variable s (e .who)) (e .at) ≡ true
-        domain-yes t =
-            sym (same-domain (e .who) (e .at))
-            ∙ &&-right (not (isInput (variable (rewritten s s p) (e .who)))) (inDomain (variable (rewritten s s p) (e .who)) (e .at)) t
+        domain-yes t = sym (same-domain (e .who) (e .at)) ∙ tested-inside (rewritten s s p) e t
 
     types-pass : (v : ℕ) → v < length s → typed (r .heads) (variable (rewritten s s p) v) ≡ true
     types-pass = passes (typed (r .heads)) (λ x e m n i h. rw i refl) (a .types) (λ v m n lt i. rw (normal-variable s v) at (body-typed a v lt i))
