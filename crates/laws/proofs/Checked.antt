@@ -2,9 +2,10 @@
 use mathlib.Core.Path.{_≡_, refl, sym, ap, _∙_, subst}
 use Prim.Native.Nat.{ℕ, zero, suc, _≤_, _<_}
 use native.Mathlib.Omega.{arith}
-use mathlib.Core.Bool.{Bool, true, false}
+use mathlib.Core.Bool.{Bool, true, false, not}
 use mathlib.Core.List.{List, [], _∷_, _++_, map}
 use lib.ListN.{length, getD, length-map, List·getD-map}
+use borrow.Author.Tests.{not-true}
 use Rattle.alpha.specs.Pick.{ifb}
 use Rattle.alpha.specs.Answer.{Answer, accepted, refused, next, TYPE, REACH, GAP, CLASH}
 use Rattle.alpha.specs.Sheet.{Kind, Kind.input, Kind.output, Kind.local, Head, Raw, Variable, Sheet, Point}
@@ -20,7 +21,7 @@ use Rattle.laws.specs.At.{At}
 use Rattle.laws.specs.Box.{readBox}
 use Rattle.laws.specs.Heads.{HeadsAt, pointsOf}
 use Rattle.laws.specs.Accepted.{TreeAt, BodyAt, BodiesAt, Accepted}
-use Rattle.laws.proofs.Tests.{true-not-false, &&-left}
+use Rattle.laws.proofs.Tests.{true-not-false, &&-left, &&-right}
 use Rattle.laws.proofs.Elements.{length-elements, number-low, element-of-number}
 use Rattle.laws.proofs.Heads.{HeadAt, head-at, head-box}
 use Rattle.laws.proofs.Bodies.{SheetRead, read-says, Tells, next-tells, BodiesRead, bodies-tell}
@@ -56,6 +57,15 @@ first-passes code test v (x ∷ s) h = rw (h 0 (omega arith)) (first-passes code
 pub record Faultless (s : Sheet) (e : Element) : Type 0 where
   pub covered : tested s e ≡ true → holds (variable s (e .who) .body) s (e .at) ≡ true
   pub clear : tested s e ≡ true → clashes (variable s (e .who) .body) s (e .at) ≡ false
+
+-- an element is tested in the declared domain of a variable that has a body
+pub tested-body : (s : Sheet) (e : Element) → tested s e ≡ true → isInput (variable s (e .who)) ≡ false
+tested-body s e t =
+    let x = variable s (e .who) in
+    not-true (isInput x) (&&-left (not (isInput x)) (inDomain x (e .at)) t)
+
+pub tested-inside : (s : Sheet) (e : Element) → tested s e ≡ true → inDomain (variable s (e .who)) (e .at) ≡ true
+tested-inside s e t = let x = variable s (e .who) in &&-right (not (isInput x)) (inDomain x (e .at)) t
 
 fault-tells : (s : Sheet) (n : ℕ) (e : Element) → Tells (λ _. Faultless s e) (fault s n e)
 fault-tells s n e = go (tested s e) (holds (variable s (e .who) .body) s (e .at)) (clashes (variable s (e .who) .body) s (e .at)) refl refl refl

@@ -5,12 +5,11 @@ use Prim.Native.Nat.{ℕ, zero, suc, _+_, _^_, _≤_, _<_}
 use native.Mathlib.Nat.{zero-add}
 use native.Mathlib.Omega.{arith}
 use native.Mathlib.Decide.{decLt}
-use mathlib.Core.Bool.{Bool, true, false, not, _||_}
+use mathlib.Core.Bool.{Bool, true, false, _||_}
 use mathlib.Core.List.{List, [], _∷_, _++_, map, append-assoc, append-nil}
 use lib.ListN.{length, getD, take, length-append, List·getD-append, List·getD-eq-default}
 use lib.Seq.{length-take-le, getD-append-add}
 use lib.IntN.{ℤ}
-use borrow.Author.Tests.{not-true}
 use Rattle.alpha.specs.Pick.{ifb}
 use Rattle.alpha.specs.Answer.{Answer, accepted, refused, next, TYPE, REACH}
 use Rattle.alpha.specs.Field.{nat}
@@ -30,7 +29,7 @@ use Rattle.laws.specs.Normal.{bodyBytes, bodyNodes, placed, rewritten}
 use Rattle.laws.specs.Stands.{Stands}
 use Rattle.laws.specs.Writable.{Writable}
 use Rattle.laws.proofs.Tests.{&&-left, &&-right}
-use Rattle.laws.proofs.Checked.{first-passes, Faultless, faults-pass, accepted-length, accepted-dimension, accepted-few, accepted-body}
+use Rattle.laws.proofs.Checked.{first-passes, Faultless, tested-body, tested-inside, faults-pass, accepted-length, accepted-dimension, accepted-few, accepted-body}
 use Rattle.laws.proofs.Widths.{at-wide}
 use Rattle.laws.proofs.Written.{length-bytesOf}
 use Rattle.laws.proofs.SameOutcome.{outcome-alike, normal-variable, body-same, known}
@@ -44,13 +43,13 @@ use Rattle.laws.proofs.SectionsAgain.{read-again}
 -- ---- the variables that are read back
 
 -- what variable x has for a body
-abbrev newBody : Sheet → Variable → Expr
+abbrev pub newBody : Sheet → Variable → Expr
 newBody s x = ifb (isInput x) (λ _. kase none) (λ _. normalBody s x)
 
-record Placed (s : Sheet) (x y : Variable) : Type 0 where
-  from : ℕ
-  to : ℕ
-  is : y ≡ placed x (newBody s x) from to
+pub record Placed (s : Sheet) (x y : Variable) : Type 0 where
+  pub from : ℕ
+  pub to : ℕ
+  pub is : y ≡ placed x (newBody s x) from to
 
 rewritten-variable : (s xs : Sheet) (p v : ℕ) → Placed s (variable xs v) (variable (rewritten s xs p) v)
 rewritten-variable s [] p v = record { from = 0; to = 0; is = refl }
@@ -70,7 +69,7 @@ rewritten-variable s (x ∷ xs) p v = go (isInput x) refl v (λ q w. rewritten-v
 
 -- ---- by index
 
-kept-at : (s xs : Sheet) → AllKept s xs → (v : ℕ) → v < length xs → isInput (variable xs v) ≡ false → Kept s (variable xs v)
+pub kept-at : (s xs : Sheet) → AllKept s xs → (v : ℕ) → v < length xs → isInput (variable xs v) ≡ false → Kept s (variable xs v)
 kept-at s [] k v lt i = absurd (omega arith)
 kept-at s (x ∷ xs) k zero lt i = k .0 i
 kept-at s (x ∷ xs) k (suc v) lt i = kept-at s xs (k .1) v (omega arith) i
@@ -119,16 +118,16 @@ module _ {bs : List ℕ} {r : Raw} {s : Sheet} (a : Accepted bs r s) where
   -- ---- every check passes
 
   module _ (p : ℕ) where
-    place-of : (v : ℕ) → Placed s (variable s v) (variable (rewritten s s p) v)
+    pub place-of : (v : ℕ) → Placed s (variable s v) (variable (rewritten s s p) v)
     place-of v = rewritten-variable s s p v
 
     same-domain : (v : ℕ) (z : Point) → inDomain (variable (rewritten s s p) v) z ≡ inDomain (variable s v) z
     same-domain v z = ap (λ y. inDomain y z) (place-of v .is)
 
-    same-kind : (v : ℕ) → isInput (variable (rewritten s s p) v) ≡ isInput (variable s v)
+    pub same-kind : (v : ℕ) → isInput (variable (rewritten s s p) v) ≡ isInput (variable s v)
     same-kind v = ap isInput (place-of v .is)
 
-    body-new : (v : ℕ) → isInput (variable s v) ≡ false → variable (rewritten s s p) v .body ≡ normalBody s (variable s v)
+    pub body-new : (v : ℕ) → isInput (variable s v) ≡ false → variable (rewritten s s p) v .body ≡ normalBody s (variable s v)
     body-new v i = ap (λ y. y .body) (place-of v .is) ∙ ap (λ b. ifb b (λ _. kase none) (λ _. normalBody s (variable s v))) i
 
     -- a test of the records and the bodies
@@ -146,25 +145,17 @@ module _ {bs : List ℕ} {r : Raw} {s : Sheet} (a : Accepted bs r s) where
 
     faultless : (e : Element) → Faultless (rewritten s s p) e
     faultless e = record {
-      covered = λ t. let i = input-no t in let d = domain-yes t in
-          rw (body-new (e .who) i) (body-covered a (e .who) (known a [] (e .who) i) i (e .at) d (rewritten s s p) same-domain);
-      clear = λ t. let i = input-no t in let d = domain-yes t in
-          rw (body-new (e .who) i) (body-clear a (e .who) (known a [] (e .who) i) i (e .at) d (rewritten s s p) same-domain);
+      covered = λ t. let i = input-no t in
+          rw (body-new (e .who) i) (body-covered a (e .who) (known a [] (e .who) i) i (e .at) (domain-yes t) (rewritten s s p) same-domain);
+      clear = λ t. let i = input-no t in
+          rw (body-new (e .who) i) (body-clear a (e .who) (known a [] (e .who) i) i (e .at) (domain-yes t) (rewritten s s p) same-domain);
     }
       where
-        y : Variable
-        y = variable (rewritten s s p) (e .who)
-
         input-no : tested (rewritten s s p) e ≡ true → isInput (variable s (e .who)) ≡ false
-        input-no t =
-            sym (same-kind (e .who))
-            ∙ not-true (isInput (variable (rewritten s s p) (e .who)))
-            (&&-left (not (isInput (variable (rewritten s s p) (e .who)))) (inDomain (variable (rewritten s s p) (e .who)) (e .at)) t)
+        input-no t = sym (same-kind (e .who)) ∙ tested-body (rewritten s s p) e t
 
         domain-yes : tested (rewritten s s p) e ≡ true → inDomain (variable s (e .who)) (e .at) ≡ true
-        domain-yes t =
-            sym (same-domain (e .who) (e .at))
-            ∙ &&-right (not (isInput (variable (rewritten s s p) (e .who)))) (inDomain (variable (rewritten s s p) (e .who)) (e .at)) t
+        domain-yes t = sym (same-domain (e .who) (e .at)) ∙ tested-inside (rewritten s s p) e t
 
     types-pass : (v : ℕ) → v < length s → typed (r .heads) (variable (rewritten s s p) v) ≡ true
     types-pass = passes (typed (r .heads)) (λ x e m n i h. rw i refl) (a .types) (λ v m n lt i. rw (normal-variable s v) at (body-typed a v lt i))
@@ -183,7 +174,7 @@ stands-middle xs l ys n e = record {
   byte-is = λ i lt. rw (← e) (getD-append-add xs (l ++ ys) i 0 ∙ List·getD-append l ys 0 i lt);
 }
 
-rewritten-length : (s xs : Sheet) (p : ℕ) → length (rewritten s xs p) ≡ length xs
+pub rewritten-length : (s xs : Sheet) (p : ℕ) → length (rewritten s xs p) ≡ length xs
 rewritten-length s [] p = refl
 rewritten-length s (x ∷ xs) p = go (isInput x) (rewritten-length s xs p) (λ q. rewritten-length s xs q)
   where
@@ -200,7 +191,7 @@ module _ {bs : List ℕ} {r : Raw} {s : Sheet} (a : Accepted bs r s) where
   -- the bytes written: the first two sections, the number of nodes, the bodies
   module _ (w : Body) (h : Wrote s (r .third + 8) s (record { nodes = 0; out = [] }) w) where
     -- what is read of them
-    abbrev again : Raw
+    abbrev pub again : Raw
     again = record { heads = r .heads; decls = r .decls; second = r .second; third = r .third; first = r .third + 8; nodes = w .nodes }
 
     abbrev out : List ℕ
@@ -209,7 +200,7 @@ module _ {bs : List ℕ} {r : Raw} {s : Sheet} (a : Accepted bs r s) where
     third-there : r .third + 8 ≤ length bs
     third-there = omega (arith, a .parts .first-is, a .parts .first-there)
 
-    front : length (take (r .third) bs) ≡ r .third
+    pub front : length (take (r .third) bs) ≡ r .third
     front = length-take-le (r .third) bs (omega (arith, third-there))
 
     bodies-stand : Stands (bodyBytes s s) (take (r .third) bs ++ nat (w .nodes) ++ w .out) (r .third + 8)
@@ -241,7 +232,7 @@ module _ {bs : List ℕ} {r : Raw} {s : Sheet} (a : Accepted bs r s) where
           ap length (h .out-is),
         )
 
-    read-out : read (take (r .third) bs ++ nat (w .nodes) ++ w .out) ≡ got again (length (take (r .third) bs ++ nat (w .nodes) ++ w .out))
+    pub read-out : read (take (r .third) bs ++ nat (w .nodes) ++ w .out) ≡ got again (length (take (r .third) bs ++ nat (w .nodes) ++ w .out))
     read-out =
         let b = nodes-back again out s few-heads s (r .third + 8) all-ready bodies-stand in
         read-again bs r (a .parts) out (w .nodes) (b .listed)

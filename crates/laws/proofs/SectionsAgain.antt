@@ -20,7 +20,7 @@ use Rattle.laws.proofs.Prefix.{row-repeat}
 use Rattle.laws.proofs.Written.{passing-got, count-got}
 
 -- records that stand in a row are read, where their points fit
-headsAt-got : (hs earlier : List Head) (points : ℕ) (bs : List ℕ) (p q : ℕ) → HeadsAt hs earlier bs p q → points + pointsOf hs ≤ 4096 →
+pub headsAt-got : (hs earlier : List Head) (points : ℕ) (bs : List ℕ) (p q : ℕ) → HeadsAt hs earlier bs p q → points + pointsOf hs ≤ 4096 →
     heads (length hs) earlier points bs p ≡ got (earlier ++ hs) q
 unfolding HeadsAt heads
 headsAt-got [] earlier points bs p q h l = ap (λ o. got earlier o) h ∙ ap (λ hs. got hs q) (sym (append-nil earlier))
@@ -31,7 +31,7 @@ headsAt-got (h ∷ hs) earlier points bs p q k l =
     ∙ ap (λ l. got l q) (append-assoc earlier (h ∷ []) hs))
 
 -- a count is read where its field is known
-count-known : (lo hi n : ℕ) (bs : List ℕ) (p : ℕ) → p + 8 ≤ length bs → field bs p ≡ pos n → lo ≤ n → n ≤ hi → count lo hi bs p ≡ got n (p + 8)
+pub count-known : (lo hi n : ℕ) (bs : List ℕ) (p : ℕ) → p + 8 ≤ length bs → field bs p ≡ pos n → lo ≤ n → n ≤ hi → count lo hi bs p ≡ got n (p + 8)
 count-known lo hi n bs p t f l u =
     rw (passing-got COUNT (within (pos lo) (pos hi)) bs p t (ap (within (pos lo) (pos hi)) f ∙ pos-within lo hi n l u)) (ap (λ x. got (natAbs x) (p + 8)) f)
 
