@@ -11,3 +11,4 @@ pub mod Elements
 pub mod Growth
 pub mod Composed
 pub mod NormalForm
+pub mod Children
