@@ -1,0 +1,3 @@
+-- Laws that the proofs of the walkers cite.
+pub mod Noding
+pub mod Standings

@@ -1,0 +1,2 @@
+-- What the walkers over prefix nodes require and answer, by the definitions of crate alpha.
+pub mod Standing
