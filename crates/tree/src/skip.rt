@@ -1,5 +1,6 @@
 // Past a tree, or past so many trees: the place after them. Assumes nothing.
-use super::node::{children, node_len};
+use super::node::children;
+use super::node::node_len;
 ghost use mathlib.Core.Path.{_≡_};
 ghost use Prim.Native.Nat.{ℕ, _+_, _≤_};
 ghost use Rattle.alpha.specs.Sheet.{Expr, Exprs};
