@@ -5,14 +5,15 @@ use native.Mathlib.Nat.{suc-mul, mul-pos, mul-le-mul-right, mod-lt, div-add-mod'
 use native.Mathlib.Omega.{arith}
 use mathlib.Core.Bool.{Bool, true, false, _&&_}
 use mathlib.Core.List.{List, [], _∷_}
-use lib.ListN.{length}
-use lib.IntN.{ℤ, pos, natAbs, _+ℤ_, _-ℤ_}
+use lib.ListN.{length, getD}
+use lib.IntN.{ℤ, pos, negsuc, natAbs, negℤ, _+ℤ_, _-ℤ_}
 use lib.Signed.{leZ}
+use borrow.Author.Tests.{leb-true}
 use Rattle.alpha.specs.Sheet.{Range, Point}
 use Rattle.alpha.specs.Box.{within, side, size, inBox, index, pointAt}
-use Rattle.laws.specs.Box.{ordered}
+use Rattle.laws.specs.Box.{ordered, readRange, readBox}
 use Rattle.laws.proofs.Tests.{&&-left, &&-right, &&-true, true-not-false}
-use Rattle.laws.proofs.Order.{above-less, Among, within-among, above-within}
+use Rattle.laws.proofs.Order.{leZ-trans, above-less, Among, within-among, above-within}
 
 -- ---- points
 
@@ -66,3 +67,41 @@ inBox-length [] [] h = refl
 inBox-length [] (x ∷ z) h = true-not-false {b = false} h refl
 inBox-length (r ∷ rs) [] h = true-not-false {b = false} h refl
 inBox-length (r ∷ rs) (x ∷ z) h = ap suc (inBox-length rs z (&&-right (within (r .lo) (r .hi) x) (inBox rs z) h))
+
+-- ---- boxes as they are read
+
+module _ (r : Range) (h : readRange r ≡ true) where
+  range-low : leZ (negℤ (pos 32768)) (r .lo) ≡ true
+  range-low =
+      &&-left (leZ (negℤ (pos 32768)) (r .lo)) (leZ (r .lo) (r .hi)) (&&-left (leZ (negℤ (pos 32768)) (r .lo) && leZ (r .lo) (r .hi)) (leZ (r .hi) (pos 32767)) h)
+
+  range-ordered : leZ (r .lo) (r .hi) ≡ true
+  range-ordered =
+      &&-right (leZ (negℤ (pos 32768)) (r .lo)) (leZ (r .lo) (r .hi)) (&&-left (leZ (negℤ (pos 32768)) (r .lo) && leZ (r .lo) (r .hi)) (leZ (r .hi) (pos 32767)) h)
+
+  range-high : leZ (r .hi) (pos 32767) ≡ true
+  range-high = &&-right (leZ (negℤ (pos 32768)) (r .lo) && leZ (r .lo) (r .hi)) (leZ (r .hi) (pos 32767)) h
+
+pub readBox-ordered : (rs : List Range) → readBox rs ≡ true → ordered rs ≡ true
+readBox-ordered [] h = refl
+readBox-ordered (r ∷ rs) h =
+    &&-true (range-ordered r (&&-left (readRange r) (readBox rs) h)) (readBox-ordered rs (&&-right (readRange r) (readBox rs) h))
+
+-- from -32768 to 32767
+size-bound : (x : ℤ) → leZ (negℤ (pos 32768)) x ≡ true → leZ x (pos 32767) ≡ true → natAbs x ≤ 32768
+size-bound (pos n) h k = omega (arith, leb-true n 32767 k)
+size-bound (negsuc n) h k = omega (arith, leb-true n 32767 h)
+
+-- a point of such a box has coordinates of size up to 32768
+pub inBox-small : (rs : List Range) (z : Point) (i : ℕ) → readBox rs ≡ true → inBox rs z ≡ true → natAbs (getD z i (pos 0)) ≤ 32768
+inBox-small [] [] i h b = omega arith
+inBox-small [] (x ∷ z) i h b = true-not-false {b = false} b refl
+inBox-small (r ∷ rs) [] i h b = true-not-false {b = false} b refl
+inBox-small (r ∷ rs) (x ∷ z) zero h b =
+    let f = &&-left (readRange r) (readBox rs) h in
+    let w = &&-left (within (r .lo) (r .hi) x) (inBox rs z) b in
+    size-bound x
+    (leZ-trans (negℤ (pos 32768)) (r .lo) x (range-low r f) (&&-left (leZ (r .lo) x) (leZ x (r .hi)) w))
+    (leZ-trans x (r .hi) (pos 32767) (&&-right (leZ (r .lo) x) (leZ x (r .hi)) w) (range-high r f))
+inBox-small (r ∷ rs) (x ∷ z) (suc i) h b =
+    inBox-small rs z i (&&-right (readRange r) (readBox rs) h) (&&-right (within (r .lo) (r .hi) x) (inBox rs z) b)

@@ -92,7 +92,9 @@ elementFrom-at : (w : ℕ) (s : Sheet) (v i : ℕ) (d : Element) → v < length 
 unfolding elementsFrom ofOne
 elementFrom-at w [] v i d h l = absurd (omega arith)
 elementFrom-at w (x ∷ s) zero i d h l =
-    rw (zero-add i, List·getD-append (ofOne w (x .head .box)) (elementsFrom (suc w) s) d i (omega (arith, length-ofOne w (x .head .box))), getD-ofOne w (x .head .box) i d l, add-zero w)
+    let box = x .head .box in
+    let first : i < length (ofOne w box) = omega (arith, length-ofOne w box) in
+    rw (zero-add i, List·getD-append (ofOne w box) (elementsFrom (suc w) s) d i first, getD-ofOne w box i d l, add-zero w)
 elementFrom-at w (x ∷ s) (suc v) i d h l =
     let box = x .head .box in
     let on : size box + before s v + i ≡ length (ofOne w box) + (before s v + i) = omega (arith, length-ofOne w box) in

@@ -12,3 +12,7 @@ pub mod Growth
 pub mod Composed
 pub mod NormalForm
 pub mod Children
+pub mod Heads
+pub mod Bodies
+pub mod Checked
+pub mod SameOutcome

@@ -69,6 +69,11 @@ module _ (vars : ℕ) (bs : List ℕ) (p : ℕ) where
   abbrev Reads : Got Node → Type 0
   Reads m = Gives (NodeAt vars bs p) (p + nodeLen bs p) m
 
+  -- after some fields
+  then-reads : {A : Type 0} (P : A → Type 0) (q : ℕ) (m : Got A) (k : A → ℕ → Got Node) →
+      Gives P q m → ((a : A) → m ≡ got a q → P a → Reads (k a q)) → Reads (after m k)
+  then-reads P q m k g h = then-gives P q (NodeAt vars bs p) (p + nodeLen bs p) m k g h
+
   -- k places on, the next place is k + 8 on
   on : (k : ℕ) → p + k + 8 ≡ p + (k + 8)
   on k = omega arith
@@ -87,13 +92,15 @@ module _ (vars : ℕ) (bs : List ℕ) (p : ℕ) where
       ((a : A) → P a → (p + 8 + 8 ≤ length bs) × Fields vars bs p (make a)) → field bs p ≡ pos code → Gives P (p + 16) m → Reads (after m (λ a q. got (make a) q))
   short P make m code is l says c g =
       let n = nodeLen-by-code bs p code 16 c l in
-      then-gives P (p + 16) (NodeAt vars bs p) (p + nodeLen bs p) m (λ a q. got (make a) q) g (λ a e h. record {
+      then-reads P (p + 16) m (λ a q. got (make a) q) g (λ a e h. record {
         what = record { code = rw is c; long = omega (arith, n); there = omega (arith, n, says a h .0); fields = says a h .1 };
         next = omega (arith, n);
       })
 
   var-reads : field bs p ≡ pos 0 → Reads (after (choice (vars - 1) bs (p + 8)) (λ v q. got (nVar v) q))
-  var-reads c = short (Counted 0 (vars - 1) bs (p + 8)) nVar (choice (vars - 1) bs (p + 8)) 0 (λ a. refl) (λ a b. refl) (λ v h. (h .there, h)) c (chooses (vars - 1) 8)
+  var-reads c =
+      short (Counted 0 (vars - 1) bs (p + 8)) nVar (choice (vars - 1) bs (p + 8)) 0
+      (λ a. refl) (λ a b. refl) (λ v h. (h .there, h)) c (chooses (vars - 1) 8)
 
   int-reads : field bs p ≡ pos 1 → Reads (after (number (negℤ (pos 2147483648)) (pos 2147483647) bs (p + 8)) (λ x q. got (nInt x) q))
   int-reads c =
@@ -124,9 +131,9 @@ module _ (vars : ℕ) (bs : List ℕ) (p : ℕ) where
   restr-reads : field bs p ≡ pos 7 → Reads (restriction bs (p + 8))
   unfolding restriction
   restr-reads c =
-      then-gives (Counted 0 4 bs (p + 8)) (p + 16) (NodeAt vars bs p) (p + nodeLen bs p) (count 0 4 bs (p + 8)) _ (counts 0 4 8) (λ d _ h.
-      then-gives (Counted 0 64 bs (p + 16)) (p + 24) (NodeAt vars bs p) (p + nodeLen bs p) (count 0 64 bs (p + 16)) _ (counts 0 64 16) (λ n _ k.
-      then-gives (Items (constraint d) (16 + 8 * d) n bs (p + 24)) (p + 24 + n * (16 + 8 * d)) (NodeAt vars bs p) (p + nodeLen bs p) (repeat n (constraint d) bs (p + 24)) _
+      then-reads (Counted 0 4 bs (p + 8)) (p + 16) (count 0 4 bs (p + 8)) _ (counts 0 4 8) (λ d _ h.
+      then-reads (Counted 0 64 bs (p + 16)) (p + 24) (count 0 64 bs (p + 16)) _ (counts 0 64 16) (λ n _ k.
+      then-reads (Items (constraint d) (16 + 8 * d) n bs (p + 24)) (p + 24 + n * (16 + 8 * d)) (repeat n (constraint d) bs (p + 24)) _
       (repeat-gives (constraint d) (16 + 8 * d) bs (constraint-takes d bs) n (p + 24)) (λ cs _ l.
       let s = nodeLen-is bs p 7 d n c (counted-is h) (counted-is k) in
       let m = l .many in
@@ -143,9 +150,9 @@ module _ (vars : ℕ) (bs : List ℕ) (p : ℕ) where
   dep-reads : field bs p ≡ pos 8 → Reads (dependence bs (p + 8))
   unfolding dependence
   dep-reads c =
-      then-gives (Counted 0 4 bs (p + 8)) (p + 16) (NodeAt vars bs p) (p + nodeLen bs p) (count 0 4 bs (p + 8)) _ (counts 0 4 8) (λ d e₁ h.
-      then-gives (Counted 0 4 bs (p + 16)) (p + 24) (NodeAt vars bs p) (p + nodeLen bs p) (count 0 4 bs (p + 16)) _ (counts 0 4 16) (λ n e₂ k.
-      then-gives (Items (rowOf d) (8 + 8 * d) n bs (p + 24)) (p + 24 + n * (8 + 8 * d)) (NodeAt vars bs p) (p + nodeLen bs p) (repeat n (rowOf d) bs (p + 24)) _
+      then-reads (Counted 0 4 bs (p + 8)) (p + 16) (count 0 4 bs (p + 8)) _ (counts 0 4 8) (λ d e₁ h.
+      then-reads (Counted 0 4 bs (p + 16)) (p + 24) (count 0 4 bs (p + 16)) _ (counts 0 4 16) (λ n e₂ k.
+      then-reads (Items (rowOf d) (8 + 8 * d) n bs (p + 24)) (p + 24 + n * (8 + 8 * d)) (repeat n (rowOf d) bs (p + 24)) _
       (repeat-gives (rowOf d) (8 + 8 * d) bs (row-takes d bs) n (p + 24)) (λ rs e₃ l.
       let s = nodeLen-is bs p 8 d n c (counted-is h) (counted-is k) in
       let m = l .many in
@@ -167,15 +174,30 @@ module _ (vars : ℕ) (bs : List ℕ) (p : ℕ) where
   EachReads c [] = Unit {0}
   EachReads c (r ∷ rs) = (field bs p ≡ pos c → p + 8 ≤ length bs → Reads (r bs (p + 8))) × EachReads (suc c) rs
 
-  reads-at : (rs : List (Reader Node)) (c i : ℕ) → EachReads c rs → i < length rs → field bs p ≡ pos (c + i) → p + 8 ≤ length bs → Reads (getD rs i (pure nIf) bs (p + 8))
+  reads-at : (rs : List (Reader Node)) (c i : ℕ) → EachReads c rs → i < length rs → field bs p ≡ pos (c + i) → p + 8 ≤ length bs →
+      Reads (getD rs i (pure nIf) bs (p + 8))
   reads-at [] c i all lt h t = absurd (omega arith)
   reads-at (r ∷ rs) c zero all lt h t = all .0 (h ∙ ap pos (omega arith)) t
   reads-at (r ∷ rs) c (suc i) all lt h t = reads-at rs (suc c) i (all .1) (omega arith) (h ∙ ap pos (omega arith)) t
 
   all-read : EachReads 0 (nodes vars)
   unfolding nodes
-  all-read =
-      (λ c t. var-reads c, (λ c t. int-reads c, (λ c t. bool-reads c, (λ c t. unary-reads c, (λ c t. binary-reads c, (if-reads, (λ c t. case-reads c, (λ c t. restr-reads c, (λ c t. dep-reads c, tt)))))))))
+  all-read = (
+    λ c _. var-reads c,
+    (
+      λ c _. int-reads c,
+      (
+        λ c _. bool-reads c,
+        (
+          λ c _. unary-reads c,
+          (
+            λ c _. binary-reads c,
+            (if-reads, (λ c _. case-reads c, (λ c _. restr-reads c, (λ c _. dep-reads c, tt)))),
+          ),
+        ),
+      ),
+    ),
+  )
 
   table-length : length (nodes vars) ≡ 9
   unfolding nodes
@@ -184,7 +206,7 @@ module _ (vars : ℕ) (bs : List ℕ) (p : ℕ) where
   pub node-gives : Gives (NodeAt vars bs p) (p + nodeLen bs p) (node vars bs p)
   unfolding node
   node-gives =
-      then-gives (Counted 0 8 bs p) (p + 8) (NodeAt vars bs p) (p + nodeLen bs p) (choice 8 bs p) _ (choice-gives 8 bs p) (λ c e h.
+      then-reads (Counted 0 8 bs p) (p + 8) (choice 8 bs p) _ (choice-gives 8 bs p) (λ c e h.
       reads-at (nodes vars) 0 c all-read (omega (arith, table-length, h .high)) (h .field-is ∙ ap pos (omega arith)) (h .there))
 
 -- ---- taken out
@@ -196,12 +218,14 @@ module _ (vars : ℕ) (bs : List ℕ) (p : ℕ) (nd : Node) (q : ℕ) (e : node 
   pub node-next : q ≡ p + nodeLen bs p
   node-next = given (NodeAt vars bs p) (p + nodeLen bs p) (node-gives vars bs p) e .next
 
-pub restr-constraint : {bs : List ℕ} {p d : ℕ} {cs : List Constraint} → Restricts bs p d cs → (i : ℕ) → i < length cs → (c : Constraint) → ConstraintAt d bs (p + 24 + i * (16 + 8 * d)) (getD cs i c)
+pub restr-constraint : {bs : List ℕ} {p d : ℕ} {cs : List Constraint} → Restricts bs p d cs → (i : ℕ) → i < length cs → (c : Constraint) →
+    ConstraintAt d bs (p + 24 + i * (16 + 8 * d)) (getD cs i c)
 restr-constraint {bs} {p} {d} r i lt c =
     let at = p + 24 + i * (16 + 8 * d) in
     given (ConstraintAt d bs at) (at + (16 + 8 * d)) (constraint-gives d bs at) (r .item i lt c) .what
 
-pub dep-row : {bs : List ℕ} {p : ℕ} {f : Map} → Depends bs p f → (i : ℕ) → i < length (f .rows) → (w : Row) → RowAt (f .cols) bs (p + 24 + i * (8 + 8 * f .cols)) (getD (f .rows) i w)
+pub dep-row : {bs : List ℕ} {p : ℕ} {f : Map} → Depends bs p f → (i : ℕ) → i < length (f .rows) → (w : Row) →
+    RowAt (f .cols) bs (p + 24 + i * (8 + 8 * f .cols)) (getD (f .rows) i w)
 dep-row {bs} {p} {f} r i lt w =
     let at = p + 24 + i * (8 + 8 * f .cols) in
     given (RowAt (f .cols) bs at) (at + (8 + 8 * f .cols)) (row-gives (f .cols) bs at) (r .item i lt w) .what

@@ -195,7 +195,8 @@ module _ (s : Sheet) where
     Agrees z h o (just t) = (h ≡ true) × (o ≡ eval t s look z)
 
     -- one branch with no constraints, whose tree has the expression's test and outcome
-    leaf : (e t : Expr) (z : Point) → holds t s z ≡ holds e s z → eval t s look z ≡ eval e s look z → Agrees z (holds e s z) (eval e s look z) (chooseIf (holds t s z) t nothing)
+    leaf : (e t : Expr) (z : Point) → holds t s z ≡ holds e s z → eval t s look z ≡ eval e s look z →
+        Agrees z (holds e s z) (eval e s look z) (chooseIf (holds t s z) t nothing)
     leaf e t z p q = go (holds t s z) p
       where
         go : (b : Bool) → b ≡ holds e s z → Agrees z (holds e s z) (eval e s look z) (chooseIf b t nothing)
@@ -219,7 +220,8 @@ module _ (s : Sheet) where
       bin-agrees o a b (just x) nothing h g = rw (h .0, g) refl
       bin-agrees o a b (just x) (just y) h g = (rw (h .0, g .0) refl, rw (h .1, g .1) refl)
 
-      ite-agrees : (a b e : Expr) (c d f : Choice) → Agrees z (holds a s z) (eval a s look z) c → Agrees z (holds b s z) (eval b s look z) d → Agrees z (holds e s z) (eval e s look z) f →
+      ite-agrees : (a b e : Expr) (c d f : Choice) → Agrees z (holds a s z) (eval a s look z) c →
+          Agrees z (holds b s z) (eval b s look z) d → Agrees z (holds e s z) (eval e s look z) f →
           Agrees z (holds a s z && holds b s z && holds e s z) (eval (ite a b e) s look z) (allThree ite c d f)
       unfolding eval
       ite-agrees a b e nothing d f h g k = rw h refl
@@ -298,7 +300,8 @@ module _ (s : Sheet) where
     body-agrees n (b ∷ bs) z = go (branchHolds b s z) (body-agrees n bs z)
       where
         go : (t : Bool) → Agrees z (someHolds (asExprs n bs) s z) (evalFirst (asExprs n bs) s look z) (chosen bs s z) →
-            Agrees z (t || someHolds (asExprs n bs) s z) (ifb t (λ _. eval (b .term) s look z) (λ _. evalFirst (asExprs n bs) s look z)) (chooseIf t (b .term) (chosen bs s z))
+            Agrees z (t || someHolds (asExprs n bs) s z) (ifb t (λ _. eval (b .term) s look z) (λ _. evalFirst (asExprs n bs) s look z))
+            (chooseIf t (b .term) (chosen bs s z))
         go true h = (refl, refl)
         go false h = h
 

@@ -57,6 +57,13 @@ leZ-above a j k = leZ-is (a +ℤ pos j) (a +ℤ pos k) ∙ ap nonNeg (above-diff
 pub le-self-above : (a : ℤ) (k : ℕ) → leZ a (a +ℤ pos k) ≡ true
 le-self-above a k = leZ-is a (a +ℤ pos k) ∙ ap nonNeg (above-less a k)
 
+pub leZ-trans : (a b c : ℤ) → leZ a b ≡ true → leZ b c ≡ true → leZ a c ≡ true
+leZ-trans a b c h k =
+    let j = natAbs (b -ℤ a) in
+    let m = natAbs (c -ℤ b) in
+    let e : c ≡ a +ℤ pos (j + m) = le-above b c k ∙ ap (λ t. t +ℤ pos m) (le-above a b h) ∙ +ℤ-assoc a (pos j) (pos m) in
+    rw e (le-self-above a (j + m))
+
 -- ---- a number in a range
 
 -- x is in the range r, so far above its least number

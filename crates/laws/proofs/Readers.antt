@@ -68,7 +68,8 @@ pub record Counted (lo hi : ℕ) (bs : List ℕ) (p : ℕ) (n : ℕ) : Type 0 wh
 pub counted-is : {lo hi : ℕ} {bs : List ℕ} {p n : ℕ} → Counted lo hi bs p n → n ≡ natAbs (field bs p)
 counted-is c = sym (ap natAbs (c .field-is))
 
-counted : (code lo hi : ℕ) (bs : List ℕ) (p : ℕ) → Gives (Counted lo hi bs p) (p + 8) (after (passing code (within (pos lo) (pos hi)) bs p) (λ x q. got (natAbs x) q))
+counted : (code lo hi : ℕ) (bs : List ℕ) (p : ℕ) →
+    Gives (Counted lo hi bs p) (p + 8) (after (passing code (within (pos lo) (pos hi)) bs p) (λ x q. got (natAbs x) q))
 counted code lo hi bs p =
     then-gives (Passed (within (pos lo) (pos hi)) bs p) (p + 8) (Counted lo hi bs p) (p + 8) (passing code (within (pos lo) (pos hi)) bs p) (λ x q. got (natAbs x) q)
     (passing-gives code (within (pos lo) (pos hi)) bs p) (λ x e h.

@@ -57,6 +57,18 @@ code-high (dep f a) = omega arith
 
 -- ---- how far a tree goes: each of its nodes has at least eight bytes, and they are there
 
+pub nodeCount-pos : (e : Expr) → 1 ≤ nodeCount e
+unfolding nodeCount
+nodeCount-pos (var v) = omega arith
+nodeCount-pos (int c) = omega arith
+nodeCount-pos (boo b) = omega arith
+nodeCount-pos (un o a) = omega arith
+nodeCount-pos (bin o a b) = omega arith
+nodeCount-pos (ite a b c) = omega arith
+nodeCount-pos (kase es) = omega arith
+nodeCount-pos (restr d cs a) = omega arith
+nodeCount-pos (dep f a) = omega arith
+
 -- the nodes n stand from p to q
 pub record Spans (bs : List ℕ) (n p q : ℕ) : Type 0 where
   pub long : p + 8 * n ≤ q
@@ -69,13 +81,13 @@ module _ (vars : ℕ) (bs : List ℕ) where
       let x = node-next vars bs p nd r e in
       record { long = omega (arith, n .long, x); there = λ _. omega (arith, n .there, x) }
 
-  headed-spans : (nd : Node) (n p r q : ℕ) → node vars bs p ≡ got nd r → Spans bs n r q → Spans bs (suc n) p q
-  headed-spans nd n p r q e s =
+  two-spans : {m n p r q : ℕ} → Spans bs m p r → Spans bs n r q → Spans bs (m + n) p q
+  two-spans s t = record { long = omega (arith, s .long, t .long); there = λ x. t .there (s .there x) }
+
+  headed-spans : {n q : ℕ} (nd : Node) (p r : ℕ) → node vars bs p ≡ got nd r → Spans bs n r q → Spans bs (suc n) p q
+  headed-spans nd p r e s =
       let h = node-spans nd p r e in
       record { long = omega (arith, h .long, s .long); there = λ t. s .there (h .there t) }
-
-  two-spans : (m n p r q : ℕ) → Spans bs m p r → Spans bs n r q → Spans bs (m + n) p q
-  two-spans m n p r q s t = record { long = omega (arith, s .long, t .long); there = λ x. t .there (s .there x) }
 
   mutual
     unfolding At nodeCount nodeCounts
@@ -84,38 +96,26 @@ module _ (vars : ℕ) (bs : List ℕ) where
     at-spans (var v) p q h = node-spans (nVar v) p q h
     at-spans (int c) p q h = node-spans (nInt c) p q h
     at-spans (boo b) p q h = node-spans (nBool b) p q h
-    at-spans (un o a) p q h = headed-spans (nUnary o) (nodeCount a) p (h .next) q (h .here) (at-spans a (h .next) q (h .below))
+    at-spans (un o a) p q h = headed-spans (nUnary o) p (h .next) (h .here) (at-spans a (h .next) q (h .below))
     at-spans (bin o a b) p q h =
         let g = h .below in
-        headed-spans (nBinary o) (nodeCount a + nodeCount b) p (h .next) q (h .here)
-        (two-spans (nodeCount a) (nodeCount b) (h .next) (g .middle) q (at-spans a (h .next) (g .middle) (g .before)) (at-spans b (g .middle) q (g .after)))
+        let left = at-spans a (h .next) (g .middle) (g .before) in
+        let right = at-spans b (g .middle) q (g .after) in
+        headed-spans (nBinary o) p (h .next) (h .here) (two-spans left right)
     at-spans (ite a b c) p q h =
         let g = h .below in
         let f = g .after in
-        headed-spans nIf (nodeCount a + nodeCount b + nodeCount c) p (h .next) q (h .here)
-        (two-spans (nodeCount a + nodeCount b) (nodeCount c) (h .next) (f .middle) q
-        (two-spans (nodeCount a) (nodeCount b) (h .next) (g .middle) (f .middle) (at-spans a (h .next) (g .middle) (g .before)) (at-spans b (g .middle) (f .middle) (f .before)))
-        (at-spans c (f .middle) q (f .after)))
-    at-spans (kase es) p q h = headed-spans (nCase (branchCount es)) (nodeCounts es) p (h .next) q (h .here) (allAt-spans es (h .next) q (h .below))
-    at-spans (restr d cs a) p q h = headed-spans (nRestr d cs) (nodeCount a) p (h .next) q (h .here) (at-spans a (h .next) q (h .below))
-    at-spans (dep f a) p q h = headed-spans (nDep f) (nodeCount a) p (h .next) q (h .here) (at-spans a (h .next) q (h .below))
+        let test = at-spans a (h .next) (g .middle) (g .before) in
+        let left = at-spans b (g .middle) (f .middle) (f .before) in
+        let right = at-spans c (f .middle) q (f .after) in
+        headed-spans nIf p (h .next) (h .here) (two-spans (two-spans test left) right)
+    at-spans (kase es) p q h = headed-spans (nCase (branchCount es)) p (h .next) (h .here) (allAt-spans es (h .next) q (h .below))
+    at-spans (restr d cs a) p q h = headed-spans (nRestr d cs) p (h .next) (h .here) (at-spans a (h .next) q (h .below))
+    at-spans (dep f a) p q h = headed-spans (nDep f) p (h .next) (h .here) (at-spans a (h .next) q (h .below))
 
     pub allAt-spans : (es : Exprs) (p q : ℕ) → AllAt es vars bs p q → Spans bs (nodeCounts es) p q
     allAt-spans none p q h = record { long = omega arith; there = λ t. omega arith }
-    allAt-spans (more e es) p q h =
-        two-spans (nodeCount e) (nodeCounts es) p (h .middle) q (at-spans e p (h .middle) (h .before)) (allAt-spans es (h .middle) q (h .after))
-
-  nodeCount-pos : (e : Expr) → 1 ≤ nodeCount e
-  unfolding nodeCount
-  nodeCount-pos (var v) = omega arith
-  nodeCount-pos (int c) = omega arith
-  nodeCount-pos (boo b) = omega arith
-  nodeCount-pos (un o a) = omega arith
-  nodeCount-pos (bin o a b) = omega arith
-  nodeCount-pos (ite a b c) = omega arith
-  nodeCount-pos (kase es) = omega arith
-  nodeCount-pos (restr d cs a) = omega arith
-  nodeCount-pos (dep f a) = omega arith
+    allAt-spans (more e es) p q h = two-spans (at-spans e p (h .middle) (h .before)) (allAt-spans es (h .middle) q (h .after))
 
   pub at-long : (e : Expr) (p q : ℕ) → At e vars bs p q → p + 8 ≤ q
   at-long e p q h = omega (arith, at-spans e p q h .long, nodeCount-pos e)
@@ -198,7 +198,10 @@ module _ (e : Expr) (vars : ℕ) (bs : List ℕ) (p q : ℕ) where
 -- the shape that goes with a code
 abbrev pub ShapeAt : Expr → ℕ → List ℕ → ℕ → ℕ → ℕ → Type 0
 ShapeAt e vars bs p q code =
-    getD (VarAt e vars bs p q ∷ IntAt e vars bs p q ∷ BooAt e vars bs p q ∷ UnAt e vars bs p q ∷ BinAt e vars bs p q ∷ IteAt e vars bs p q ∷ KaseAt e vars bs p q ∷ RestrAt e vars bs p q ∷ DepAt e vars bs p q ∷ []) code ⊥
+    getD
+    (VarAt e vars bs p q ∷ IntAt e vars bs p q ∷ BooAt e vars bs p q ∷ UnAt e vars bs p q ∷ BinAt e vars bs p q ∷
+    IteAt e vars bs p q ∷ KaseAt e vars bs p q ∷ RestrAt e vars bs p q ∷ DepAt e vars bs p q ∷ [])
+    code ⊥
 
 module _ (vars : ℕ) (bs : List ℕ) where
   -- the place after a node of n bytes

@@ -50,10 +50,17 @@ module _ (d vars : ℕ) (bs : List ℕ) (r : Parser Expr) (ih : (p m : ℕ) → 
   branches-good (suc k) p m =
       child (GoodAll (suc k) p m) _ p m tt (λ e p₁ m₁ h. go e p₁ m₁ h (branches r k p₁ m₁) (branches-good k p₁ m₁))
     where
-      go : (e : Expr) (p₁ m₁ : ℕ) → Read d vars bs p m e p₁ m₁ → (t : Parsed Exprs) → GoodAll k p₁ m₁ t → GoodAll (suc k) p m (then t (λ es p₂ m₂. tree (more e es) p₂ m₂))
+      go : (e : Expr) (p₁ m₁ : ℕ) → Read d vars bs p m e p₁ m₁ → (t : Parsed Exprs) → GoodAll k p₁ m₁ t →
+          GoodAll (suc k) p m (then t (λ es p₂ m₂. tree (more e es) p₂ m₂))
       go e p₁ m₁ h ill g = tt
-      go e p₁ m₁ h (tree es p₂ m₂) g =
-          (record { at = record { middle = p₁; before = h .at; after = g .0 .at }; count = omega (arith, h .count, g .0 .count); deep = omega (arith, h .deep, g .0 .deep) }, ap suc (g .1))
+      go e p₁ m₁ h (tree es p₂ m₂) g = (
+        record {
+          at = record { middle = p₁; before = h .at; after = g .0 .at };
+          count = omega (arith, h .count, g .0 .count);
+          deep = omega (arith, h .deep, g .0 .deep);
+        },
+        ap suc (g .1),
+      )
 
   module _ (p : ℕ) where
     node-good : (nd : Node) (q m : ℕ) → node vars bs p ≡ got nd q → Good (suc d) vars bs p (suc m) (withNode r nd q m)
@@ -103,7 +110,8 @@ exprAt-good : (d vars : ℕ) (bs : List ℕ) (p m : ℕ) → Good d vars bs p m 
 unfolding exprAt
 exprAt-good zero vars bs p m = tt
 exprAt-good (suc d) vars bs p zero = tt
-exprAt-good (suc d) vars bs p (suc m) = got-good d vars bs (λ q n. exprAt d vars bs q n) (λ q n. exprAt-good d vars bs q n) p (node vars bs p) m refl
+exprAt-good (suc d) vars bs p (suc m) =
+    got-good d vars bs (λ q n. exprAt d vars bs q n) (λ q n. exprAt-good d vars bs q n) p (node vars bs p) m refl
 
 pub exprAt-read : {d vars : ℕ} {bs : List ℕ} {p m : ℕ} {e : Expr} {q n : ℕ} → exprAt d vars bs p m ≡ tree e q n → Read d vars bs p m e q n
 exprAt-read {d} {vars} {bs} {p} {m} h = subst (Good d vars bs p m) h (exprAt-good d vars bs p m)
@@ -112,7 +120,8 @@ exprAt-read {d} {vars} {bs} {p} {m} h = subst (Good d vars bs p m) h (exprAt-goo
 
 module _ (vars : ℕ) (bs : List ℕ) where
   -- the first node is read, and the rest with a depth and a node less
-  one-node : (d p m n q : ℕ) (nd : Node) → node vars bs p ≡ got nd q → 1 ≤ d → m ≡ suc n → exprAt d vars bs p m ≡ withNode (λ o k. exprAt (d - 1) vars bs o k) nd q n
+  one-node : (d p m n q : ℕ) (nd : Node) → node vars bs p ≡ got nd q → 1 ≤ d → m ≡ suc n →
+      exprAt d vars bs p m ≡ withNode (λ o k. exprAt (d - 1) vars bs o k) nd q n
   unfolding exprAt atNode
   one-node zero p m n q nd e l c = absurd (omega arith)
   one-node (suc d) p m n q nd e l c = let less : suc d - 1 ≡ d = omega arith in rw (c, e, less)
@@ -130,11 +139,15 @@ module _ (vars : ℕ) (bs : List ℕ) where
     at-exprAt (bin o a b) d p q k h l =
         let g = h .below in
         one-node d p (suc (nodeCount a + nodeCount b) + k) (nodeCount a + (nodeCount b + k)) (h .next) (nBinary o) (h .here) (omega arith) (omega arith)
-        ∙ rw (at-exprAt a (d - 1) (h .next) (g .middle) (nodeCount b + k) (g .before) (omega arith), at-exprAt b (d - 1) (g .middle) q k (g .after) (omega arith)) refl
+        ∙ rw (
+          at-exprAt a (d - 1) (h .next) (g .middle) (nodeCount b + k) (g .before) (omega arith),
+          at-exprAt b (d - 1) (g .middle) q k (g .after) (omega arith),
+        ) refl
     at-exprAt (ite a b c) d p q k h l =
         let g = h .below in
         let f = g .after in
-        one-node d p (suc (nodeCount a + nodeCount b + nodeCount c) + k) (nodeCount a + (nodeCount b + (nodeCount c + k))) (h .next) nIf (h .here) (omega arith) (omega arith)
+        let rest = nodeCount a + (nodeCount b + (nodeCount c + k)) in
+        one-node d p (suc (nodeCount a + nodeCount b + nodeCount c) + k) rest (h .next) nIf (h .here) (omega arith) (omega arith)
         ∙ rw (
           at-exprAt a (d - 1) (h .next) (g .middle) (nodeCount b + (nodeCount c + k)) (g .before) (omega arith),
           at-exprAt b (d - 1) (g .middle) (f .middle) (nodeCount c + k) (f .before) (omega arith),
@@ -150,7 +163,8 @@ module _ (vars : ℕ) (bs : List ℕ) where
         one-node d p (suc (nodeCount a) + k) (nodeCount a + k) (h .next) (nDep f) (h .here) (omega arith) (omega arith)
         ∙ rw (at-exprAt a (d - 1) (h .next) q k (h .below) (omega arith)) refl
 
-    pub allAt-branches : (es : Exprs) (d p q k : ℕ) → AllAt es vars bs p q → depths es ≤ d → branches (λ o n. exprAt d vars bs o n) (branchCount es) p (nodeCounts es + k) ≡ tree es q k
+    pub allAt-branches : (es : Exprs) (d p q k : ℕ) → AllAt es vars bs p q → depths es ≤ d →
+        branches (λ o n. exprAt d vars bs o n) (branchCount es) p (nodeCounts es + k) ≡ tree es q k
     allAt-branches none d p q k h l = rw (h, zero-add) refl
     allAt-branches (more e es) d p q k h l =
         rw (
