@@ -1,0 +1,1 @@
+-- How far values reach. Assumes nothing.
