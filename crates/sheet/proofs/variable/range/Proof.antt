@@ -1,0 +1,57 @@
+-- `range` meets its contract: lo, then hi from lo on. Assumes nothing.
+use borrow.Author.Needs.{needs}
+use mathlib.Core.Path.{sym, _∙_}
+use lib.IntN.{pos, negℤ}
+use Rattle.sheet.proofs.Readers.{range-place, goes-on, stops}
+use Rattle.sheet.proofs.Places.{number-came}
+use Rattle.sheet.proofs.variable.range.Statement.{statement}
+use Rattle.sheet.proofs.variable.range.Tie as tie
+
+of-requires : tie.Need-of-requires
+of-requires c κs = search needs
+
+of-requires-2 : tie.Need-of-requires-2
+of-requires-2 c κs = search needs
+
+number-field-requires : tie.Need-number-field-requires
+number-field-requires c κs = search needs
+
+enum-known-r : tie.Need-enum-known-r
+enum-known-r c = search needs
+
+enum-told : tie.Need-enum-told
+enum-told c = search needs
+
+returns : tie.Need-returns
+returns c =
+    let ends = c .before .before .before in
+    sym (range-place _ _ ∙ stops _ (rw (ends .before .of .ensures, ends .of2 .ensures) at (c .before .before .number-field .ensures)) _ _ (c .enum-told .given .1))
+
+number-at-requires : tie.Need-number-at-requires
+number-at-requires c κs =
+    let ends = c .before .before .before .before in
+    number-came _ _ _ _ (c .before .r .given .1) (negℤ (pos 32768)) (pos 32767) (rw (ends .before .of .ensures, ends .of2 .ensures) at (c .before .before .before .number-field .ensures)) .there
+
+number-field-requires-2 : tie.Need-number-field-requires-2
+number-field-requires-2 c κs = search needs
+
+returns-2 : tie.Need-returns-2
+returns-2 c =
+    let ends = c .before .before .before .before .before .before in
+    let first = rw (ends .before .of .ensures, ends .of2 .ensures) at (c .before .before .before .before .before .number-field .ensures) in
+    rw (c .before .number-at .ensures, ends .of2 .ensures) at (c .number-field2 .ensures)
+    ∙ sym (range-place _ _ ∙ goes-on _ first _ _ (c .before .before .before .r .given .1))
+
+pub range-spec : {M : Type 1} → statement M
+range-spec =
+    tie.close
+    (tie.spec
+    of-requires
+    of-requires-2
+    number-field-requires
+    enum-known-r
+    enum-told
+    returns
+    number-at-requires
+    number-field-requires-2
+    returns-2)

@@ -1,0 +1,5 @@
+-- What reading a sheet answers and leaves behind, by the definitions of crate alpha.
+pub mod Place
+pub mod Name
+pub mod Record
+pub mod Table
