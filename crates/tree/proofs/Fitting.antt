@@ -16,47 +16,23 @@ use Rattle.laws.specs.Children.{fitsHere, wanted}
 use Rattle.laws.proofs.Readers.{counted-is}
 use Rattle.laws.proofs.Nodes.{NodeAt, node-at}
 use Rattle.tree.specs.Standing.{Noded}
-use Rattle.tree.proofs.Noding.{code-is}
+use Rattle.tree.proofs.Noding.{node-of, code-is}
 
 module _ (vars : ℕ) (bs : List ℕ) (p : ℕ) where
   -- a variable's number is one of the variables
-  var-node : (nd : Node) → NodeAt vars bs p nd → codeOf nd < 1 → 0 < vars → natAbs (field bs (p + 8)) < vars
-  var-node (nVar v) h l some = omega (arith, counted-is (h .fields), h .fields .high)
-  var-node (nInt c) h l some = absurd (omega arith)
-  var-node (nBool b) h l some = absurd (omega arith)
-  var-node (nUnary o) h l some = absurd (omega arith)
-  var-node (nBinary o) h l some = absurd (omega arith)
-  var-node nIf h l some = absurd (omega arith)
-  var-node (nCase n) h l some = absurd (omega arith)
-  var-node (nRestr d cs) h l some = absurd (omega arith)
-  var-node (nDep f) h l some = absurd (omega arith)
+  var-node : (nd : Node) → NodeAt vars bs p nd → codeOf nd ≡ 0 → 0 < vars → natAbs (field bs (p + 8)) < vars
+  var-node nd h e some = let v = node-of nd 0 e in let f = (rw (v .1) at h) .fields in omega (arith, counted-is f, f .high)
 
   pub variable-known : Noded vars bs p → natAbs (field bs p) < 1 → 0 < vars → natAbs (field bs (p + 8)) < vars
   variable-known h l some =
       var-node (h .what) (node-at vars bs p (h .what) (h .next) (h .read)) (omega (arith, code-is vars bs p (h .what) (h .next) (h .read))) some
 
   rows-few : (nd : Node) → NodeAt vars bs p nd → codeOf nd ≡ 8 → natAbs (field bs (p + 16)) ≤ 4
-  rows-few (nVar v) h l = absurd (omega arith)
-  rows-few (nInt c) h l = absurd (omega arith)
-  rows-few (nBool b) h l = absurd (omega arith)
-  rows-few (nUnary o) h l = absurd (omega arith)
-  rows-few (nBinary o) h l = absurd (omega arith)
-  rows-few nIf h l = absurd (omega arith)
-  rows-few (nCase k) h l = absurd (omega arith)
-  rows-few (nRestr d cs) h l = absurd (omega arith)
-  rows-few (nDep f) h l = omega (arith, counted-is (h .fields .many), h .fields .many .high)
+  rows-few nd h e = let f = (rw (node-of nd 8 e .1) at h) .fields .many in omega (arith, counted-is f, f .high)
 
   module _ (hs : List Head) (n : ℕ) where
-    here-variable : (nd : Node) → NodeAt vars bs p nd → codeOf nd < 1 → eqb (dimension hs (natAbs (field bs (p + 8)))) n ≡ fitsHere nd hs n
-    here-variable (nVar v) h l = ap (λ x. eqb (dimension hs x) n) (sym (counted-is (h .fields)))
-    here-variable (nInt c) h l = absurd (omega arith)
-    here-variable (nBool b) h l = absurd (omega arith)
-    here-variable (nUnary o) h l = absurd (omega arith)
-    here-variable (nBinary o) h l = absurd (omega arith)
-    here-variable nIf h l = absurd (omega arith)
-    here-variable (nCase k) h l = absurd (omega arith)
-    here-variable (nRestr d cs) h l = absurd (omega arith)
-    here-variable (nDep f) h l = absurd (omega arith)
+    here-variable : (nd : Node) → NodeAt vars bs p nd → codeOf nd ≡ 0 → eqb (dimension hs (natAbs (field bs (p + 8)))) n ≡ fitsHere nd hs n
+    here-variable nd h e = let v = node-of nd 0 e in rw (v .1) (ap (λ x. eqb (dimension hs x) n) (sym (counted-is ((rw (v .1) at h) .fields))))
 
     here-constant : (nd : Node) → 1 ≤ codeOf nd → codeOf nd < 3 → eqb 0 n ≡ fitsHere nd hs n
     here-constant (nVar v) k l = absurd (omega arith)
@@ -92,15 +68,7 @@ module _ (vars : ℕ) (bs : List ℕ) (p : ℕ) where
     here-wide (nDep f) h l = ap (λ x. eqb x n) (sym (counted-is (h .fields .width)))
 
     wanted-rows : (nd : Node) → NodeAt vars bs p nd → codeOf nd ≡ 8 → natAbs (field bs (p + 16)) ≡ wanted nd n
-    wanted-rows (nVar v) h l = absurd (omega arith)
-    wanted-rows (nInt c) h l = absurd (omega arith)
-    wanted-rows (nBool b) h l = absurd (omega arith)
-    wanted-rows (nUnary o) h l = absurd (omega arith)
-    wanted-rows (nBinary o) h l = absurd (omega arith)
-    wanted-rows nIf h l = absurd (omega arith)
-    wanted-rows (nCase k) h l = absurd (omega arith)
-    wanted-rows (nRestr d cs) h l = absurd (omega arith)
-    wanted-rows (nDep f) h l = sym (counted-is (h .fields .many))
+    wanted-rows nd h e = let f = node-of nd 8 e in rw (f .1) (sym (counted-is ((rw (f .1) at h) .fields .many)))
 
     wanted-same : (nd : Node) → (codeOf nd ≡ 8 → ⊥) → n ≡ wanted nd n
     wanted-same (nVar v) l = refl

@@ -4,3 +4,4 @@ pub mod Standings
 pub mod Heading
 pub mod Fitting
 pub mod Judging
+pub mod Sorting

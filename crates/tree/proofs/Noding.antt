@@ -1,13 +1,13 @@
 -- What is known at a node that was read, from the number in its code field: that its fields are there, how long it is, how many children
 -- it has. Assumes nothing.
-use mathlib.Core.Path.{_≡_, refl, sym, ap, _∙_}
+use mathlib.Core.Path.{_≡_, refl, sym, ap, _∙_, subst}
 use Prim.Native.Nat.{ℕ, zero, suc, _+_, _*_, _≤_, _<_}
 use native.Mathlib.Omega.{arith}
-use mathlib.Core.List.{List}
-use lib.ListN.{length}
-use lib.IntN.{pos, natAbs}
+use mathlib.Core.List.{List, [], _∷_}
+use lib.ListN.{length, getD}
+use lib.IntN.{ℤ, pos, natAbs}
 use Rattle.alpha.specs.Field.{field}
-use Rattle.alpha.specs.Sheet.{Node}
+use Rattle.alpha.specs.Sheet.{Unary, Binary, Constraint, Map, Node}
 use Rattle.alpha.specs.Sheet.{Node.nVar, Node.nInt, Node.nBool, Node.nUnary, Node.nBinary, Node.nIf, Node.nCase, Node.nRestr, Node.nDep}
 use Rattle.alpha.specs.Read.{got, node}
 use Rattle.laws.specs.At.{codeOf, lengthOf, nodeLen}
@@ -16,6 +16,28 @@ use Rattle.laws.proofs.Readers.{counted-is}
 use Rattle.laws.proofs.Nodes.{NodeAt, node-at}
 use Rattle.laws.proofs.Children.{arityOf, arity-is}
 use Rattle.tree.specs.Standing.{Noded, Wide}
+
+-- ---- the node that goes with a code
+
+abbrev pub Coded : Node → ℕ → Type 0
+Coded nd code =
+    getD (
+    ((v : ℕ) × (nd ≡ nVar v)) ∷ ((c : ℤ) × (nd ≡ nInt c)) ∷ ((b : ℕ) × (nd ≡ nBool b)) ∷ ((o : Unary) × (nd ≡ nUnary o)) ∷ ((o : Binary) × (nd ≡ nBinary o)) ∷
+    (nd ≡ nIf) ∷ ((n : ℕ) × (nd ≡ nCase n)) ∷ ((d : ℕ) × (cs : List Constraint) × (nd ≡ nRestr d cs)) ∷ ((f : Map) × (nd ≡ nDep f)) ∷ []) code ⊥
+
+coded-self : (nd : Node) → Coded nd (codeOf nd)
+coded-self (nVar v) = (v, refl)
+coded-self (nInt c) = (c, refl)
+coded-self (nBool b) = (b, refl)
+coded-self (nUnary o) = (o, refl)
+coded-self (nBinary o) = (o, refl)
+coded-self nIf = refl
+coded-self (nCase n) = (n, refl)
+coded-self (nRestr d cs) = (d, cs, refl)
+coded-self (nDep f) = (f, refl)
+
+pub node-of : (nd : Node) (code : ℕ) → codeOf nd ≡ code → Coded nd code
+node-of nd code e = subst (Coded nd) e (coded-self nd)
 
 -- ---- tables at a node's code
 
@@ -64,6 +86,17 @@ arity-leaf (nCase n) t = absurd (omega arith)
 arity-leaf (nRestr d cs) t = absurd (omega arith)
 arity-leaf (nDep m) t = absurd (omega arith)
 
+arity-more : (vars : ℕ) (bs : List ℕ) (p : ℕ) (nd : Node) → NodeAt vars bs p nd → 3 ≤ codeOf nd → 1 ≤ arity nd
+arity-more vars bs p (nVar v) h l = absurd (omega arith)
+arity-more vars bs p (nInt c) h l = absurd (omega arith)
+arity-more vars bs p (nBool b) h l = absurd (omega arith)
+arity-more vars bs p (nUnary o) h l = omega arith
+arity-more vars bs p (nBinary o) h l = omega arith
+arity-more vars bs p nIf h l = omega arith
+arity-more vars bs p (nCase n) h l = h .fields .low
+arity-more vars bs p (nRestr d cs) h l = omega arith
+arity-more vars bs p (nDep m) h l = omega arith
+
 -- ---- at a node
 
 module _ (vars : ℕ) (bs : List ℕ) (p : ℕ) where
@@ -100,6 +133,9 @@ module _ (vars : ℕ) (bs : List ℕ) (p : ℕ) where
 
     pub arity-leaf-is : natAbs (field bs p) ≤ 2 → 0 ≡ arity nd
     arity-leaf-is l = arity-leaf nd (omega (arith, code-is))
+
+    pub arity-some : 3 ≤ natAbs (field bs p) → 1 ≤ arity nd
+    arity-some l = arity-more vars bs p nd (node-at vars bs p nd q read) (omega (arith, code-is))
 
     pub arity-two-is : natAbs (field bs p) ≡ 4 → 2 ≡ arity nd
     arity-two-is c = arity-by 4 c

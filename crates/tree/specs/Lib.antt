@@ -2,3 +2,4 @@
 pub mod Standing
 pub mod Prepared
 pub mod Judged
+pub mod Sorted

@@ -3,6 +3,7 @@
 mod node;
 mod shape;
 mod skip;
+mod typing;
 mod variable;
 
 // What a place was found to hold where a tree of some dimension is wanted: a tree that fits, with the place after it and the nodes
@@ -10,4 +11,11 @@ mod variable;
 pub enum Shaped {
     Fits { next: usize, left: usize },
     Bad,
+}
+
+// The type of a tree, with the place after it; or a type rule is broken.
+pub enum Typed {
+    Integer(usize),
+    Boolean(usize),
+    Mistyped,
 }
