@@ -4,3 +4,5 @@ pub mod Composed
 pub mod Meaning
 pub mod Told
 pub mod Bounds
+pub mod Reader
+pub mod Fetched

@@ -1,6 +1,6 @@
 -- Lists by index, and sums that zeros do not change: a row of n coefficients has the value and the size of its four. Assumes nothing.
 use Prim.Native.Nat.{ℕ, zero, suc, _+_, _*_, _≤_, _<_}
-use mathlib.Core.Path.{_≡_, refl, sym, ap, _∙_}
+use mathlib.Core.Path.{_≡_, refl, ap, _∙_}
 use mathlib.Core.List.{List, [], _∷_, map}
 use mathlib.Core.Bool.{Bool, true, false}
 use mathlib.Core.Logic.{_⊎_, inl, inr}
@@ -11,7 +11,6 @@ use borrow.Author.Tests.{ltb-true, ltb-false}
 use lib.ListN.{length, getD, List·getD-eq-default}
 use lib.IntN.{ℤ, pos, natAbs, _+ℤ_, _*ℤ_, +ℤ-idl, zero-*ℤ, *ℤ-zero}
 use Rattle.alpha.specs.declared.Int.{Int}
-use Rattle.alpha.specs.Sheet as Sheet
 use Rattle.alpha.specs.Affine.{dot, rowAt}
 use Rattle.alpha.specs.Reach.{sizes, rowReach}
 use Rattle.affine.specs.declared.Row.{Row}
@@ -58,6 +57,14 @@ below-four P a b c d (suc (suc (suc (suc i)))) h = absurd (omega arith)
 pub past-four : {A : Type 0} (a b c d e : A) (j : ℕ) → 4 ≤ j → getD (a ∷ b ∷ c ∷ d ∷ []) j e ≡ e
 past-four a b c d e j h = List·getD-eq-default (a ∷ b ∷ c ∷ d ∷ []) e h
 
+-- four zeros are zeros everywhere
+pub zeros-at : (j : ℕ) → at (record { v = pos 0 } ∷ record { v = pos 0 } ∷ record { v = pos 0 } ∷ record { v = pos 0 } ∷ []) j ≡ pos 0
+zeros-at zero = refl
+zeros-at (suc zero) = refl
+zeros-at (suc (suc zero)) = refl
+zeros-at (suc (suc (suc zero))) = refl
+zeros-at (suc (suc (suc (suc j)))) = refl
+
 -- ---- zeros beyond n
 
 zero-term : (c x s : ℤ) → c ≡ pos 0 → c *ℤ x +ℤ s ≡ s
@@ -100,7 +107,7 @@ dotSize-several zero (suc n) f z h e = absurd (omega arith)
 dotSize-several (suc k) (suc n) f z h e =
     ap (λ t. natAbs (f 0) * natAbs (z 0) + t) (dotSize-several k n (λ i. f (suc i)) (λ i. z (suc i)) (omega arith) (later f e))
 
-sizes-nothing : (k : ℕ) (f : ℕ → ℤ) → Ends 0 f → sizes (several k f) ≡ 0
+pub sizes-nothing : (k : ℕ) (f : ℕ → ℤ) → Ends 0 f → sizes (several k f) ≡ 0
 sizes-nothing zero f e = refl
 sizes-nothing (suc k) f e = rw (e 0 (omega arith), sizes-nothing k (λ i. f (suc i)) (all-later f e))
 

@@ -5,17 +5,16 @@ use alpha::Int;
 use integer::add;
 use integer::mul;
 ghost use mathlib.Core.Path.{_≡_};
-ghost use Prim.Native.Nat.{ℕ, _+_, _*_, _^_, _≤_, _<_};
-ghost use mathlib.Core.List.{List};
+ghost use Prim.Native.Nat.{ℕ, _+_, _*_, _^_, _≤_, _<_, max};
 ghost use lib.ListN.{length};
 ghost use lib.IntN.{ℤ, pos, natAbs, _+ℤ_, _*ℤ_};
-ghost use Rattle.alpha.specs.Sheet as Sheet;
 ghost use Rattle.alpha.specs.Affine as Affine;
-ghost use Rattle.alpha.specs.Reach.{limit, sizes, rowReach};
+ghost use Rattle.alpha.specs.Reach.{sizes, rowReach, mapReach};
 ghost use Rattle.alpha.specs.Read as Read;
-ghost use Rattle.affine.specs.Value.{several, at, line, pointOf, rowOf, mapOf, Padded, NeatRow, ZeroRow, Neat, After, markOf};
+ghost use Rattle.affine.specs.Value.{several, at, line, pointOf, rowOf, mapOf, Padded, NeatRow, Neat, After, markOf};
 ghost use Rattle.affine.specs.Size.{dotSize, rowSize, Fit, column, constants, FitAfter, Tells};
-ghost use Rattle.affine.specs.Reading.{rowFields, rowPlace};
+ghost use Rattle.affine.specs.Reading.{rowFields, rowsFields, RowAmong, MapRead};
+ghost use Rattle.alpha.specs.Field.{field};
 
 pub struct Row {
     pub coef: [Int; 4],
@@ -167,7 +166,7 @@ pub fn row_after(f: Map, w: Row) -> Row
 // First the inner map, then the outer.
 pub fn compose(outer: Map, inner: Map) -> Map
     requires { ⌜ Neat outer × Neat inner × (outer .width ≡ inner .height) × ((i : ℕ) → FitAfter inner (line outer i)) ⌝ }
-    ensures { λ m. ⌜ (mapOf m ≡ Affine.mapAfter (mapOf inner) (mapOf outer)) × Neat m ⌝ }
+    ensures { λ m. ⌜ (mapOf m ≡ Affine.mapAfter (mapOf inner) (mapOf outer)) × Neat m × (m .height ≡ outer .height) × (m .width ≡ inner .width) ⌝ }
 {
     let rows = outer.rows;
     let r0 = row_after(inner, rows[0]);
@@ -294,4 +293,122 @@ pub fn row_reach(r: Row, reach: u64) -> Reached
     let c = r.coef;
     let k = r.constant;
     more(times(spread(c), reach), k)
+}
+
+// The larger of what s and t tell of.
+fn larger(s: Reached, t: Reached) -> Reached
+    ensures { λ y. ⌜ ((a b : ℕ) → Tells s a → Tells t b → Tells y (max a b)) ⌝ }
+{
+    let Reached::Within(m) = s else {
+        return Reached::Past;
+    };
+    let Reached::Within(n) = t else {
+        return Reached::Past;
+    };
+    if m < n {
+        return Reached::Within(n);
+    }
+    Reached::Within(m)
+}
+
+// How far the image reaches where the coordinates reach so far.
+pub fn map_reach(m: Map, reach: u64) -> Reached
+    requires { ⌜ Neat m × (1 ≤ reach) ⌝ }
+    ensures { λ y. ⌜ Tells y (mapReach reach (mapOf m .rows)) ⌝ }
+{
+    let rows = m.rows;
+    let s3 = larger(row_reach(rows[3], reach), Reached::Within(1));
+    let s2 = larger(row_reach(rows[2], reach), s3);
+    let s1 = larger(row_reach(rows[1], reach), s2);
+    larger(row_reach(rows[0], reach), s1)
+}
+
+// ---- read from a sheet
+
+// Coefficient i of the row of n at p: 0 past the n.
+fn coefficient(b: &[u8], p: usize, i: usize, n: usize) -> Int
+    requires { ⌜ (n ≤ 4) × (p + (8 * n + 8) ≤ length (now b)) ⌝ }
+    ensures { λ x. ⌜ (i < n → x .v ≡ field (now (b .entry)) (p + 8 * i)) × (n ≤ i → x .v ≡ pos 0) ⌝ }
+{
+    if i < n {
+        integer::number_at(b, p + 8 * i)
+    } else {
+        Int { v: 0 }
+    }
+}
+
+// The row of n coefficients at p.
+pub fn row_read(b: &[u8], p: usize, n: usize) -> Row
+    requires { ⌜ (n ≤ 4) × (p + (8 * n + 8) ≤ length (now b)) ⌝ }
+    ensures { λ r. ⌜ (rowOf n r ≡ rowFields n (now (b .entry)) p) × NeatRow n r ⌝ }
+{
+    let c0 = coefficient(b, p, 0, n);
+    let c1 = coefficient(b, p, 1, n);
+    let c2 = coefficient(b, p, 2, n);
+    let c3 = coefficient(b, p, 3, n);
+    let k = integer::number_at(b, p + 8 * n);
+    let c = [c0, c1, c2, c3];
+    Row {
+        coef: c,
+        constant: k,
+    }
+}
+
+// Row i of the k rows of n coefficients at p: zeros past the k.
+fn row_of(b: &[u8], p: usize, i: usize, k: usize, n: usize) -> Row
+    requires { ⌜ (n ≤ 4) × (k ≤ 4) × (p + k * (8 * n + 8) ≤ length (now b)) ⌝ }
+    ensures { λ r. ⌜ RowAmong (now (b .entry)) p i k n r ⌝ }
+{
+    if i < k {
+        row_read(b, p + i * (8 * n + 8), n)
+    } else {
+        let z = Int { v: 0 };
+        let c = [z, z, z, z];
+        Row {
+            coef: c,
+            constant: z,
+        }
+    }
+}
+
+// The k rows of n coefficients at p.
+pub fn rows_read(b: &[u8], p: usize, k: usize, n: usize) -> Map
+    requires { ⌜ (n ≤ 4) × (k ≤ 4) × (p + k * (8 * n + 8) ≤ length (now b)) ⌝ }
+    ensures { λ m. ⌜ (mapOf m ≡ record { cols = n; rows = rowsFields k n (now (b .entry)) p }) × Neat m × (m .height ≡ k) × (m .width ≡ n) ⌝ }
+{
+    let r0 = row_of(b, p, 0, k, n);
+    let r1 = row_of(b, p, 1, k, n);
+    let r2 = row_of(b, p, 2, k, n);
+    let r3 = row_of(b, p, 3, k, n);
+    let all = [r0, r1, r2, r3];
+    Map {
+        rows: all,
+        height: k,
+        width: n,
+    }
+}
+
+// The map of the dependence whose fields stand at p. Where none stands there, some map.
+pub fn map_read(b: &[u8], p: usize) -> Map
+    ensures { λ m. ⌜ MapRead (now (b .entry)) p m ⌝ }
+{
+    let len = b.len();
+    if len < 16 {
+        return identity(0);
+    }
+    if len - 16 < p {
+        return identity(0);
+    }
+    let n = integer::to_usize(integer::number_at(b, p));
+    let k = integer::to_usize(integer::number_at(b, p + 8));
+    if 4 < n {
+        return identity(0);
+    }
+    if 4 < k {
+        return identity(0);
+    }
+    if len - (p + 16) < k * (8 * n + 8) {
+        return identity(0);
+    }
+    rows_read(b, p + 16, k, n)
 }
