@@ -5,3 +5,4 @@ pub mod Readers
 pub mod Heads
 pub mod Boxes
 pub mod Variables
+pub mod Sections

@@ -2,4 +2,5 @@
 pub mod Place
 pub mod Name
 pub mod Record
+pub mod Section
 pub mod Table

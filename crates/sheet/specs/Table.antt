@@ -2,7 +2,7 @@
 use Prim.Native.Nat.{ℕ, _+_, _≤_, _<_}
 use mathlib.Core.Path.{_≡_}
 use mathlib.Core.List.{List}
-use lib.ListN.{length, getD}
+use lib.ListN.{length, getD, set}
 use Rattle.alpha.specs.Answer.{Answer, accepted, refused}
 use Rattle.alpha.specs.Sheet.{Raw}
 use Rattle.alpha.specs.Read.{Got, got, bad, read, noHead}
@@ -24,6 +24,10 @@ pub record Table (tab : List ℕ) (r : Raw) : Type 0 where
   pub nodes : getD tab 68 0 ≡ r .nodes
   -- the first node stands after the third section's count
   pub first-node : r .first ≡ r .third + 8
+
+-- a table with the numbers that stand after the records: the variables, the places of the second and third section, the nodes
+abbrev pub noted : List ℕ → ℕ → ℕ → ℕ → ℕ → List ℕ
+noted tab n second third nodes = set (set (set (set tab 65 n) 66 second) 67 third) 68 nodes
 
 -- what reading answers: the element total, or refusal 1 to 6
 abbrev pub answerOf : Got Raw → Answer ℕ

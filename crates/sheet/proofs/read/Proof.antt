@@ -1,0 +1,231 @@
+-- `read` meets its contract: one law for each way through the sections. Assumes nothing.
+use borrow.Author.Needs.{needs}
+use native.Mathlib.Omega.{arith}
+use mathlib.Core.Path.{_≡_, refl, sym, ap, _∙_, subst}
+use mathlib.Core.List.{List, []}
+use Prim.Native.Nat.{ℕ, _+_, _≤_}
+use lib.ListN.{length, take, getD}
+use lib.IntN.{pos, natAbs}
+use Rattle.alpha.specs.Answer.{accepted}
+use Rattle.alpha.specs.Field.{field}
+use Rattle.alpha.specs.Sheet.{Head, Declared, Raw}
+use Rattle.alpha.specs.Box.{within}
+use Rattle.alpha.specs.Read.{after, count, heads, ended, read}
+use Rattle.sheet.specs.Place.{placeAfter, passed}
+use Rattle.sheet.specs.Record.{headsAt, Filled}
+use Rattle.sheet.specs.Section.{secondSection, thirdSection}
+use Rattle.sheet.specs.Table.{Table, noted}
+use Rattle.sheet.proofs.Places.{Passed, came-to, count-came, counted}
+use Rattle.sheet.proofs.Heads.{heads-length}
+use Rattle.sheet.proofs.Sections.{rawOf, fromSecond, fromThird, read-long, read-sections, part-stops, first-goes, heads-go, second-goes, third-stops, third-goes, third-there, tail-refused, read-ends, reads-refused, reads-stopped, reads-accepted, noted-table, table-total}
+use Rattle.sheet.proofs.read.Statement.{statement}
+use Rattle.sheet.proofs.read.Tie as tie
+
+-- what stands at a place of the code: the sheet, the number of variables, the place of the first record, the table that was filled,
+-- the records, and the places of the sections
+abbrev bytes : tie.After-known-told2 → List ℕ
+bytes c = c .before .before .before .before .before .before .before .before .before .before .before .before .args .s .now
+
+abbrev many : tie.After-known-told2 → ℕ
+many c = c .before .before .before .before .before .count-at .result
+
+abbrev filledTable : tie.After-known-told2 → List ℕ
+filledTable c = c .before .before .before .heads .last .1 .0
+
+abbrev records : tie.After-known-told2 → List Head
+records c = headsAt (bytes c) (take (many c) (filledTable c))
+
+abbrev second : tie.After-known-told2 → ℕ
+second c = c .before .b .given .0 .0
+
+abbrev third : tie.After-known-told3 → ℕ
+third c = c .before .c .given .0 .0
+
+abbrev end : tie.After-known-told4 → ℕ
+end c = c .before .d .given .0 .0
+
+-- the count of variables was read
+counts : (c : tie.After-known-told) → Passed (within (pos 1) (pos 32)) (c .before .before .before .before .before .before .args .s .now) 0 (c .before .a .given .0 .0)
+counts c = count-came (c .before .before .before .before .before .before .args .s .now) 0 _ _ (c .before .a .given .1) 1 32 (c .before .before .before .count-field .ensures)
+
+some : (c : tie.After-count-at) → (1 ≤ c .count-at .result) × (c .count-at .result ≤ 32)
+some c = let e = c .count-at .ensures in let h = counted 1 32 (counts (c .before)) in (omega arith, omega arith)
+
+opened : (c : tie.After-count-at) →
+    let s = c .before .before .before .before .before .before .before .args .s .now in
+    read s ≡ after (heads (c .count-at .result) [] 0 s (c .before .before .a .given .0 .0)) (fromSecond s)
+opened c =
+    let s = c .before .before .before .before .before .before .before .args .s .now in
+    let p = c .before .before .a .given .0 .0 in
+    let came = came-to (count 1 32 s 0) _ (c .before .before .before .before .count-field .ensures) p (c .before .before .a .given .1) in
+    first-goes s p (read-sections s (search needs)) came ∙ ap (λ (n : ℕ). after (heads n [] 0 s p) (fromSecond s)) (sym (c .count-at .ensures))
+
+-- the records were read
+filled : (c : tie.After-known-told2) → Filled (bytes c) (c .before .before .before .before .before .before .before .a .given .0 .0) (many c) (filledTable c) (second c)
+filled c = c .before .before .before .heads .ensures .filled (second c) (c .before .b .given .1)
+
+listed : (c : tie.After-known-told2) → read (bytes c) ≡ after (secondSection (records c) (bytes c) (second c)) (fromThird (bytes c) (records c) (second c))
+listed c = heads-go (bytes c) _ (records c) (second c) (opened (c .before .before .before .before .before)) (filled c .gives)
+
+-- the declared constraints were read
+bound : (c : tie.After-known-told3) → let m = c .before .before .before .before .before in
+    (ds : List Declared) × (read (bytes m) ≡ fromThird (bytes m) (records m) (second m) ds (third c))
+bound c =
+    let m = c .before .before .before .before .before in
+    second-goes (bytes m) (records m) (second m) (third c) (listed m) (came-to (secondSection (records m) (bytes m) (second m)) _ (c .before .before .before .second-section .ensures) (third c) (c .before .c .given .1))
+
+-- the nodes were read
+came-third : (c : tie.After-known-told4) → let m = c .before .before .before .before .before .before .before .before .before in placeAfter (thirdSection (many m) (bytes m) (third (c .before .before .before .before))) ≡ accepted (end c)
+came-third c = let m = c .before .before .before .before .before .before .before .before .before in came-to (thirdSection (many m) (bytes m) (third (c .before .before .before .before))) _ (c .before .before .before .third-section .ensures) (end c) (c .before .d .given .1)
+
+raw : tie.After-known-told4 → Raw
+raw c =
+    let m = c .before .before .before .before .before .before .before .before .before in
+    let t = third (c .before .before .before .before) in
+    rawOf (records m) (bound (c .before .before .before .before) .0) (second m) t (t + 8) (natAbs (field (bytes m) t))
+
+read-all : (c : tie.After-known-told4) → let m = c .before .before .before .before .before .before .before .before .before in read (bytes m) ≡ ended (raw c) (bytes m) (end c)
+unfolding raw
+read-all c =
+    let m = c .before .before .before .before .before .before .before .before .before in
+    let t = third (c .before .before .before .before) in
+    let b = bound (c .before .before .before .before) in
+    let all = subst (λ (n : ℕ). placeAfter (thirdSection n (bytes m) t) ≡ accepted (end c)) (sym (heads-length (filled m .known))) (came-third c) in
+    third-goes (bytes m) (records m) (second m) (b .0) t (b .1) (end c) all
+
+returns : tie.Need-returns
+returns c = reads-refused refl (read-long _ (search needs))
+
+count-field-requires : tie.Need-count-field-requires
+count-field-requires c κs = search needs
+
+enum-known-a : tie.Need-enum-known-a
+enum-known-a c = search needs
+
+enum-told : tie.Need-enum-told
+enum-told c = search needs
+
+verdict-requires : tie.Need-verdict-requires
+verdict-requires c κs = search needs
+
+returns-2 : tie.Need-returns-2
+returns-2 c =
+    let s = c .before .before .before .before .before .before .args .s .now in
+    let refused = c .before .enum-told .given .1 in
+    reads-stopped _ _ _ refused (c .verdict .ensures) (part-stops s (count 1 32 s 0) _ (read-sections s (search needs)) _ (c .before .before .before .count-field .ensures) _ refused)
+
+count-at-requires : tie.Need-count-at-requires
+count-at-requires c κs = counts c .there
+
+heads-requires : tie.Need-heads-requires
+heads-requires c κs = (c .before .before .before .before .before .before .before .before .pre, some (c .before) .1)
+
+enum-known-b : tie.Need-enum-known-b
+enum-known-b c = search needs
+
+enum-told-2 : tie.Need-enum-told-2
+enum-told-2 c = search needs
+
+verdict-requires-2 : tie.Need-verdict-requires-2
+verdict-requires-2 c κs = search needs
+
+returns-3 : tie.Need-returns-3
+returns-3 c =
+    let s = c .before .before .before .before .before .before .before .before .before .before .before .before .args .s .now in
+    let refused = c .before .enum-told2 .given .1 in
+    reads-stopped _ _ _ refused (c .verdict2 .ensures) (part-stops s (heads (c .before .before .before .before .before .count-at .result) [] 0 s (c .before .before .before .before .before .before .before .a .given .0 .0)) (fromSecond s) (opened (c .before .before .before .before .before)) _ (c .before .before .before .heads .ensures .answer) _ refused)
+
+second-section-requires : tie.Need-second-section-requires
+second-section-requires c κs = (some (c .before .before .before .before .before .before) .0, filled (c .before) .known)
+
+enum-known-c : tie.Need-enum-known-c
+enum-known-c c = search needs
+
+enum-told-3 : tie.Need-enum-told-3
+enum-told-3 c = search needs
+
+verdict-requires-3 : tie.Need-verdict-requires-3
+verdict-requires-3 c κs = search needs
+
+returns-4 : tie.Need-returns-4
+returns-4 c =
+    let m = c .before .before .before .before .before in
+    let refused = c .before .enum-told3 .given .1 in
+    reads-stopped _ _ _ refused (c .verdict3 .ensures) (part-stops (bytes m) (secondSection (records m) (bytes m) (second m)) _ (listed m) _ (c .before .before .before .second-section .ensures) _ refused)
+
+third-section-requires : tie.Need-third-section-requires
+third-section-requires c κs = some (c .before .before .before .before .before .before .before .before .before .before)
+
+enum-known-d : tie.Need-enum-known-d
+enum-known-d c = search needs
+
+enum-told-4 : tie.Need-enum-told-4
+enum-told-4 c = search needs
+
+verdict-requires-4 : tie.Need-verdict-requires-4
+verdict-requires-4 c κs = search needs
+
+returns-5 : tie.Need-returns-5
+returns-5 c =
+    let m = c .before .before .before .before .before .before .before .before .before in
+    let t = c .before .before .before .before in
+    let refused = c .before .enum-told4 .given .1 in
+    let all = sym (heads-length (filled m .known)) in
+    let says = subst (λ (n : ℕ). passed (c .before .before .before .third-section .result) ≡ placeAfter (thirdSection n (bytes m) (third t))) all (c .before .before .before .third-section .ensures) in
+    reads-stopped _ _ _ refused (c .verdict4 .ensures) (third-stops (bytes m) (records m) (second m) (bound t .0) (third t) (bound t .1) _ says _ refused)
+
+returns-6 : tie.Need-returns-6
+returns-6 c = reads-refused refl (tail-refused _ _ _ (read-all (c .before)) (c .if2 .taken))
+
+count-at-requires-2 : tie.Need-count-at-requires-2
+count-at-requires-2 c κs = third-there _ _ _ _ (came-third (c .before .before))
+
+note-requires : tie.Need-note-requires
+note-requires c κs = search needs
+
+first-element-requires : tie.Need-first-element-requires
+first-element-requires c κs = some (c .before .before .before .before .before .before .before .before .before .before .before .before .before .before .before .before .before .before .before) .1
+
+returns-7 : tie.Need-returns-7
+unfolding raw
+returns-7 c =
+    let d = c .before .before .before .before .before .before in
+    let m = c .before .before .before .before .before .before .before .before .before .before .before .before .before .before .before in
+    let t = third (c .before .before .before .before .before .before .before .before .before .before) in
+    let nodes = natAbs (field (bytes m) t) in
+    let stored = c .before .before .note .ensures ∙ ap (noted (filledTable m) (many m) (second m) t) (c .before .before .before .count-at2 .ensures) in
+    let table = subst (λ (tab : List ℕ). Table tab (raw d)) (sym stored) (noted-table (bound (c .before .before .before .before .before .before .before .before .before .before) .0) t nodes (filled m)) in
+    let total = c .first-element .ensures ∙ ap (λ (k : ℕ). getD (c .before .before .note .last .0) (32 + k) 0) (sym (heads-length (filled m .known))) ∙ table-total table in
+    reads-accepted (read-ends _ _ _ (read-all d) (c .before .before .before .before .before .if2 .left)) total table
+
+pub read-spec : {M : Type 1} → statement M
+read-spec =
+    tie.close
+    (tie.spec
+    returns
+    count-field-requires
+    enum-known-a
+    enum-told
+    verdict-requires
+    returns-2
+    count-at-requires
+    heads-requires
+    enum-known-b
+    enum-told-2
+    verdict-requires-2
+    returns-3
+    second-section-requires
+    enum-known-c
+    enum-told-3
+    verdict-requires-3
+    returns-4
+    third-section-requires
+    enum-known-d
+    enum-told-4
+    verdict-requires-4
+    returns-5
+    returns-6
+    count-at-requires-2
+    note-requires
+    first-element-requires
+    returns-7)

@@ -1,0 +1,17 @@
+-- The three sections as readers of their own. Assumes nothing.
+use Prim.Native.Nat.{ℕ}
+use mathlib.Core.List.{List, []}
+use Rattle.alpha.specs.Sheet.{Head, Declared, Node}
+use Rattle.alpha.specs.Read.{Reader, _>>=_, count, repeat, heads, declared, node}
+
+-- the count of variables, and their records
+unfoldable pub firstSection : Reader (List Head)
+firstSection = count 1 32 >>= λ n. heads n [] 0
+
+-- the count of declared constraints, and these
+unfoldable pub secondSection : List Head → Reader (List Declared)
+secondSection hs = count 0 256 >>= λ n. repeat n (declared hs)
+
+-- the count of nodes, and these, where there are so many variables
+unfoldable pub thirdSection : ℕ → Reader (List Node)
+thirdSection vars = count 0 2048 >>= λ n. repeat n (node vars)
