@@ -1,25 +1,23 @@
 -- What is read of a sheet as a whole: its sections, and the bodies of its variables one after another. Assumes nothing.
 use mathlib.Core.Path.{_≡_, refl, sym, ap, _∙_, subst}
-use Prim.Native.Nat.{ℕ, zero, suc, _+_, _-_, _≤_, _<_}
+use Prim.Native.Nat.{ℕ, zero, suc, _+_, _≤_}
 use native.Mathlib.Nat.{zero-add}
 use native.Mathlib.Omega.{arith}
 use mathlib.Core.Bool.{Bool, true, false}
-use mathlib.Core.List.{List, [], _∷_, _++_, map}
+use mathlib.Core.List.{List, [], _∷_, map}
 use lib.ListN.{length}
 use lib.Dec.{leb, eqb}
 use borrow.Author.Tests.{leb-true, eqb-true}
 use Rattle.alpha.specs.Pick.{ifb}
 use Rattle.alpha.specs.Answer.{Answer, accepted, refused, next, LONG, TAIL, SHAPE}
-use Rattle.alpha.specs.Sheet.{Kind, Kind.input, Kind.output, Kind.local, Node, Head, Declared, Raw, Expr, Exprs, Variable, Sheet, Expr.kase, Exprs.none}
-use Rattle.alpha.specs.Read.{Got, got, bad, Reader, after, repeat, count, heads, declared, node, ended, sections, read}
+use Rattle.alpha.specs.Sheet.{Kind, Kind.input, Kind.output, Kind.local, Head, Raw, Expr, Variable, Sheet}
+use Rattle.alpha.specs.Read.{Got, got, bad, after, repeat, count, heads, declared, node, ended, sections, read}
 use Rattle.alpha.specs.Shape.{Parsed, tree, ill, exprAt, fits, ofVariable, Bodied, shaped, bodyOf, bodies}
-use Rattle.alpha.specs.Written.{nodeCount, depth}
-use Rattle.laws.specs.At.{At}
-use Rattle.laws.specs.Heads.{InRow, HeadsAt, pointsOf}
-use Rattle.laws.specs.Accepted.{Sections, TreeAt, NoTree, BodyAt, VariableAt, BodiesAt}
+use Rattle.laws.specs.Heads.{pointsOf}
+use Rattle.laws.specs.Accepted.{Sections, TreeAt, BodyAt, BodiesAt}
 use Rattle.laws.proofs.Readers.{Upto, given, Counted, count-gives}
-use Rattle.laws.proofs.Trees.{Read, exprAt-read}
-use Rattle.laws.proofs.Heads.{HeadsRead, heads-read, RowRead, repeat-row}
+use Rattle.laws.proofs.Trees.{exprAt-read}
+use Rattle.laws.proofs.Heads.{heads-read, repeat-row}
 
 -- ---- the sections
 

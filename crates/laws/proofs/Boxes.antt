@@ -1,19 +1,19 @@
 -- A point's number in its box and the point of a number: each undoes the other. Assumes nothing.
 use mathlib.Core.Path.{_≡_, refl, ap, _∙_}
-use Prim.Native.Nat.{ℕ, zero, suc, _+_, _*_, _-_, _/_, _%_, _≤_, _<_}
+use Prim.Native.Nat.{ℕ, zero, suc, _+_, _*_, _/_, _%_, _≤_, _<_}
 use native.Mathlib.Nat.{suc-mul, mul-pos, mul-le-mul-right, mod-lt, div-add-mod', div-lt-iff-lt-mul, div-eq-of-lt, mod-eq-of-lt, mul-add-div-right, mul-add-mod-self-right, add-zero}
 use native.Mathlib.Omega.{arith}
-use mathlib.Core.Bool.{Bool, true, false, _&&_}
+use mathlib.Core.Bool.{true, false, _&&_}
 use mathlib.Core.List.{List, [], _∷_}
 use lib.ListN.{length, getD}
-use lib.IntN.{ℤ, pos, negsuc, natAbs, negℤ, _+ℤ_, _-ℤ_}
+use lib.IntN.{ℤ, pos, negsuc, natAbs, negℤ, _-ℤ_}
 use lib.Signed.{leZ}
 use borrow.Author.Tests.{leb-true}
 use Rattle.alpha.specs.Sheet.{Range, Point}
 use Rattle.alpha.specs.Box.{within, side, size, inBox, index, pointAt}
 use Rattle.laws.specs.Box.{ordered, readRange, readBox}
 use Rattle.laws.proofs.Tests.{&&-left, &&-right, &&-true, true-not-false}
-use Rattle.laws.proofs.Order.{leZ-trans, above-less, Among, within-among, above-within}
+use Rattle.laws.proofs.Order.{leZ-trans, above-less, within-among, above-within}
 
 -- ---- points
 

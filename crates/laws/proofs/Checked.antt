@@ -1,17 +1,16 @@
 -- A sheet that `check` accepts is `Accepted`: what each of its tests has shown; and what follows for each variable. Assumes nothing.
 use mathlib.Core.Path.{_≡_, refl, sym, ap, _∙_, subst}
-use Prim.Native.Nat.{ℕ, zero, suc, _+_, _-_, _≤_, _<_}
-use native.Mathlib.Nat.{zero-add}
+use Prim.Native.Nat.{ℕ, zero, suc, _≤_, _<_}
 use native.Mathlib.Omega.{arith}
-use mathlib.Core.Bool.{Bool, true, false, not, _&&_}
+use mathlib.Core.Bool.{Bool, true, false}
 use mathlib.Core.List.{List, [], _∷_, _++_, map}
 use lib.ListN.{length, getD, length-map, List·getD-map}
 use Rattle.alpha.specs.Pick.{ifb}
 use Rattle.alpha.specs.Answer.{Answer, accepted, refused, next, TYPE, REACH, GAP, CLASH}
-use Rattle.alpha.specs.Sheet.{Kind, Kind.input, Kind.output, Kind.local, Range, Head, Raw, Variable, Sheet, Point}
+use Rattle.alpha.specs.Sheet.{Kind, Kind.input, Kind.output, Kind.local, Head, Raw, Variable, Sheet, Point}
 use Rattle.alpha.specs.Affine.{meetsAll}
-use Rattle.alpha.specs.Box.{size, inBox}
-use Rattle.alpha.specs.Read.{Got, got, bad, read, noHead, dimension, headRecord}
+use Rattle.alpha.specs.Box.{inBox}
+use Rattle.alpha.specs.Read.{Got, got, bad, read, noHead, dimension}
 use Rattle.alpha.specs.Shape.{fits, bodies}
 use Rattle.alpha.specs.Holds.{noVariable, variable, isInputKind, isInput, inDomain, holds, clashes}
 use Rattle.alpha.specs.Check.{Element, elements, total, first, typed, reached, tested, fault, faults, checked, afterRead, check}
@@ -20,8 +19,8 @@ use Rattle.alpha.specs.Ask.{numberOf}
 use Rattle.laws.specs.At.{At}
 use Rattle.laws.specs.Box.{readBox}
 use Rattle.laws.specs.Heads.{HeadsAt, pointsOf}
-use Rattle.laws.specs.Accepted.{Sections, TreeAt, BodyAt, BodiesAt, Accepted}
-use Rattle.laws.proofs.Tests.{true-not-false, &&-left, &&-right, &&-true}
+use Rattle.laws.specs.Accepted.{TreeAt, BodyAt, BodiesAt, Accepted}
+use Rattle.laws.proofs.Tests.{true-not-false, &&-left}
 use Rattle.laws.proofs.Elements.{length-elements, number-low, element-of-number}
 use Rattle.laws.proofs.Heads.{HeadAt, head-at, head-box}
 use Rattle.laws.proofs.Bodies.{SheetRead, read-says, Tells, next-tells, BodiesRead, bodies-tell}

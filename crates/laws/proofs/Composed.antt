@@ -109,7 +109,7 @@ length-image (r ∷ rs) z = ap suc (length-image rs z)
 
 -- ---- the identity
 
-one-*ℤ : (x : ℤ) → pos 1 *ℤ x ≡ x
+pub one-*ℤ : (x : ℤ) → pos 1 *ℤ x ≡ x
 unfolding one
 one-*ℤ x = *ℤ-comm (pos 1) x ∙ *ℤ-one x
 

@@ -2,16 +2,16 @@
 -- Assumes nothing.
 use mathlib.Core.Path.{_≡_, refl, sym, ap, _∙_, subst}
 use Prim.Native.Nat.{ℕ, zero, suc, _+_, _-_, _≤_, _<_}
-use native.Mathlib.Nat.{zero-add, add-zero, add-suc}
+use native.Mathlib.Nat.{zero-add, add-zero}
 use native.Mathlib.Omega.{arith}
 use native.Mathlib.Decide.{decLt}
-use mathlib.Core.Bool.{Bool, true, false}
-use mathlib.Core.List.{List, [], _∷_, _++_, map}
-use lib.ListN.{length, getD, take, length-append, length-map, List·getD-append}
+use mathlib.Core.Bool.{true}
+use mathlib.Core.List.{List, [], _∷_, map}
+use lib.ListN.{length, getD, length-append, length-map, List·getD-append}
 use lib.Seq.{getD-append-add, take-length}
-use Rattle.alpha.specs.Sheet.{Range, Point, Sheet, Variable, Head}
+use Rattle.alpha.specs.Sheet.{Range, Point, Sheet}
 use Rattle.alpha.specs.Box.{size, inBox, index, pointAt}
-use Rattle.alpha.specs.Holds.{variable, noVariable}
+use Rattle.alpha.specs.Holds.{variable}
 use Rattle.alpha.specs.Check.{Element, pointsFrom, points, elementsFrom, elements, total}
 use Rattle.alpha.specs.Ask.{before, numberOf}
 use Rattle.laws.specs.Box.{ordered}

@@ -1,6 +1,6 @@
 -- Outcomes grow with the depth: at a greater depth an element has the same outcome, or had LOOP before. So an outcome that is not LOOP
 -- is that at every greater depth, and LOOP is LOOP at every smaller one. Assumes nothing.
-use mathlib.Core.Path.{_≡_, refl, sym, ap, _∙_, subst}
+use mathlib.Core.Path.{_≡_, refl, sym, _∙_, subst}
 use Prim.Native.Nat.{ℕ, zero, suc, _+_, _-_, _≤_}
 use native.Mathlib.Nat.{add-zero, add-suc}
 use native.Mathlib.Omega.{arith}
@@ -8,7 +8,7 @@ use mathlib.Core.Bool.{Bool, true, false}
 use mathlib.Core.List.{List}
 use lib.IntN.{ℤ}
 use Rattle.alpha.specs.Pick.{ifb}
-use Rattle.alpha.specs.Sheet.{Expr, Exprs, Sheet, Point, Constraint, Map}
+use Rattle.alpha.specs.Sheet.{Expr, Exprs, Sheet, Point}
 use Rattle.alpha.specs.Sheet.{Expr.var, Expr.int, Expr.boo, Expr.un, Expr.bin, Expr.ite, Expr.kase, Expr.restr, Expr.dep, Exprs.none, Exprs.more}
 use Rattle.alpha.specs.Affine.{image}
 use Rattle.alpha.specs.Holds.{variable, isInput, inDomain, holds}

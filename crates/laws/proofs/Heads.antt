@@ -4,19 +4,19 @@ use Prim.Native.Nat.{ℕ, zero, suc, _+_, _*_, _-_, _≤_, _<_}
 use native.Mathlib.Omega.{arith}
 use mathlib.Core.Bool.{Bool, true, false, not, _&&_}
 use mathlib.Core.List.{List, [], _∷_, _++_, append-assoc, append-nil}
-use lib.ListN.{length, getD, length-append}
-use lib.IntN.{ℤ, pos, negℤ, natAbs}
+use lib.ListN.{length, getD}
+use lib.IntN.{pos, negℤ, natAbs}
 use lib.Signed.{leZ}
 use lib.Dec.{leb}
 use borrow.Author.Tests.{leb-true, not-true}
 use Rattle.alpha.specs.Pick.{ifb}
 use Rattle.alpha.specs.Answer.{CUT, NAME, NUMBER, COUNT}
 use Rattle.alpha.specs.Field.{field, eight, nameForm}
-use Rattle.alpha.specs.Sheet.{Kind, Sort, Range, Head, Constraint, Declared}
+use Rattle.alpha.specs.Sheet.{Range, Head, Declared}
 use Rattle.alpha.specs.Box.{within, size}
 use Rattle.alpha.specs.Read.{Got, got, bad, Reader, after, repeat, room, count, choice, number, taken, nameField, kindOf, sortOf, range, headRecord, heads, dimension, constraint, declared}
 use Rattle.laws.specs.Box.{readRange, readBox}
-use Rattle.laws.specs.Heads.{headLen, declaredLen, Before, InRow, HeadsAt, pointsOf}
+use Rattle.laws.specs.Heads.{headLen, declaredLen, InRow, HeadsAt, pointsOf}
 use Rattle.laws.proofs.Tests.{&&-left, &&-right, &&-true}
 use Rattle.laws.proofs.Readers.{Gives, given, gives-map, then-gives, Passed, passing-gives, Counted, counted-is, count-gives, choice-gives, There, Items, repeat-gives}
 use Rattle.laws.proofs.Rows.{Chosen, chosen, ConstraintAt, constraint-gives}

@@ -16,3 +16,12 @@ pub mod Heads
 pub mod Bodies
 pub mod Checked
 pub mod SameOutcome
+pub mod Branches
+pub mod NormalChecks
+pub mod NormalType
+pub mod NormalReach
+pub mod NormalClear
+pub mod Widths
+pub mod NormalAgain
+pub mod NormalSheet
+pub mod Written

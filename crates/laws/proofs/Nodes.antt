@@ -1,14 +1,13 @@
 -- What is read at a node's place: its code, its fields, and its length. One law, `node-gives`, by the node's cases. Assumes nothing.
-use mathlib.Core.Path.{_≡_, refl, sym, ap, _∙_}
+use mathlib.Core.Path.{_≡_, refl, ap, _∙_}
 use Prim.Native.Nat.{ℕ, zero, suc, _+_, _*_, _-_, _≤_, _<_}
-use native.Mathlib.Nat.{add-suc}
 use native.Mathlib.Omega.{arith}
 use mathlib.Core.List.{List, [], _∷_}
 use lib.ListN.{length, getD}
-use lib.IntN.{ℤ, pos, negℤ, natAbs}
+use lib.IntN.{pos, negℤ, natAbs}
 use Rattle.alpha.specs.Answer.{NUMBER}
 use Rattle.alpha.specs.Field.{field}
-use Rattle.alpha.specs.Sheet.{Unary, Binary, Row, Constraint, Map, Node}
+use Rattle.alpha.specs.Sheet.{Row, Constraint, Map, Node}
 use Rattle.alpha.specs.Sheet.{Node.nVar, Node.nInt, Node.nBool, Node.nUnary, Node.nBinary, Node.nIf, Node.nCase, Node.nRestr, Node.nDep}
 use Rattle.alpha.specs.Box.{within}
 use Rattle.alpha.specs.Read.{Got, got, Reader, after, pure, unaryOf, binaryOf, repeat, count, choice, number, rowOf, constraint, restriction, dependence, nodes, node}

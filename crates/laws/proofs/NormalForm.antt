@@ -1,10 +1,10 @@
 -- The normal form means what the expression means: it holds at the same points, and where it holds it has the same outcome. Assumes
 -- only that the expression fits the dimension of the point.
 use mathlib.Core.Path.{_≡_, refl, sym, ap, _∙_}
-use Prim.Native.Nat.{ℕ, zero, suc}
+use Prim.Native.Nat.{ℕ}
 use mathlib.Core.Bool.{Bool, true, false, _&&_, _||_, and-assoc}
 use mathlib.Core.List.{List, [], _∷_, _++_, map}
-use lib.ListN.{length, getD}
+use lib.ListN.{length}
 use lib.Dec.{eqb, eqb·zero-suc}
 use borrow.Author.Tests.{eqb-true}
 use Rattle.alpha.specs.Pick.{ifb}
@@ -14,7 +14,7 @@ use Rattle.alpha.specs.Affine.{meets, meetsAll, image, idRows, identity}
 use Rattle.alpha.specs.Read.{dimension}
 use Rattle.alpha.specs.Shape.{fits, allFit}
 use Rattle.alpha.specs.Holds.{variable, inDomain, holds, someHolds}
-use Rattle.alpha.specs.Outcome.{Outcome, outside, andThen, eval, evalFirst}
+use Rattle.alpha.specs.Outcome.{Outcome, outside, eval, evalFirst}
 use Rattle.alpha.specs.Normal.{Branch, push, pushBranch, restrict, under1, pairs, triples, norm, norms, asExprs, bodyCase}
 use Rattle.laws.proofs.Tests.{&&-left, &&-right, true-not-false}
 use Rattle.laws.proofs.Composed.{image-after, meetsAll-after, image-id, length-image}
@@ -58,7 +58,7 @@ mapC-id nothing = refl
 mapC-id (just e) = refl
 
 -- a branch holds at z
-abbrev branchHolds : Branch → Sheet → Point → Bool
+abbrev pub branchHolds : Branch → Sheet → Point → Bool
 branchHolds b s z = meetsAll (b .given) z && holds (b .term) s z
 
 abbrev chosen : List Branch → Sheet → Point → Choice
@@ -92,7 +92,7 @@ module _ (s : Sheet) where
         go true false = refl
         go false t = refl
 
-  restrict-holds : (cs : List Constraint) (b : Branch) (z : Point) → branchHolds (restrict cs b) s z ≡ meetsAll cs z && branchHolds b s z
+  pub restrict-holds : (cs : List Constraint) (b : Branch) (z : Point) → branchHolds (restrict cs b) s z ≡ meetsAll cs z && branchHolds b s z
   restrict-holds cs b z = rw (meetsAll-append cs (b .given) z) (and-assoc (meetsAll cs z) (meetsAll (b .given) z) (holds (b .term) s z))
 
   chosen-restrict : (cs : List Constraint) (bs : List Branch) (z : Point) → chosen (map (restrict cs) bs) s z ≡ when (meetsAll cs z) (chosen bs s z)

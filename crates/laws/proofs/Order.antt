@@ -1,12 +1,12 @@
 -- The order of ℤ by differences, and a number in a range as its distance from the range's least. Assumes nothing.
-use mathlib.Core.Path.{_≡_, refl, sym, ap, _∙_, subst}
-use Prim.Native.Nat.{ℕ, zero, suc, _+_, _-_, _≤_, _<_}
+use mathlib.Core.Path.{_≡_, refl, sym, ap, _∙_}
+use Prim.Native.Nat.{ℕ, zero, suc, _+_, _-_, _<_}
 use native.Mathlib.Omega.{arith}
-use mathlib.Core.Bool.{Bool, true, false, not, cond, _&&_}
-use lib.IntN.{ℤ, pos, negsuc, natAbs, negℤ, _+ℤ_, _-ℤ_, subℕ, +ℤ-assoc, +ℤ-comm, +ℤ-idl, +ℤ-invr, +ℤ-negℤ-cancel, -ℤ-+ℤ-cancel, negℤ-+ℤ}
+use mathlib.Core.Bool.{Bool, true, false, cond}
+use lib.IntN.{ℤ, pos, negsuc, natAbs, negℤ, _+ℤ_, _-ℤ_, subℕ, +ℤ-assoc, +ℤ-comm, +ℤ-negℤ-cancel, -ℤ-+ℤ-cancel, negℤ-+ℤ}
 use lib.Signed.{leZ, nonNeg}
 use lib.Dec.{leb, ltb, leb·zero, leb·suc-zero, leb·suc-suc}
-use borrow.Author.Tests.{leb-true, le-leb, lt-leb, ltb-true, ltb-false}
+use borrow.Author.Tests.{le-leb, lt-leb, ltb-true, ltb-false}
 use Rattle.alpha.specs.Sheet.{Range}
 use Rattle.alpha.specs.Box.{within, side}
 use Rattle.laws.proofs.Tests.{&&-left, &&-right, &&-true}

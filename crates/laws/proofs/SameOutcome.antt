@@ -1,29 +1,29 @@
 -- The normal form of an accepted sheet gives every element the outcome that the sheet gives it, at every depth. Assumes nothing.
-use mathlib.Core.Path.{_≡_, refl, sym, ap, _∙_, subst, fun-ext}
-use Prim.Native.Nat.{ℕ, zero, suc, _+_, _≤_, _<_}
+use mathlib.Core.Path.{_≡_, refl, sym, ap, _∙_, fun-ext}
+use Prim.Native.Nat.{ℕ, zero, suc, _<_}
 use native.Mathlib.Omega.{arith}
 use native.Mathlib.Decide.{decLt}
-use mathlib.Core.Bool.{Bool, true, false, _&&_, _||_}
+use mathlib.Core.Bool.{Bool, true, false}
 use mathlib.Core.List.{List, [], _∷_, map}
-use lib.ListN.{length, getD, List·getD-map, List·getD-eq-default}
+use lib.ListN.{length, List·getD-map, List·getD-eq-default}
 use lib.IntN.{ℤ}
 use Rattle.alpha.specs.Pick.{ifb}
-use Rattle.alpha.specs.Sheet.{Constraint, Map, Raw, Head, Expr, Exprs, Variable, Sheet, Point}
+use Rattle.alpha.specs.Sheet.{Raw, Expr, Exprs, Sheet, Point}
 use Rattle.alpha.specs.Sheet.{Expr.var, Expr.int, Expr.boo, Expr.un, Expr.bin, Expr.ite, Expr.kase, Expr.restr, Expr.dep, Exprs.none, Exprs.more}
 use Rattle.alpha.specs.Affine.{meetsAll, image}
-use Rattle.alpha.specs.Box.{inBox, size, index}
+use Rattle.alpha.specs.Box.{inBox}
 use Rattle.alpha.specs.Read.{dimension}
 use Rattle.alpha.specs.Shape.{fits}
 use Rattle.alpha.specs.Holds.{noVariable, variable, isInput, inDomain, holds, someHolds}
-use Rattle.alpha.specs.Outcome.{Outcome, outside, loop, andThen, eval, evalFirst, inputsBefore, entry, atPoint, outcome}
+use Rattle.alpha.specs.Outcome.{Outcome, outside, loop, eval, evalFirst, inputsBefore, entry, atPoint, outcome}
 use Rattle.alpha.specs.Normal.{norm, bodyCase}
 use Rattle.alpha.specs.Normalise.{dims, normalBody}
 use Rattle.laws.specs.Accepted.{Accepted}
 use Rattle.laws.specs.Normal.{normalVariable, normalSheet}
 use Rattle.laws.proofs.Tests.{&&-left, true-not-false}
 use Rattle.laws.proofs.Boxes.{inBox-length}
-use Rattle.laws.proofs.NormalForm.{normal-holds, normal-eval}
-use Rattle.laws.proofs.Checked.{BodyOf, accepted-body, accepted-dimension}
+use Rattle.laws.proofs.NormalForm.{normal-eval}
+use Rattle.laws.proofs.Checked.{accepted-body, accepted-dimension}
 
 -- ---- expressions over two sheets whose variables have the same declared domains
 
@@ -91,17 +91,17 @@ module _ {bs : List ℕ} {r : Raw} {s : Sheet} (a : Accepted bs r s) (ins : List
       ap (λ f. eval (bodyCase (length box) (norm (x .body) f)) s look z) ds
       ∙ normal-eval s (r .heads) (length box) (x .body) z fit look (a .covered v z lt i d)
 
-  domain-same : (v : ℕ) (z : Point) → inDomain (variable (normalSheet s) v) z ≡ inDomain (variable s v) z
+  pub domain-same : (v : ℕ) (z : Point) → inDomain (variable (normalSheet s) v) z ≡ inDomain (variable s v) z
   domain-same v z = ap (λ x. inDomain x z) (normal-variable s v)
 
-  input-same : (v : ℕ) → isInput (variable (normalSheet s) v) ≡ isInput (variable s v)
+  pub input-same : (v : ℕ) → isInput (variable (normalSheet s) v) ≡ isInput (variable s v)
   input-same v = ap isInput (normal-variable s v)
 
   entry-same : (v : ℕ) (z : Point) → entry (normalSheet s) ins v z ≡ entry s ins v z
   entry-same v z = rw (normal-variable s v, inputsBefore-normal s s v)
 
   -- a variable that is not an input is one of the sheet's
-  known : (v : ℕ) → isInput (variable s v) ≡ false → v < length s
+  pub known : (v : ℕ) → isInput (variable s v) ≡ false → v < length s
   known v i = go (decLt v (length s))
     where
       go : Dec (v < length s) → v < length s

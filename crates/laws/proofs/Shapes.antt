@@ -1,9 +1,8 @@
 -- What is known of a tree at a place from the code that stands there: which tree it is, what its fields say, where its parts stand.
 -- One law for each code, `at-var` to `at-dep`, from one law by the tree's cases, `at-shape`. Assumes nothing.
 use mathlib.Core.Path.{_≡_, refl, sym, ap, _∙_, subst}
-use Prim.Native.Nat.{ℕ, zero, suc, _+_, _*_, _-_, _≤_, _<_}
+use Prim.Native.Nat.{ℕ, suc, _+_, _*_, _-_, _≤_, _<_}
 use native.Mathlib.Omega.{arith}
-use mathlib.Core.Bool.{true}
 use mathlib.Core.List.{List, [], _∷_}
 use lib.ListN.{length, getD}
 use lib.IntN.{ℤ, pos, negℤ, natAbs}
@@ -14,7 +13,7 @@ use Rattle.alpha.specs.Sheet.{Expr.var, Expr.int, Expr.boo, Expr.un, Expr.bin, 
 use Rattle.alpha.specs.Box.{within}
 use Rattle.alpha.specs.Read.{got, unaryOf, binaryOf, node}
 use Rattle.alpha.specs.Written.{branchCount, nodeCount, nodeCounts}
-use Rattle.laws.specs.At.{nodeOf, codeNumber, lengthOf, nodeLen, Headed, Two, At, AllAt}
+use Rattle.laws.specs.At.{nodeOf, codeNumber, lengthOf, nodeLen, At, AllAt}
 use Rattle.laws.proofs.Readers.{Passed, Counted, counted-is}
 use Rattle.laws.proofs.Rows.{Chosen}
 use Rattle.laws.proofs.Nodes.{Restricts, Depends, NodeAt, node-at, node-next, nodeLen-is, nodeLen-by-code}

@@ -1,13 +1,12 @@
 -- Facts from tests and tests from facts, where the kit's `borrow.Author.Tests` (leb, ltb, eqb) ends: a known test in `ifb`, a passed
 -- conjunction, the order of ℤ. Assumes nothing.
-use mathlib.Core.Path.{_≡_, refl, sym, ap, _∙_, subst}
-use Prim.Native.Nat.{ℕ, zero, suc, _+_, _≤_, _<_}
+use mathlib.Core.Path.{_≡_, refl}
+use Prim.Native.Nat.{ℕ, zero, suc, _≤_}
 use native.Mathlib.Omega.{arith}
 use mathlib.Core.Bool.{Bool, true, false, _&&_}
 use lib.IntN.{ℤ, pos, negsuc, natAbs, negℤ}
-use lib.Signed.{leZ}
 use lib.Dec.{T, leb}
-use borrow.Author.Tests.{leb-true, le-leb, lt-leb}
+use borrow.Author.Tests.{leb-true, le-leb}
 use Rattle.alpha.specs.Pick.{ifb}
 use Rattle.alpha.specs.Box.{within}
 

@@ -1,16 +1,16 @@
 -- A tree at a place is the tree that `exprAt` reads there, with enough depth and enough nodes; so there is one at most. Assumes nothing.
 use mathlib.Core.Path.{_≡_, refl, sym, ap, _∙_, subst}
-use Prim.Native.Nat.{ℕ, zero, suc, _+_, _-_, max, _≤_, _<_}
+use Prim.Native.Nat.{ℕ, zero, suc, _+_, _-_, max, _≤_}
 use native.Mathlib.Nat.{zero-add, add-comm, add-assoc}
 use native.Mathlib.Omega.{arith}
-use mathlib.Core.List.{List, [], _∷_}
-use Rattle.alpha.specs.Sheet.{Constraint, Map, Node, Expr, Exprs}
+use mathlib.Core.List.{List}
+use Rattle.alpha.specs.Sheet.{Node, Expr, Exprs}
 use Rattle.alpha.specs.Sheet.{Node.nVar, Node.nInt, Node.nBool, Node.nUnary, Node.nBinary, Node.nIf, Node.nCase, Node.nRestr, Node.nDep}
 use Rattle.alpha.specs.Sheet.{Expr.var, Expr.int, Expr.boo, Expr.un, Expr.bin, Expr.ite, Expr.kase, Expr.restr, Expr.dep, Exprs.none, Exprs.more}
 use Rattle.alpha.specs.Read.{Got, got, bad, node}
 use Rattle.alpha.specs.Shape.{Parsed, tree, ill, then, Parser, branches, withNode, atNode, exprAt}
 use Rattle.alpha.specs.Written.{branchCount, nodeCount, nodeCounts, depth, depths}
-use Rattle.laws.specs.At.{Headed, Two, At, AllAt}
+use Rattle.laws.specs.At.{At, AllAt}
 
 -- ---- what exprAt reads stands there
 

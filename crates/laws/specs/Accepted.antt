@@ -2,12 +2,12 @@
 -- bytes, and what the checks have shown. Assumes nothing.
 use mathlib.Core.Path.{_≡_}
 use Prim.Native.Nat.{ℕ, suc, _+_, _≤_, _<_}
-use mathlib.Core.Bool.{Bool, true, false}
+use mathlib.Core.Bool.{true, false}
 use mathlib.Core.List.{List, [], _∷_, map}
 use lib.ListN.{length}
 use lib.IntN.{pos}
 use Rattle.alpha.specs.Field.{field}
-use Rattle.alpha.specs.Sheet.{Kind, Kind.input, Kind.output, Kind.local, Node, Head, Declared, Raw, Expr, Exprs, Variable, Sheet, Point, Expr.kase, Exprs.none}
+use Rattle.alpha.specs.Sheet.{Kind, Kind.input, Kind.output, Kind.local, Node, Raw, Variable, Sheet, Point, Expr.kase, Exprs.none}
 use Rattle.alpha.specs.Read.{declared, node}
 use Rattle.alpha.specs.Shape.{fits, ofVariable}
 use Rattle.alpha.specs.Holds.{variable, isInput, inDomain, holds, clashes}

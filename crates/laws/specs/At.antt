@@ -5,11 +5,11 @@ use Prim.Native.Nat.{ℕ, _+_, _*_}
 use mathlib.Core.List.{List, [], _∷_}
 use lib.ListN.{getD}
 use lib.IntN.{natAbs}
-use Rattle.alpha.specs.Sheet.{Constraint, Map, Node, Expr, Exprs}
+use Rattle.alpha.specs.Sheet.{Node, Expr, Exprs}
 use Rattle.alpha.specs.Sheet.{Node.nVar, Node.nInt, Node.nBool, Node.nUnary, Node.nBinary, Node.nIf, Node.nCase, Node.nRestr, Node.nDep}
 use Rattle.alpha.specs.Sheet.{Expr.var, Expr.int, Expr.boo, Expr.un, Expr.bin, Expr.ite, Expr.kase, Expr.restr, Expr.dep, Exprs.none, Exprs.more}
 use Rattle.alpha.specs.Field.{field}
-use Rattle.alpha.specs.Read.{Got, got, node}
+use Rattle.alpha.specs.Read.{got, node}
 use Rattle.alpha.specs.Written.{branchCount}
 
 -- ---- a tree's first node
