@@ -5,3 +5,4 @@ pub mod Heading
 pub mod Fitting
 pub mod Judging
 pub mod Sorting
+pub mod Reaching

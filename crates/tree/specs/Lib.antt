@@ -3,3 +3,4 @@ pub mod Standing
 pub mod Prepared
 pub mod Judged
 pub mod Sorted
+pub mod Bounding

@@ -1,6 +1,7 @@
 // Walks over the prefix nodes of a sheet's bodies. Each function says of the tree that stands at a place of the bytes what a definition
 // of crate alpha says of it. A walk does each node alike, and then its children one after another. Assumes nothing.
 mod node;
+mod reach;
 mod shape;
 mod skip;
 mod typing;
@@ -18,4 +19,10 @@ pub enum Typed {
     Integer(usize),
     Boolean(usize),
     Mistyped,
+}
+
+// The place after a tree in which nothing passes 2^40; or something does.
+pub enum Bounded {
+    Next(usize),
+    Beyond,
 }
