@@ -6,3 +6,8 @@ pub mod Fitting
 pub mod Judging
 pub mod Sorting
 pub mod Reaching
+pub mod Placing
+pub mod Bodying
+pub mod Passing
+pub mod Declaring
+pub mod Forming

@@ -232,11 +232,11 @@ pub record Bounds (b : Bool) (n q : ℕ) : Type 0 where
   pub passes : b ≡ true
   pub end-is : n ≡ q
 
-bounded-next : (b : Bool) (n q : ℕ) → Next n ≡ boundedAt b q → Bounds b n q
+pub bounded-next : (b : Bool) (n q : ℕ) → Next n ≡ boundedAt b q → Bounds b n q
 bounded-next true n q h = record { passes = refl; end-is = cc }
 bounded-next false n q h = let z : _≡_ {A = ℕ} 0 1 = cc in absurd (omega arith)
 
-bounded-beyond : (b : Bool) (q : ℕ) → Beyond ≡ boundedAt b q → b ≡ false
+pub bounded-beyond : (b : Bool) (q : ℕ) → Beyond ≡ boundedAt b q → b ≡ false
 bounded-beyond true q h = let z : _≡_ {A = ℕ} 0 1 = cc in absurd (omega arith)
 bounded-beyond false q h = refl
 

@@ -4,3 +4,5 @@ pub mod Prepared
 pub mod Judged
 pub mod Sorted
 pub mod Bounding
+pub mod Ruled
+pub mod Formed

@@ -1,9 +1,15 @@
 // Walks over the prefix nodes of a sheet's bodies. Each function says of the tree that stands at a place of the bytes what a definition
 // of crate alpha says of it. A walk does each node alike, and then its children one after another. Assumes nothing.
+use alpha::Refusal;
+
+mod forms;
 mod node;
 mod reach;
+mod reaches;
 mod shape;
+mod shapes;
 mod skip;
+mod types;
 mod typing;
 mod variable;
 
@@ -25,4 +31,10 @@ pub enum Typed {
 pub enum Bounded {
     Next(usize),
     Beyond,
+}
+
+// What a rule over all variables says: each passes, or the first that does not is refused.
+pub enum Ruling {
+    Passes,
+    Refused(Refusal),
 }
