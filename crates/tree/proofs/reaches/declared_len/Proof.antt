@@ -22,7 +22,7 @@ add-result : tie.Need-add-result
 add-result c = search needs
 
 returns : tie.Need-returns
-returns c =     ap (λ d. 24 + 8 * d) (c .dimension-of .ensures .0 ∙ ap (dimension (headsOf (c .before .before .before .args .s .now))) (c .before .natural .ensures))
+returns c = ap (λ d. 24 + 8 * d) (c .dimension-of .ensures .0 ∙ ap (dimension (headsOf (c .before .before .before .args .s .now))) (c .before .natural .ensures))
 
 pub declared-len-spec : {M : Type 1} → statement M
 declared-len-spec =

@@ -22,7 +22,8 @@ second-place-requires : tie.Need-second-place-requires Inv-loop μ-loop
 second-place-requires c κs = search needs
 
 -- the second section's place, where its count is
-second-is : (c : tie.After-second-place Inv-loop μ-loop) → c .second-place .result ≡ rawOf (c .before .before .args .s .now) .second
+second-is : (c : tie.After-second-place Inv-loop μ-loop) →
+    c .second-place .result ≡ rawOf (c .before .before .args .s .now) .second
 second-is c = c .second-place .ensures ∙ c .before .before .pre .table .second
 
 natural-requires : tie.Need-natural-requires Inv-loop μ-loop
@@ -46,11 +47,14 @@ returns c =
     one-declared-fails _ _ _ _ inv (c .before .before .loop-test .taken) _ says (not-true _ (c .if1 .taken))
 
 declared-len-requires : tie.Need-declared-len-requires Inv-loop μ-loop
-declared-len-requires c κs = (c .before .before .before .before .before .before .before .pre, first-declared _ _ _ _ (c .before .before .before .loop .inv) (c .before .before .loop-test .taken) .read)
+declared-len-requires c κs =
+    let inv = c .before .before .before .loop .inv in
+    (c .before .before .before .before .before .before .before .pre, first-declared _ _ _ _ inv (c .before .before .loop-test .taken) .read)
 
 add-p-2 : tie.Need-add-p-2 Inv-loop μ-loop
 add-p-2 c =
-    let f = first-declared _ _ _ _ (c .before .before .before .before .loop .inv) (c .before .before .before .loop-test .taken) in
+    let inv = c .before .before .before .before .loop .inv in
+    let f = first-declared _ _ _ _ inv (c .before .before .before .loop-test .taken) in
     omega (arith, declared-there _ _ (c .before .before .before .before .before .before .before .before .pre) _ (f .read), c .declared-len .ensures)
 
 sub-left : tie.Need-sub-left Inv-loop μ-loop

@@ -51,8 +51,8 @@ returns-3 c =
     let declared = c .before .before .before .before .before .before .before .declared-within .ensures in
     let place = c .before .before .before .body-place .ensures in
     let says = c .before .before .reach .ensures in
-    reach-of-next _ _ (s .pre .0) _ (s .pre .1) _ declared (not-false _ (c .before .before .before .before .before .before .if1 .left)) (no-input-here (c .before .before .before .before)) _ place _ says _
-    (c .enum-told .given .1)
+    let passed = not-false _ (c .before .before .before .before .before .before .if1 .left) in
+    reach-of-next _ _ (s .pre .0) _ (s .pre .1) _ declared passed (no-input-here (c .before .before .before .before)) _ place _ says _ (c .enum-told .given .1)
 
 returns-4 : tie.Need-returns-4
 returns-4 c =
@@ -60,8 +60,8 @@ returns-4 c =
     let declared = c .before .before .before .before .before .before .before .declared-within .ensures in
     let place = c .before .before .before .body-place .ensures in
     let says = c .before .before .reach .ensures in
-    reach-of-beyond _ _ (s .pre .0) _ (s .pre .1) _ declared (not-false _ (c .before .before .before .before .before .before .if1 .left)) (no-input-here (c .before .before .before .before)) _ place _ says
-    (c .enum-told2 .given .1)
+    let passed = not-false _ (c .before .before .before .before .before .before .if1 .left) in
+    reach-of-beyond _ _ (s .pre .0) _ (s .pre .1) _ declared passed (no-input-here (c .before .before .before .before)) _ place _ says (c .enum-told2 .given .1)
 
 pub reach-right-spec : {M : Type 1} → statement M
 reach-right-spec =

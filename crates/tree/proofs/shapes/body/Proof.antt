@@ -26,8 +26,8 @@ returns-2 c =
     let r = c .shape .ensures in
     record {
       is =
-        r .is ∙ ap (treeJudged (s .s .now) (s .at) (s .left) 32) (c .before .dimension-of .ensures .0)
-        ∙ body-tree _ _ _ _ _ (k .0) (k .1) (c .before .before .if1 .left);
+          r .is ∙ ap (treeJudged (s .s .now) (s .at) (s .left) 32) (c .before .dimension-of .ensures .0)
+          ∙ body-tree _ _ _ _ _ (k .0) (k .1) (c .before .before .if1 .left);
       flat = r .flat;
     }
 
