@@ -48,6 +48,11 @@ noded-few vars bs p n h many = omega (arith, many (h .what) (h .next) (h .read),
 
 -- ---- one tree
 
+-- a test that nothing passes
+all-bad : {A : Type 0} (t : Parsed A) → Bad ≡ judged (λ _. false) t
+all-bad ill = refl
+all-bad (tree a o n) = refl
+
 module _ (bs : List ℕ) (p left deep want : ℕ) where
   pub tree-no-nodes : left < 1 → Bad ≡ treeJudged bs p left deep want
   unfolding exprAt
@@ -87,10 +92,6 @@ module _ (bs : List ℕ) (p left deep want : ℕ) where
         treeJudged bs p left deep want ≡ judged (λ es. b && allFit es (headsOf bs) (wanted nd want)) (branches (λ o n. exprAt (deep - 1) (varsOf bs) bs o n) (arity nd) q (left - 1))
     judged-by b e = ap (judged (λ e. fits e (headsOf bs) want)) parts ∙ by-node b e (branches (λ o n. exprAt (deep - 1) (varsOf bs) bs o n) (arity nd) q (left - 1)) refl
 
-    all-bad : {A : Type 0} (t : Parsed A) → Bad ≡ judged (λ _. false) t
-    all-bad ill = refl
-    all-bad (tree a o n) = refl
-
     pub tree-misfit : fitsHere nd (headsOf bs) want ≡ false → Bad ≡ treeJudged bs p left deep want
     tree-misfit e = all-bad (branches (λ o n. exprAt (deep - 1) (varsOf bs) bs o n) (arity nd) q (left - 1)) ∙ sym (judged-by false e)
 
@@ -125,10 +126,6 @@ module _ (bs : List ℕ) (p left deep want count : ℕ) where
     with-first e b h ill = refl
     with-first e b h (tree es o n) = rw h
 
-    bad-always : {A : Type 0} (t : Parsed A) → Bad ≡ judged (λ _. false) t
-    bad-always ill = refl
-    bad-always (tree a o n) = refl
-
     first-bad : (t : Parsed Expr) → Bad ≡ judged (λ e. fits e (headsOf bs) want) t → Bad ≡ judged (λ es. allFit es (headsOf bs) want) (then t after)
     first-bad ill h = refl
     first-bad (tree e o n) h = by (fits e (headsOf bs) want) refl h
@@ -136,7 +133,7 @@ module _ (bs : List ℕ) (p left deep want count : ℕ) where
         by : (b : Bool) → fits e (headsOf bs) want ≡ b → Bad ≡ ifb b (λ _. Fits o n) (λ _. Bad) → Bad ≡ judged (λ es. allFit es (headsOf bs) want) (after e o n)
         by true f h = let z : _≡_ {A = ℕ} 0 1 = cc in absurd (omega arith)
         by false f h =
-            bad-always (branches (λ o n. exprAt deep (varsOf bs) bs o n) (count - 1) o n)
+            all-bad (branches (λ o n. exprAt deep (varsOf bs) bs o n) (count - 1) o n)
             ∙ sym (with-first e false f (branches (λ o n. exprAt deep (varsOf bs) bs o n) (count - 1) o n))
 
     first-fits : (q m : ℕ) (t : Parsed Expr) → Fits q m ≡ judged (λ e. fits e (headsOf bs) want) t →

@@ -11,3 +11,4 @@ pub mod Bodying
 pub mod Passing
 pub mod Declaring
 pub mod Forming
+pub mod Preparing
