@@ -12,3 +12,4 @@ pub mod Passing
 pub mod Declaring
 pub mod Forming
 pub mod Preparing
+pub mod Checking
