@@ -7,7 +7,7 @@ use mathlib.Core.List.{List, [], _∷_, map}
 use native.Mathlib.Omega.{arith}
 use native.Mathlib.Nat.{le-trans, mul-le-mul-left, mul-le-mul-right, mul-one, mul-add, add-mul, mul-assoc}
 use lib.IntN.{ℤ, natAbs, _*ℤ_}
-use Rattle.integer.proofs.Sizes.{natAbs-add, natAbs-mul}
+use Rattle.laws.proofs.Sizes.{natAbs-add, natAbs-mul}
 use Rattle.alpha.specs.declared.Int.{Int}
 use Rattle.alpha.specs.Sheet as Sheet
 use Rattle.alpha.specs.Affine.{dot, rowAt, image, scale, addAll, zeroes, combine, rowAfter}

@@ -1,6 +1,5 @@
 -- The laws that this crate and those above it cite, by subject.
 pub mod Several
-pub mod Composed
 pub mod Meaning
 pub mod Told
 pub mod Bounds

@@ -5,8 +5,8 @@ use native.Mathlib.Omega.{arith}
 use native.Mathlib.Nat.{div-add-mod, mod-lt}
 use lib.IntN.{ℤ, pos, negsuc, negℤ, natAbs, _+ℤ_, _*ℤ_, negℤ-+ℤ, negℤ-negℤ, *ℤ-comm}
 use Rattle.alpha.specs.Outcome.{quotient, remainder}
-use Rattle.integer.proofs.Ring.{negℤ-*ℤ}
-use Rattle.integer.proofs.Sizes.{natAbs-neg}
+use Rattle.laws.proofs.Ring.{negℤ-*ℤ}
+use Rattle.laws.proofs.Sizes.{natAbs-neg}
 
 *ℤ-negℤ : (m x : ℤ) → m *ℤ negℤ x ≡ negℤ (m *ℤ x)
 *ℤ-negℤ m x = *ℤ-comm m (negℤ x) ∙ negℤ-*ℤ x m ∙ ap negℤ (*ℤ-comm x m)

@@ -96,6 +96,12 @@ module _ (bs vs : List ℕ) (at : ℕ) where
   pub wordAt-sets-after : (q : ℕ) → at + length vs ≤ q → wordAt (sets bs at vs) q ≡ wordAt bs q
   wordAt-sets-after q h = wordAt-same (sets bs at vs) bs q q (λ k l. getD-sets-after 0 bs vs at (q + k) (omega arith))
 
+  pub field-sets-before : (q : ℕ) → q + 8 ≤ at → field (sets bs at vs) q ≡ field bs q
+  field-sets-before q h = ap signedOf (wordAt-sets-before q h)
+
+  pub field-sets-after : (q : ℕ) → at + length vs ≤ q → field (sets bs at vs) q ≡ field bs q
+  field-sets-after q h = ap signedOf (wordAt-sets-after q h)
+
 -- ---- read back what was written
 
 pub signedOf-wordOf : (x : ℤ) → mag x < 2 ^ 63 → signedOf (wordOf x) ≡ x

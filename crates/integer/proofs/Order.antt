@@ -10,7 +10,7 @@ use lib.Signed.{leZ, ltZ, nonNeg}
 use borrow.Author.Tests.{leb-true, ltb-false, le-leb, le-ltb, not-true}
 use Rattle.alpha.specs.Affine.{isZero}
 use Rattle.alpha.specs.Box.{within}
-use Rattle.integer.proofs.Ring.{+ℤ-opposite}
+use Rattle.laws.proofs.Ring.{+ℤ-opposite}
 use Rattle.integer.specs.Range.{In32}
 
 -- ---- booleans

@@ -2,9 +2,10 @@
 use mathlib.Core.Path.{_≡_, refl, sym, ap, _∙_, subst}
 use Prim.Native.Nat.{ℕ, zero, suc, _≤_, _<_}
 use native.Mathlib.Omega.{arith}
-use mathlib.Core.Bool.{Bool, true, false}
+use mathlib.Core.Bool.{Bool, true, false, not}
 use mathlib.Core.List.{List, [], _∷_, _++_, map}
 use lib.ListN.{length, getD, length-map, List·getD-map}
+use borrow.Author.Tests.{not-true}
 use Rattle.alpha.specs.Pick.{ifb}
 use Rattle.alpha.specs.Answer.{Answer, accepted, refused, next, TYPE, REACH, GAP, CLASH}
 use Rattle.alpha.specs.Sheet.{Kind, Kind.input, Kind.output, Kind.local, Head, Raw, Variable, Sheet, Point}
@@ -20,7 +21,7 @@ use Rattle.laws.specs.At.{At}
 use Rattle.laws.specs.Box.{readBox}
 use Rattle.laws.specs.Heads.{HeadsAt, pointsOf}
 use Rattle.laws.specs.Accepted.{TreeAt, BodyAt, BodiesAt, Accepted}
-use Rattle.laws.proofs.Tests.{true-not-false, &&-left}
+use Rattle.laws.proofs.Tests.{true-not-false, &&-left, &&-right}
 use Rattle.laws.proofs.Elements.{length-elements, number-low, element-of-number}
 use Rattle.laws.proofs.Heads.{HeadAt, head-at, head-box}
 use Rattle.laws.proofs.Bodies.{SheetRead, read-says, Tells, next-tells, BodiesRead, bodies-tell}
@@ -28,7 +29,7 @@ use Rattle.laws.proofs.Bodies.{SheetRead, read-says, Tells, next-tells,
 -- ---- the tests of each variable
 
 -- every variable of the sheet passes
-abbrev AllPass : (Variable → Bool) → Sheet → Type 0
+abbrev pub AllPass : (Variable → Bool) → Sheet → Type 0
 AllPass test s = (i : ℕ) → i < length s → test (variable s i) ≡ true
 
 first-tells : (code : ℕ) (test : Variable → Bool) (v : ℕ) (s : Sheet) → Tells (λ _. AllPass test s) (first code test v s)
@@ -45,12 +46,26 @@ first-tells code test v (x ∷ s) = go (test x) refl (first code test (suc v) s)
     go true e (refused n p) h = tt
     go false e m h = tt
 
+pub first-passes : (code : ℕ) (test : Variable → Bool) (v : ℕ) (s : Sheet) → AllPass test s → first code test v s ≡ accepted tt
+unfolding first
+first-passes code test v [] h = refl
+first-passes code test v (x ∷ s) h = rw (h 0 (omega arith)) (first-passes code test (suc v) s (λ i lt. h (suc i) (omega arith)))
+
 -- ---- the tests of each element
 
 -- where the element is tested, its variable's body holds and no case clashes
 pub record Faultless (s : Sheet) (e : Element) : Type 0 where
   pub covered : tested s e ≡ true → holds (variable s (e .who) .body) s (e .at) ≡ true
   pub clear : tested s e ≡ true → clashes (variable s (e .who) .body) s (e .at) ≡ false
+
+-- an element is tested in the declared domain of a variable that has a body
+pub tested-body : (s : Sheet) (e : Element) → tested s e ≡ true → isInput (variable s (e .who)) ≡ false
+tested-body s e t =
+    let x = variable s (e .who) in
+    not-true (isInput x) (&&-left (not (isInput x)) (inDomain x (e .at)) t)
+
+pub tested-inside : (s : Sheet) (e : Element) → tested s e ≡ true → inDomain (variable s (e .who)) (e .at) ≡ true
+tested-inside s e t = let x = variable s (e .who) in &&-right (not (isInput x)) (inDomain x (e .at)) t
 
 fault-tells : (s : Sheet) (n : ℕ) (e : Element) → Tells (λ _. Faultless s e) (fault s n e)
 fault-tells s n e = go (tested s e) (holds (variable s (e .who) .body) s (e .at)) (clashes (variable s (e .who) .body) s (e .at)) refl refl refl
@@ -62,7 +77,7 @@ fault-tells s n e = go (tested s e) (holds (variable s (e .who) .body) s (e .at)
     go true false c x y z = tt
     go false h c x y z = record { covered = λ k. true-not-false k x; clear = λ k. true-not-false k x }
 
-abbrev AllFaultless : Sheet → List Element → Type 0
+abbrev pub AllFaultless : Sheet → List Element → Type 0
 AllFaultless s es = (i : ℕ) → i < length es → (d : Element) → Faultless s (getD es i d)
 
 faults-tell : (s : Sheet) (n : ℕ) (es : List Element) → Tells (λ _. AllFaultless s es) (faults s n es)
@@ -80,10 +95,27 @@ faults-tell s n (e ∷ es) =
     go f (accepted u) h = more f h
     go f (refused n p) h = tt
 
+fault-passes : (s : Sheet) (n : ℕ) (e : Element) → Faultless s e → fault s n e ≡ accepted tt
+fault-passes s n e h = go (tested s e) refl
+  where
+    go : (t : Bool) → tested s e ≡ t →
+        ifb t (λ _.
+        ifb (holds (variable s (e .who) .body) s (e .at)) (λ _.
+        ifb (clashes (variable s (e .who) .body) s (e .at)) (λ _. refused CLASH n) (λ _. accepted (tt {0}))) (λ _. refused GAP n)) (λ _. accepted (tt {0}))
+        ≡ accepted tt
+    go true k = rw (h .covered k, h .clear k)
+    go false k = refl
+
+pub faults-pass : (s : Sheet) (n : ℕ) (es : List Element) → AllFaultless s es → faults s n es ≡ accepted tt
+unfolding faults
+faults-pass s n [] h = refl
+faults-pass s n (e ∷ es) h = rw (fault-passes s n e (h 0 (omega arith) e)) (faults-pass s (suc n) es (λ i lt d. h (suc i) (omega arith) d))
+
 -- ---- the whole check
 
 module _ (bs : List ℕ) (r : Raw) where
-  accepted-from : SheetRead bs r → (s : Sheet) → BodiesRead r bs (r .heads) 0 (r .first) (r .nodes) s → AllPass (typed (r .heads)) s → AllPass reached s → AllFaultless s (elements s) → Accepted bs r s
+  accepted-from : SheetRead bs r → (s : Sheet) → BodiesRead r bs (r .heads) 0 (r .first) (r .nodes) s →
+      AllPass (typed (r .heads)) s → AllPass reached s → AllFaultless s (elements s) → Accepted bs r s
   accepted-from sh s b t c f = record {
     short = sh .short;
     parts = sh .parts;
@@ -200,10 +232,14 @@ module _ {bs : List ℕ} {r : Raw} {s : Sheet} (a : Accepted bs r s) where
     in-heads = omega (arith, accepted-length)
 
     pub accepted-box : readBox (variable s v .head .box) ≡ true
-    accepted-box = rw (accepted-head v) (headsAt-each (λ h. readBox (h .box) ≡ true) bs (λ e p h k. head-box k) (r .heads) [] 8 (r .second) (a .parts .heads-stand) v in-heads noHead)
+    accepted-box =
+        rw (accepted-head v)
+        (headsAt-each (λ h. readBox (h .box) ≡ true) bs (λ e p h k. head-box k) (r .heads) [] 8 (r .second) (a .parts .heads-stand) v in-heads noHead)
 
     pub accepted-few : length (variable s v .head .box) ≤ 4
-    accepted-few = rw (accepted-head v) (headsAt-each (λ h. length (h .box) ≤ 4) bs (λ e p h k. k .dim .high) (r .heads) [] 8 (r .second) (a .parts .heads-stand) v in-heads noHead)
+    accepted-few =
+        rw (accepted-head v)
+        (headsAt-each (λ h. length (h .box) ≤ 4) bs (λ e p h k. k .dim .high) (r .heads) [] 8 (r .second) (a .parts .heads-stand) v in-heads noHead)
 
     pub accepted-body : isInput (variable s v) ≡ false → BodyOf bs r s v
     accepted-body i =

@@ -59,7 +59,7 @@ before-fits (x ∷ s) (suc v) h = omega (arith, before-fits s v (omega arith))
 
 -- ---- the elements
 
-getD-map : {A B : Type 0} (f : A → B) (l : List A) (i : ℕ) (a : A) (b : B) → i < length l → getD (map f l) i b ≡ f (getD l i a)
+pub getD-map : {A B : Type 0} (f : A → B) (l : List A) (i : ℕ) (a : A) (b : B) → i < length l → getD (map f l) i b ≡ f (getD l i a)
 getD-map f [] i a b h = absurd (omega arith)
 getD-map f (x ∷ l) zero a b h = refl
 getD-map f (x ∷ l) (suc i) a b h = getD-map f l i a b (omega arith)

@@ -9,6 +9,8 @@ pub mod Order
 pub mod Boxes
 pub mod Elements
 pub mod Growth
+pub mod Ring
+pub mod Sizes
 pub mod Composed
 pub mod NormalForm
 pub mod Children
@@ -25,3 +27,9 @@ pub mod Widths
 pub mod NormalAgain
 pub mod NormalSheet
 pub mod Written
+pub mod NormalWritable
+pub mod Local
+pub mod Prefix
+pub mod Rewritten
+pub mod SectionsAgain
+pub mod NormalAccepted

@@ -17,7 +17,7 @@ use Rattle.alpha.specs.Normal.{Branch, push, norm, norms, asExprs, bodyCase}
 use Rattle.laws.specs.Normal.{isLeaf, treeForm}
 use Rattle.laws.specs.Wide.{RowsWide, ConstraintsWide, Wide, AllWide}
 use Rattle.laws.proofs.Tests.{true-not-false, &&-left, &&-right}
-use Rattle.laws.proofs.Composed.{one-*ℤ}
+use Rattle.laws.proofs.Ring.{one-*ℤ}
 use Rattle.laws.proofs.Branches.{AllBranches, Rules, norm-all}
 use Rattle.laws.proofs.NormalChecks.{HasForm, form-rules, fits-rules, FitsToo, AllFitToo}
 
@@ -142,18 +142,18 @@ idRows-wide (suc n) = (ap suc (length-zeroes n), go (idRows n) (idRows-wide n))
     go (r ∷ rs) h = (ap suc (h .0), go rs (h .1))
 
 -- a branch where n dimensions are wanted: its constraints have that width, and its tree's rows theirs
-record BranchWide (n : ℕ) (b : Branch) : Type 0 where
-  given-wide : ConstraintsWide n (b .given)
-  term-wide : Wide (b .term)
+pub record BranchWide (n : ℕ) (b : Branch) : Type 0 where
+  pub given-wide : ConstraintsWide n (b .given)
+  pub term-wide : Wide (b .term)
 
 module _ (hs : List Head) where
-  abbrev WideToo : Expr → Branch → Type 0
+  abbrev pub WideToo : Expr → Branch → Type 0
   WideToo e b = Wide e → (n : ℕ) → fits e hs n ≡ true → BranchWide n b
 
-  abbrev AllWideToo : Exprs → Branch → Type 0
+  abbrev pub AllWideToo : Exprs → Branch → Type 0
   AllWideToo es b = AllWide es → (n : ℕ) → allFit es hs n ≡ true → BranchWide n b
 
-  wide-rules : Rules (dimension hs) WideToo AllWideToo
+  pub wide-rules : Rules (dimension hs) WideToo AllWideToo
   unfolding fits Wide
   wide-rules = record {
     of-var = λ v w n h. record { given-wide = tt; term-wide = (idRows-wide (dimension hs v), tt) };
@@ -181,7 +181,8 @@ module _ (hs : List Head) where
     of-dep = λ f e a q w n h.
         let x = q (w .1) (length (f .rows)) (&&-right (eqb (f .cols) n) (fits e hs (length (f .rows))) h) in
         let same : f .cols ≡ n = eqb-true (f .cols) n (&&-left (eqb (f .cols) n) (fits e hs (length (f .rows))) h) in
-        record { given-wide = subst (λ m. ConstraintsWide m (map (constraintAfter f) (a .given))) same (constraints-after-wide f (a .given) (w .0)); term-wide = push-wide (a .term) f (w .0) (x .term-wide) };
+        let given = subst (λ m. ConstraintsWide m (map (constraintAfter f) (a .given))) same (constraints-after-wide f (a .given) (w .0)) in
+        record { given-wide = given; term-wide = push-wide (a .term) f (w .0) (x .term-wide) };
     of-first = λ e es a q w n h. q (w .0) n (&&-left (fits e hs n) (allFit es hs n) h);
     of-rest = λ e es a q w n h. q (w .1) n (&&-right (fits e hs n) (allFit es hs n) h);
   }

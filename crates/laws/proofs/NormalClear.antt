@@ -18,7 +18,7 @@ use Rattle.alpha.specs.Holds.{variable, inDomain, holds, someHolds, twoHold, cl
 use Rattle.alpha.specs.Normal.{Branch, pushBranch, restrict, under1, pairs, triples, norm, norms, asExprs, bodyCase}
 use Rattle.laws.specs.Normal.{isLeaf, treeForm}
 use Rattle.laws.proofs.Tests.{true-not-false, &&-left, &&-right}
-use Rattle.laws.proofs.Composed.{image-id, length-image, meetsAll-after}
+use Rattle.laws.proofs.Composed.{image-identity, length-image, meetsAll-after}
 use Rattle.laws.proofs.Branches.{AllBranches, norm-all}
 use Rattle.laws.proofs.NormalForm.{branchHolds, restrict-holds, push-holds}
 use Rattle.laws.proofs.NormalChecks.{HasForm, form-rules}
@@ -148,7 +148,7 @@ module _ (s : Sheet) (hs : List Head) where
 
     norm-ways : (e : Expr) (z : Point) → fits e hs (length z) ≡ true → Ways (holds e s z) (clashes e s z) (holding (norm e (dimension hs)) s z)
     norm-ways (var v) z h =
-        let i : image (idRows (dimension hs v)) z ≡ z = rw (eqb-true (dimension hs v) (length z) h) (image-id z) in
+        let i : image (idRows (dimension hs v)) z ≡ z = rw (eqb-true (dimension hs v) (length z) h) (image-identity z) in
         rw i (ways-leaf (inDomain (variable s v) z) false)
     norm-ways (int c) z h = rw (no-point z h) (ways-leaf true false)
     norm-ways (boo b) z h = rw (no-point z h) (ways-leaf true false)

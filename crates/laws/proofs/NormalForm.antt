@@ -17,7 +17,7 @@ use Rattle.alpha.specs.Holds.{variable, inDomain, holds, someHolds}
 use Rattle.alpha.specs.Outcome.{Outcome, outside, eval, evalFirst}
 use Rattle.alpha.specs.Normal.{Branch, push, pushBranch, restrict, under1, pairs, triples, norm, norms, asExprs, bodyCase}
 use Rattle.laws.proofs.Tests.{&&-left, &&-right, true-not-false}
-use Rattle.laws.proofs.Composed.{image-after, meetsAll-after, image-id, length-image}
+use Rattle.laws.proofs.Composed.{image-after, meetsAll-after, image-identity, length-image}
 
 -- ---- what a list of branches chooses at a point: the tree of its first branch that holds
 
@@ -254,7 +254,7 @@ module _ (s : Sheet) where
 
       norm-agrees : (e : Expr) (z : Point) → fits e hs (length z) ≡ true → Agrees z (holds e s z) (eval e s look z) (pick e z)
       norm-agrees (var v) z h =
-          let i : image (idRows (dimension hs v)) z ≡ z = rw (eqb-true (dimension hs v) (length z) h) (image-id z) in
+          let i : image (idRows (dimension hs v)) z ≡ z = rw (eqb-true (dimension hs v) (length z) h) (image-identity z) in
           leaf (var v) (dep (identity (dimension hs v)) (var v)) z (ap (inDomain (variable s v)) i) (ap (look v) i)
       norm-agrees (int c) z h = leaf (int c) (dep (identity 0) (int c)) z (sym (no-point z h)) refl
       norm-agrees (boo b) z h = leaf (boo b) (dep (identity 0) (boo b)) z (sym (no-point z h)) refl

@@ -154,13 +154,13 @@ module _ (f : Map) (r : ℕ) (low : mapReach r (f .rows) ≤ limit) where
       (leaf-reach a (mapReach r (map (rowAfter f) (g .rows))) t)
 
 -- a branch keeps the limit wherever the expression does
-record Reaches (b : Branch) (r : ℕ) : Type 0 where
-  given-reach : allReach r (b .given) ≡ true
-  term-reach : reach (b .term) r ≡ true
+pub record Reaches (b : Branch) (r : ℕ) : Type 0 where
+  pub given-reach : allReach r (b .given) ≡ true
+  pub term-reach : reach (b .term) r ≡ true
 
-record ReachesToo (test : ℕ → Bool) (b : Branch) : Type 0 where
-  form : HasForm b
-  keeps : (r : ℕ) → 1 ≤ r → r ≤ limit → test r ≡ true → Reaches b r
+pub record ReachesToo (test : ℕ → Bool) (b : Branch) : Type 0 where
+  pub form : HasForm b
+  pub keeps : (r : ℕ) → 1 ≤ r → r ≤ limit → test r ≡ true → Reaches b r
 
 leaf-reaches : (n : ℕ) (e : Expr) (test : ℕ → Bool) → isLeaf e ≡ true → ReachesToo test (record { given = []; term = dep (identity n) e })
 unfolding treeForm reach
@@ -186,7 +186,7 @@ dep-reaches f e b q = record {
       record { given-reach = constraints-reach f (b .given) r (k .given-reach); term-reach = push-reach f r l (b .term) (q .form) (k .term-reach) };
 }
 
-reach-rules : (dims : ℕ → ℕ) → Rules dims (λ e b. ReachesToo (reach e) b) (λ es b. ReachesToo (reachAll es) b)
+pub reach-rules : (dims : ℕ → ℕ) → Rules dims (λ e b. ReachesToo (reach e) b) (λ es b. ReachesToo (reachAll es) b)
 unfolding treeForm reach
 reach-rules dims = record {
   of-var = λ v. leaf-reaches (dims v) (var v) (reach (var v)) refl;

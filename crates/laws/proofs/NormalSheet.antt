@@ -4,7 +4,7 @@ use mathlib.Core.Path.{_≡_, refl, ap, _∙_, fun-ext}
 use Prim.Native.Nat.{ℕ, _<_}
 use native.Mathlib.Omega.{arith}
 use mathlib.Core.Bool.{true, false, _||_}
-use mathlib.Core.List.{List, []}
+use mathlib.Core.List.{List}
 use mathlib.Core.Option.{Option, Option.none, some}
 use lib.ListN.{length}
 use Rattle.alpha.specs.Sheet.{Sort, Sort.integer, Sort.boolean, Raw, Expr, Exprs, Sheet, Point}
@@ -31,7 +31,7 @@ use Rattle.laws.proofs.NormalReach.{normal-reach}
 use Rattle.laws.proofs.NormalClear.{normal-clear}
 use Rattle.laws.proofs.NormalAgain.{normal-again}
 use Rattle.laws.proofs.Widths.{at-wide}
-use Rattle.laws.proofs.SameOutcome.{holds-same, normal-variable, domain-same}
+use Rattle.laws.proofs.SameOutcome.{holds-same, normal-variable}
 
 -- ---- clashes over two sheets whose variables have the same declared domains
 
@@ -65,7 +65,7 @@ module _ (s t : Sheet) (same : (v : ℕ) (z : Point) → inDomain (variable t v)
 
 -- ---- the type that is wanted
 
-isSort-is : (k : Sort) (t : Option Sort) → isSort k t ≡ true → t ≡ some k
+pub isSort-is : (k : Sort) (t : Option Sort) → isSort k t ≡ true → t ≡ some k
 isSort-is integer (some integer) h = refl
 isSort-is integer (some boolean) h = true-not-false {b = false} h refl
 isSort-is integer Option.none h = true-not-false {b = false} h refl
@@ -114,20 +114,22 @@ module _ {bs : List ℕ} {r : Raw} {s : Sheet} (a : Accepted bs r s) (v : ℕ) (
         let x = variable s v in
         rw (inBox-length (x .head .box) z (&&-left (inBox (x .head .box) z) (meetsAll (x .declared) z) d)) (accepted-body a v lt i .fitting)
 
-    pub body-covered : holds (normalBody s (variable s v)) (normalSheet s) z ≡ true
-    body-covered =
-        let x = variable s v in
-        holds-same s (normalSheet s) (domain-same a []) (normalBody s x) z
-        ∙ ap (λ e. holds e s z) normal-is
-        ∙ normal-holds s (r .heads) (length (x .head .box)) (x .body) z fit
-        ∙ a .covered v z lt i d
+    -- over any sheet whose variables have the declared domains of this one
+    module _ (t : Sheet) (same : (w : ℕ) (y : Point) → inDomain (variable t w) y ≡ inDomain (variable s w) y) where
+      pub body-covered : holds (normalBody s (variable s v)) t z ≡ true
+      body-covered =
+          let x = variable s v in
+          holds-same s t same (normalBody s x) z
+          ∙ ap (λ e. holds e s z) normal-is
+          ∙ normal-holds s (r .heads) (length (x .head .box)) (x .body) z fit
+          ∙ a .covered v z lt i d
 
-    pub body-clear : clashes (normalBody s (variable s v)) (normalSheet s) z ≡ false
-    body-clear =
-        let x = variable s v in
-        clashes-same s (normalSheet s) (domain-same a []) (normalBody s x) z
-        ∙ ap (λ e. clashes e s z) normal-is
-        ∙ normal-clear s (r .heads) (length (x .head .box)) (x .body) z fit (a .covered v z lt i d) (a .clear v z lt i d)
+      pub body-clear : clashes (normalBody s (variable s v)) t z ≡ false
+      body-clear =
+          let x = variable s v in
+          clashes-same s t same (normalBody s x) z
+          ∙ ap (λ e. clashes e s z) normal-is
+          ∙ normal-clear s (r .heads) (length (x .head .box)) (x .body) z fit (a .covered v z lt i d) (a .clear v z lt i d)
 
   -- the normal form again
   pub body-again : normalBody (normalSheet s) (variable (normalSheet s) v) ≡ normalBody s (variable s v)

@@ -1,7 +1,9 @@
 -- A normal form has the type that its expression has. Assumes nothing.
 use mathlib.Core.Path.{_≡_, refl, sym, ap, _∙_, subst}
-use Prim.Native.Nat.{ℕ}
+use Prim.Native.Nat.{ℕ, _≤_}
+use native.Mathlib.Omega.{arith}
 use mathlib.Core.List.{List, [], _∷_, _++_, map}
+use lib.ListN.{length}
 use mathlib.Core.Option.{Option, Option.none, some}
 use Rattle.alpha.specs.Sheet.{Sort, Sort.integer, Sort.boolean, Unary, Binary, Map, Head, Expr, Exprs}
 use Rattle.alpha.specs.Sheet.{Expr.var, Expr.int, Expr.boo, Expr.un, Expr.bin, Expr.ite, Expr.kase, Expr.restr, Expr.dep, Exprs.none, Exprs.more}
@@ -203,3 +205,10 @@ module _ (hs : List Head) where
       let k : Typed (typeOf e hs) = rw h tt in
       body-type n (norm e dims) (some t) (some-norm e dims k)
       (all-same (TypedToo e) (λ b. typeOf (b .term) hs ≡ some t) (λ b q. q k ∙ h) (norm e dims) (norm-all dims TypedToo AllTypedToo (type-rules dims) e))
+
+  pub norm-some : (e : Expr) (dims : ℕ → ℕ) (t : Sort) → typeOf e hs ≡ some t → 1 ≤ length (norm e dims)
+  norm-some e dims t h = go (norm e dims) (some-norm e dims (rw h tt))
+    where
+      go : (bs : List Branch) → Some bs → 1 ≤ length bs
+      go [] s = absurd s
+      go (b ∷ bs) s = omega arith

@@ -65,6 +65,32 @@ module _ (s t : Sheet) (same : (v : ℕ) (z : Point) → inDomain (variable t v)
       evalFirst-same none z = refl
       evalFirst-same (more e es) z = rw (holds-same e z, eval-same e z, evalFirst-same es z)
 
+-- ---- two sheets whose variables differ only in bodies that have one outcome where it is asked for
+
+module _ (s t : Sheet) (ins : List ℤ)
+    (domain : (v : ℕ) (z : Point) → inDomain (variable t v) z ≡ inDomain (variable s v) z)
+    (input : (v : ℕ) → isInput (variable t v) ≡ isInput (variable s v))
+    (given : (v : ℕ) (z : Point) → entry t ins v z ≡ entry s ins v z)
+    (body : (v : ℕ) (z : Point) (look : ℕ → Point → Outcome) → isInput (variable s v) ≡ false → inDomain (variable s v) z ≡ true →
+    eval (variable t v .body) s look z ≡ eval (variable s v .body) s look z) where
+  point-alike : (v : ℕ) (z : Point) (x y : Unit {0} → Outcome) → (isInput (variable s v) ≡ false → inDomain (variable s v) z ≡ true → x tt ≡ y tt) →
+      atPoint t ins v z x ≡ atPoint s ins v z y
+  point-alike v z x y h = rw (domain v z, input v, given v z) (go (inDomain (variable s v) z) (isInput (variable s v)) refl refl)
+    where
+      go : (d i : Bool) → inDomain (variable s v) z ≡ d → isInput (variable s v) ≡ i →
+          ifb d (λ _. ifb i (λ _. entry s ins v z) x) (λ _. outside) ≡ ifb d (λ _. ifb i (λ _. entry s ins v z) y) (λ _. outside)
+      go true true p q = refl
+      go true false p q = h q p
+      go false i p q = refl
+
+  pub outcome-alike : (k v : ℕ) (z : Point) → outcome k t ins v z ≡ outcome k s ins v z
+  unfolding outcome
+  outcome-alike zero v z = point-alike v z (λ _. loop) (λ _. loop) (λ _ _. refl)
+  outcome-alike (suc k) v z =
+      let looks : outcome k t ins ≡ outcome k s ins = fun-ext (λ w. fun-ext (λ y. outcome-alike k w y)) in
+      point-alike v z _ _ (λ i d.
+      ap (λ look. eval (variable t v .body) t look z) looks ∙ eval-same s t domain (outcome k s ins) (variable t v .body) z ∙ body v z (outcome k s ins) i d)
+
 -- ---- the variables of the normal form
 
 pub normal-variable : (s : Sheet) (v : ℕ) → variable (normalSheet s) v ≡ normalVariable s (variable s v)
@@ -80,7 +106,7 @@ inputsBefore-normal s (x ∷ t) (suc v) = rw (inputsBefore-normal s t v)
 
 module _ {bs : List ℕ} {r : Raw} {s : Sheet} (a : Accepted bs r s) (ins : List ℤ) where
   -- the body's normal form has the body's outcome at each point of the declared domain
-  body-same : (v : ℕ) (z : Point) (look : ℕ → Point → Outcome) → v < length s → isInput (variable s v) ≡ false → inDomain (variable s v) z ≡ true →
+  pub body-same : (v : ℕ) (z : Point) (look : ℕ → Point → Outcome) → v < length s → isInput (variable s v) ≡ false → inDomain (variable s v) z ≡ true →
       eval (normalBody s (variable s v)) s look z ≡ eval (variable s v .body) s look z
   body-same v z look lt i d =
       let x = variable s v in
@@ -108,21 +134,7 @@ module _ {bs : List ℕ} {r : Raw} {s : Sheet} (a : Accepted bs r s) (ins : List
       go (yes h) = h
       go (no h) = true-not-false {b = true} refl (sym (ap isInput (List·getD-eq-default s noVariable {n = v} (omega arith))) ∙ i)
 
-  -- bodies that have one outcome where it is asked for give one outcome
-  point-same : (v : ℕ) (z : Point) (x y : Unit {0} → Outcome) → (isInput (variable s v) ≡ false → inDomain (variable s v) z ≡ true → x tt ≡ y tt) →
-      atPoint (normalSheet s) ins v z x ≡ atPoint s ins v z y
-  point-same v z x y h = rw (domain-same v z, input-same v, entry-same v z) (go (inDomain (variable s v) z) (isInput (variable s v)) refl refl)
-    where
-      go : (d i : Bool) → inDomain (variable s v) z ≡ d → isInput (variable s v) ≡ i →
-          ifb d (λ _. ifb i (λ _. entry s ins v z) x) (λ _. outside) ≡ ifb d (λ _. ifb i (λ _. entry s ins v z) y) (λ _. outside)
-      go true true p q = refl
-      go true false p q = h q p
-      go false i p q = refl
-
   pub outcome-same : (k v : ℕ) (z : Point) → outcome k (normalSheet s) ins v z ≡ outcome k s ins v z
-  unfolding outcome
-  outcome-same zero v z = point-same v z (λ _. loop) (λ _. loop) (λ _ _. refl)
-  outcome-same (suc k) v z = point-same v z _ _ (λ i d.
-      let looks : outcome k (normalSheet s) ins ≡ outcome k s ins = fun-ext (λ w. fun-ext (λ y. outcome-same k w y)) in
-      rw (normal-variable s v, looks) (eval-same s (normalSheet s) domain-same (outcome k s ins) (normalBody s (variable s v)) z
-      ∙ body-same v z (outcome k s ins) (known v i) i d))
+  outcome-same =
+      outcome-alike s (normalSheet s) ins domain-same input-same entry-same (λ v z look i d.
+      ap (λ x. eval (x .body) s look z) (normal-variable s v) ∙ body-same v z look (known v i) i d)

@@ -12,14 +12,14 @@ use lib.Dec.{leb}
 use borrow.Author.Tests.{leb-true, le-leb, lt-ltb, le-ltb}
 use Rattle.alpha.specs.Field.{byte, wordAt, signedOf, field, bytesOf, wordOf, num, nat}
 use Rattle.alpha.specs.Answer.{COUNT, NUMBER}
-use Rattle.alpha.specs.Sheet.{Relation, Relation.atLeast, Relation.equal, Unary, Binary, Row, Constraint, Map, Node, Expr, Exprs}
+use Rattle.alpha.specs.Sheet.{Relation, Relation.atLeast, Relation.equal, Unary, Binary, Row, Constraint, Map, Expr, Exprs}
 use Rattle.alpha.specs.Sheet.{Node.nVar, Node.nInt, Node.nBool, Node.nUnary, Node.nBinary, Node.nIf, Node.nCase, Node.nRestr, Node.nDep}
 use Rattle.alpha.specs.Sheet.{Expr.var, Expr.int, Expr.boo, Expr.un, Expr.bin, Expr.ite, Expr.kase, Expr.restr, Expr.dep, Exprs.none, Exprs.more}
 use Rattle.alpha.specs.Sheet.{Unary.negate, Unary.complement, Binary.plus, Binary.minus, Binary.times, Binary.quot, Binary.rem, Binary.least, Binary.most, Binary.same, Binary.differ, Binary.under, Binary.upTo, Binary.over, Binary.from, Binary.both, Binary.either, Binary.one}
 use Rattle.alpha.specs.Box.{within}
-use Rattle.alpha.specs.Read.{got, Reader, repeat, passing, count, choice, free, number, pure, relationOf, unaryOf, binaryOf, rowOf, constraint, restriction, dependence, nodes, node}
+use Rattle.alpha.specs.Read.{got, Reader, repeat, passing, count, choice, free, pure, relationOf, unaryOf, binaryOf, rowOf, constraint, restriction, dependence, nodes, node}
 use Rattle.alpha.specs.Written.{flat, relationCode, unaryCode, binaryCode, rowBytes, constraintBytes, branchCount, bytes, allBytes}
-use Rattle.laws.specs.At.{Headed, Two, At, AllAt}
+use Rattle.laws.specs.At.{At, AllAt}
 use Rattle.laws.specs.Stands.{Stands}
 use Rattle.laws.specs.Writable.{All, RowOk, Writable, AllWritable}
 use Rattle.laws.proofs.Tests.{&&-left, pos-within, size-within}
@@ -47,7 +47,7 @@ module _ (l m bs : List ℕ) (p : ℕ) (h : Stands (l ++ m) bs p) where
 digit : (w b r : ℕ) → b ≡ w % 256 → r ≡ w / 256 → b + 256 * r ≡ w
 digit w b r p q = omega arith
 
-length-bytesOf : (k w : ℕ) → length (bytesOf k w) ≡ k
+pub length-bytesOf : (k w : ℕ) → length (bytesOf k w) ≡ k
 unfolding bytesOf
 length-bytesOf zero w = refl
 length-bytesOf (suc k) w = ap suc (length-bytesOf k (w / 256))
@@ -133,8 +133,10 @@ pub row-got : (n : ℕ) (w : Row) (bs : List ℕ) (p : ℕ) → RowOk n w → St
 unfolding rowOf
 row-got n w bs p k h =
     let front = flat (map num (w .coefs)) in
-    let one : (x : ℤ) (q : ℕ) → natAbs x ≤ 2 ^ 40 → Stands (num x) bs q → free bs q ≡ got x (q + length (num x)) = λ x q l t. free-got x bs q l t ∙ ap (λ m. got x (q + m)) (sym (length-num x)) in
-    let coefs = subst (λ m. repeat m free bs p ≡ got (w .coefs) (p + length front)) (k .width) (repeat-got (λ x. natAbs x ≤ 2 ^ 40) num free bs one (w .coefs) p (k .coefs-small) (stands-left front (num (w .const)) bs p h)) in
+    let one : (x : ℤ) (q : ℕ) → natAbs x ≤ 2 ^ 40 → Stands (num x) bs q → free bs q ≡ got x (q + length (num x)) =
+    λ x q l t. free-got x bs q l t ∙ ap (λ m. got x (q + m)) (sym (length-num x)) in
+    let coefs = subst (λ m. repeat m free bs p ≡ got (w .coefs) (p + length front)) (k .width)
+    (repeat-got (λ x. natAbs x ≤ 2 ^ 40) num free bs one (w .coefs) p (k .coefs-small) (stands-left front (num (w .const)) bs p h)) in
     let const = free-got (w .const) bs (p + length front) (k .const-small) (stands-right front (num (w .const)) bs p h) in
     let end : p + length front + 8 ≡ p + length (rowBytes w) = omega (arith, length-append front (num (w .const)), length-num (w .const)) in
     rw (coefs, const, end)
@@ -147,7 +149,8 @@ relation-low : (k : Relation) → relationCode k ≤ 1
 relation-low atLeast = omega arith
 relation-low equal = omega arith
 
-pub constraint-got : (n : ℕ) (c : Constraint) (bs : List ℕ) (p : ℕ) → RowOk n (c .row) → Stands (constraintBytes c) bs p → constraint n bs p ≡ got c (p + length (constraintBytes c))
+pub constraint-got : (n : ℕ) (c : Constraint) (bs : List ℕ) (p : ℕ) → RowOk n (c .row) → Stands (constraintBytes c) bs p →
+    constraint n bs p ≡ got c (p + length (constraintBytes c))
 unfolding constraint
 constraint-got n c bs p k h =
     let code = nat (relationCode (c .rel)) in

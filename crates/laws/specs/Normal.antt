@@ -1,8 +1,13 @@
 -- The form of a normal form, and the sheet whose bodies are the normal forms. Assumes nothing.
+use Prim.Native.Nat.{ℕ, _+_}
 use mathlib.Core.Bool.{Bool, true, false, _&&_}
-use mathlib.Core.List.{map}
+use mathlib.Core.List.{List, [], _∷_, _++_, map}
+use lib.ListN.{length}
+use Rattle.alpha.specs.Pick.{ifb}
 use Rattle.alpha.specs.Sheet.{Expr, Exprs, Variable, Sheet}
 use Rattle.alpha.specs.Sheet.{Expr.var, Expr.int, Expr.boo, Expr.un, Expr.bin, Expr.ite, Expr.kase, Expr.restr, Expr.dep, Exprs.none, Exprs.more}
+use Rattle.alpha.specs.Holds.{isInput}
+use Rattle.alpha.specs.Written.{bytes, nodeCount}
 use Rattle.alpha.specs.Normalise.{normalBody}
 
 -- ---- the form
@@ -65,3 +70,25 @@ normalVariable s x = record { head = x .head; declared = x .declared; body = nor
 
 abbrev pub normalSheet : Sheet → Sheet
 normalSheet s = map (normalVariable s) s
+
+-- ---- the bytes
+
+-- the bodies' bytes, of the variables that have bodies
+abbrev pub bodyBytes : Sheet → Sheet → List ℕ
+bodyBytes s [] = []
+bodyBytes s (x ∷ xs) = ifb (isInput x) (λ _. bodyBytes s xs) (λ _. bytes (normalBody s x) ++ bodyBytes s xs)
+
+-- how many nodes they have
+abbrev pub bodyNodes : Sheet → Sheet → ℕ
+bodyNodes s [] = 0
+bodyNodes s (x ∷ xs) = ifb (isInput x) (λ _. bodyNodes s xs) (λ _. nodeCount (normalBody s x) + bodyNodes s xs)
+
+abbrev pub placed : Variable → Expr → ℕ → ℕ → Variable
+placed x e p q = record { head = x .head; declared = x .declared; body = e; start = p; end = q }
+
+-- the variables with those bodies, which stand from p on
+abbrev pub rewritten : Sheet → Sheet → ℕ → Sheet
+rewritten s [] p = []
+rewritten s (x ∷ xs) p =
+    ifb (isInput x) (λ _. placed x (kase none) p p ∷ rewritten s xs p)
+    (λ _. placed x (normalBody s x) p (p + length (bytes (normalBody s x))) ∷ rewritten s xs (p + length (bytes (normalBody s x))))

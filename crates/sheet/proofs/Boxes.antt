@@ -61,7 +61,10 @@ range-came bs p q e =
       there = omega arith;
       low = first .fine;
       high = second .fine;
-      gives = after-gave (number (negℤ (pos 32768)) (pos 32767) bs p) _ (field bs p) (p + 8) lo ∙ after-gave (number (field bs p) (pos 32767) bs (p + 8)) _ (field bs (p + 8)) (p + 8 + 8) hi ∙ ap (got (rangeAt bs p)) (sym k);
+      gives =
+          after-gave (number (negℤ (pos 32768)) (pos 32767) bs p) _ (field bs p) (p + 8) lo
+          ∙ after-gave (number (field bs p) (pos 32767) bs (p + 8)) _ (field bs (p + 8)) (p + 8 + 8) hi
+          ∙ ap (got (rangeAt bs p)) (sym k);
       next = omega arith;
     }
 
@@ -99,7 +102,8 @@ ranges-came bs zero p q h e =
       next = omega arith;
     }
 ranges-came bs (suc n) p q h e =
-    let parts = next-accepted _ _ (sym (any-next (range bs p) _ (λ t. placeAfter (repeat n range bs t)) (λ a t. pure-after (repeat n range bs t) (λ l. a ∷ l))) ∙ e) in
+    let flat = any-next (range bs p) _ (λ t. placeAfter (repeat n range bs t)) (λ a t. pure-after (repeat n range bs t) (λ l. a ∷ l)) in
+    let parts = next-accepted _ _ (sym flat ∙ e) in
     let one = range-came bs p (parts .0) (parts .1) in
     let room = one .there in
     let on = one .next in
@@ -107,7 +111,10 @@ ranges-came bs (suc n) p q h e =
     let k = rest .next in
     record {
       ranges = more-ranges bs p (parts .0) n one (rest .ranges);
-      gives = after-gave (range bs p) _ (rangeAt bs p) (parts .0) (one .gives) ∙ after-gave (repeat n range bs (parts .0)) _ (boxAt bs (parts .0) n) q (rest .gives) ∙ ap (λ (t : ℕ). got (rangeAt bs p ∷ boxAt bs t n) q) on;
+      gives =
+          after-gave (range bs p) _ (rangeAt bs p) (parts .0) (one .gives)
+          ∙ after-gave (repeat n range bs (parts .0)) _ (boxAt bs (parts .0) n) q (rest .gives)
+          ∙ ap (λ (t : ℕ). got (rangeAt bs p ∷ boxAt bs t n) q) on;
       next = omega arith;
     }
 

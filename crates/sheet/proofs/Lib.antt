@@ -6,3 +6,5 @@ pub mod Heads
 pub mod Boxes
 pub mod Variables
 pub mod Sections
+pub mod Rows
+pub mod Accepted

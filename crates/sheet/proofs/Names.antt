@@ -117,8 +117,16 @@ module _ (bs tab : List ℕ) (p k : ℕ) where
   same-eight : (q : ℕ) → sameBytes (eight bs p) (eight bs q) ≡ sameBytes (bytesAt bs p 8) (bytesAt bs q 8)
   same-eight q = ap (λ (l : List ℕ). sameBytes l (eight bs q)) (eight-bytes bs p) ∙ ap (sameBytes (bytesAt bs p 8)) (eight-bytes bs q)
 
-  pub taken-found : 0 < k → k ≤ length tab → sameBytes (bytesAt bs p 8) (bytesAt bs (getD tab (k - 1) 0) 8) ≡ true → takenAt bs p (take k tab) ≡ true
-  taken-found h l t = last h l ∙ ap (λ (b : Bool). takenAt bs p (take (k - 1) tab) || b) (same-eight (getD tab (k - 1) 0) ∙ t) ∙ or-true (takenAt bs p (take (k - 1) tab))
+  pub taken-found : 0 < k → k ≤ length tab →
+      sameBytes (bytesAt bs p 8) (bytesAt bs (getD tab (k - 1) 0) 8) ≡ true → takenAt bs p (take k tab) ≡ true
+  taken-found h l t =
+      last h l
+      ∙ ap (λ (b : Bool). takenAt bs p (take (k - 1) tab) || b) (same-eight (getD tab (k - 1) 0) ∙ t)
+      ∙ or-true (takenAt bs p (take (k - 1) tab))
 
-  pub taken-more : 0 < k → k ≤ length tab → sameBytes (bytesAt bs p 8) (bytesAt bs (getD tab (k - 1) 0) 8) ≡ false → takenAt bs p (take k tab) ≡ takenAt bs p (take (k - 1) tab)
-  taken-more h l f = last h l ∙ ap (λ (b : Bool). takenAt bs p (take (k - 1) tab) || b) (same-eight (getD tab (k - 1) 0) ∙ f) ∙ or-false (takenAt bs p (take (k - 1) tab))
+  pub taken-more : 0 < k → k ≤ length tab →
+      sameBytes (bytesAt bs p 8) (bytesAt bs (getD tab (k - 1) 0) 8) ≡ false → takenAt bs p (take k tab) ≡ takenAt bs p (take (k - 1) tab)
+  taken-more h l f =
+      last h l
+      ∙ ap (λ (b : Bool). takenAt bs p (take (k - 1) tab) || b) (same-eight (getD tab (k - 1) 0) ∙ f)
+      ∙ or-false (takenAt bs p (take (k - 1) tab))

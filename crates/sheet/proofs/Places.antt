@@ -138,7 +138,8 @@ pub record Left {A : Type 0} (r : Reader A) (bs : List ℕ) (n p left at : ℕ) 
 pub all-left : {A : Type 0} {r : Reader A} {bs : List ℕ} {n p : ℕ} → Left r bs n p n p
 all-left = record { decides = refl }
 
-one-more : {A : Type 0} (r : Reader A) (bs : List ℕ) (n p : ℕ) → 0 < n → repeat n r bs p ≡ after (r bs p) (λ a q. after (repeat (n - 1) r bs q) (λ l q′. got (a ∷ l) q′))
+one-more : {A : Type 0} (r : Reader A) (bs : List ℕ) (n p : ℕ) → 0 < n →
+    repeat n r bs p ≡ after (r bs p) (λ a q. after (repeat (n - 1) r bs q) (λ l q′. got (a ∷ l) q′))
 one-more r bs zero p h = absurd (omega arith)
 one-more r bs (suc n) p h = let e : suc n - 1 ≡ n = omega arith in rw e
 
@@ -158,4 +159,9 @@ module _ {A : Type 0} {r : Reader A} {bs : List ℕ} {n p left at : ℕ} (inv : 
     unfolding rest
     repeat-goes q v =
         let g = gave (r bs at) (came-to (r bs at) x says q v) in
-        record { decides = inv .decides ∙ ap placeAfter (one-more r bs left at h ∙ after-gave (r bs at) rest (g .0) q (g .1)) ∙ pure-after (repeat (left - 1) r bs q) (λ l. g .0 ∷ l) }
+        record {
+          decides =
+              inv .decides
+              ∙ ap placeAfter (one-more r bs left at h ∙ after-gave (r bs at) rest (g .0) q (g .1))
+              ∙ pure-after (repeat (left - 1) r bs q) (λ l. g .0 ∷ l);
+        }

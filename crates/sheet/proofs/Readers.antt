@@ -10,7 +10,8 @@ use Rattle.alpha.specs.Answer.{Answer, accepted, refused, next, COUNT, NUMBER}
 use Rattle.alpha.specs.Field.{field, eight}
 use Rattle.alpha.specs.Box.{within}
 use Rattle.alpha.specs.Sheet.{Head, Declared, Constraint, Row, Node, Node.nIf, Kind, Sort}
-use Rattle.alpha.specs.Read.{Got, got, bad, Reader, after, repeat, pure, passing, count, number, choice, free, nameField, kindOf, sortOf, range, headRecord, rowOf, constraint, dimension, declared, restriction, dependence, nodes, node, relationOf}
+use Rattle.alpha.specs.Read.{Got, got, bad, after, repeat, pure, count, number, choice, free}
+use Rattle.alpha.specs.Read.{nameField, kindOf, sortOf, range, headRecord, rowOf, constraint, dimension, declared, restriction, dependence, nodes, node, relationOf}
 use Rattle.alpha.specs.declared.Refusal.{Refusal}
 use Rattle.sheet.specs.declared.Pass.{Pass}
 use Rattle.sheet.specs.declared.Pass.the-variants.{To, Refused}
@@ -20,24 +21,29 @@ use Rattle.sheet.proofs.Places.{gave, pure-after, passing-then, count-t
 -- ---- one reader after another, by places
 
 -- what follows does not go by the value
-pub any-next : {A B : Type 0} (m : Got A) (k : A → ℕ → Got B) (j : ℕ → Answer ℕ) → ((a : A) (q : ℕ) → placeAfter (k a q) ≡ j q) → placeAfter (after m k) ≡ next (placeAfter m) j
+pub any-next : {A B : Type 0} (m : Got A) (k : A → ℕ → Got B) (j : ℕ → Answer ℕ) →
+    ((a : A) (q : ℕ) → placeAfter (k a q) ≡ j q) → placeAfter (after m k) ≡ next (placeAfter m) j
 any-next (got a q) k j h = h a q
 any-next (bad n p) k j h = refl
 
 -- what follows goes by a value that is known wherever there is one
 pub known-next : {A B : Type 0} (m : Got A) (x : A) (k : A → ℕ → Got B) (j : ℕ → Answer ℕ) →
-    ((q : ℕ) → placeAfter m ≡ accepted q → after m k ≡ k x q) → ((q : ℕ) → placeAfter m ≡ accepted q → placeAfter (k x q) ≡ j q) → placeAfter (after m k) ≡ next (placeAfter m) j
+    ((q : ℕ) → placeAfter m ≡ accepted q → after m k ≡ k x q) →
+    ((q : ℕ) → placeAfter m ≡ accepted q → placeAfter (k x q) ≡ j q) → placeAfter (after m k) ≡ next (placeAfter m) j
 known-next (got a q) x k j e h = ap placeAfter (e q refl) ∙ h q refl
 known-next (bad n p) x k j e h = refl
 
 module _ {B : Type 0} (bs : List ℕ) (p : ℕ) where
-  pub number-next : (lo hi : ℤ) (k : ℤ → ℕ → Got B) (j : ℕ → Answer ℕ) → ((q : ℕ) → placeAfter (k (field bs p) q) ≡ j q) → placeAfter (after (number lo hi bs p) k) ≡ next (placeAfter (number lo hi bs p)) j
+  pub number-next : (lo hi : ℤ) (k : ℤ → ℕ → Got B) (j : ℕ → Answer ℕ) →
+      ((q : ℕ) → placeAfter (k (field bs p) q) ≡ j q) → placeAfter (after (number lo hi bs p) k) ≡ next (placeAfter (number lo hi bs p)) j
   number-next lo hi k j h = known-next (number lo hi bs p) (field bs p) k j (passing-then NUMBER (within lo hi) bs p k) (λ q _. h q)
 
-  pub count-next : (lo hi : ℕ) (k : ℕ → ℕ → Got B) (j : ℕ → Answer ℕ) → ((q : ℕ) → placeAfter (k (natAbs (field bs p)) q) ≡ j q) → placeAfter (after (count lo hi bs p) k) ≡ next (placeAfter (count lo hi bs p)) j
+  pub count-next : (lo hi : ℕ) (k : ℕ → ℕ → Got B) (j : ℕ → Answer ℕ) →
+      ((q : ℕ) → placeAfter (k (natAbs (field bs p)) q) ≡ j q) → placeAfter (after (count lo hi bs p) k) ≡ next (placeAfter (count lo hi bs p)) j
   count-next lo hi k j h = known-next (count lo hi bs p) (natAbs (field bs p)) k j (count-then lo hi bs p k) (λ q _. h q)
 
-  pub choice-next : (hi : ℕ) (k : ℕ → ℕ → Got B) (j : ℕ → Answer ℕ) → ((q : ℕ) → placeAfter (k (natAbs (field bs p)) q) ≡ j q) → placeAfter (after (choice hi bs p) k) ≡ next (placeAfter (choice hi bs p)) j
+  pub choice-next : (hi : ℕ) (k : ℕ → ℕ → Got B) (j : ℕ → Answer ℕ) →
+      ((q : ℕ) → placeAfter (k (natAbs (field bs p)) q) ≡ j q) → placeAfter (after (choice hi bs p) k) ≡ next (placeAfter (choice hi bs p)) j
   choice-next hi k j h = known-next (choice hi bs p) (natAbs (field bs p)) k j (choice-then hi bs p k) (λ q _. h q)
 
 -- what a Pass says of the first reader decides whether the next one runs
@@ -69,9 +75,12 @@ abbrev pub kindPlace : List ℕ → ℕ → Answer ℕ
 kindPlace bs p = next (placeAfter (choice 2 bs p)) (sortPlace bs)
 
 module _ (bs : List ℕ) (p : ℕ) where
-  pub range-place : placeAfter (range bs p) ≡ next (placeAfter (number (negℤ (pos 32768)) (pos 32767) bs p)) (λ q. placeAfter (number (field bs p) (pos 32767) bs q))
+  pub range-place : placeAfter (range bs p) ≡
+      next (placeAfter (number (negℤ (pos 32768)) (pos 32767) bs p)) (λ q. placeAfter (number (field bs p) (pos 32767) bs q))
   unfolding range
-  range-place = number-next bs p (negℤ (pos 32768)) (pos 32767) _ _ (λ q. pure-after (number (field bs p) (pos 32767) bs q) (λ hi. record { lo = field bs p; hi = hi }))
+  range-place =
+      number-next bs p (negℤ (pos 32768)) (pos 32767) _ _ (λ q.
+      pure-after (number (field bs p) (pos 32767) bs q) (λ hi. record { lo = field bs p; hi = hi }))
 
   pub head-place : (earlier : List Head) → placeAfter (headRecord earlier bs p) ≡ next (placeAfter (nameField earlier bs p)) (kindPlace bs)
   unfolding headRecord
@@ -113,7 +122,8 @@ module _ (bs : List ℕ) (p : ℕ) where
       count-next bs q 0 4 _ _ (λ t.
       pure-after (repeat (natAbs (field bs q)) (rowOf (natAbs (field bs p))) bs t) _))
 
-  pub node-place : (vars : ℕ) → placeAfter (node vars bs p) ≡ next (placeAfter (choice 8 bs p)) (λ q. placeAfter (getD (nodes vars) (natAbs (field bs p)) (pure nIf) bs q))
+  pub node-place : (vars : ℕ) → placeAfter (node vars bs p) ≡
+      next (placeAfter (choice 8 bs p)) (λ q. placeAfter (getD (nodes vars) (natAbs (field bs p)) (pure nIf) bs q))
   unfolding node
   node-place vars = choice-next bs p 8 _ _ (λ q. refl)
 

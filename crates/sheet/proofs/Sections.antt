@@ -28,17 +28,20 @@ use Rattle.sheet.proofs.Heads.{heads-length, heads-at}
 
 -- ---- the sections by places
 
-pub second-place : (hs : List Head) (bs : List ℕ) (p : ℕ) → placeAfter (secondSection hs bs p) ≡ next (placeAfter (count 0 256 bs p)) (λ q. placeAfter (repeat (natAbs (field bs p)) (declared hs) bs q))
+pub second-place : (hs : List Head) (bs : List ℕ) (p : ℕ) → placeAfter (secondSection hs bs p) ≡
+    next (placeAfter (count 0 256 bs p)) (λ q. placeAfter (repeat (natAbs (field bs p)) (declared hs) bs q))
 unfolding secondSection
 second-place hs bs p = count-next bs p 0 256 _ _ (λ q. refl)
 
-pub third-place : (vars : ℕ) (bs : List ℕ) (p : ℕ) → placeAfter (thirdSection vars bs p) ≡ next (placeAfter (count 0 2048 bs p)) (λ q. placeAfter (repeat (natAbs (field bs p)) (node vars) bs q))
+pub third-place : (vars : ℕ) (bs : List ℕ) (p : ℕ) → placeAfter (thirdSection vars bs p) ≡
+    next (placeAfter (count 0 2048 bs p)) (λ q. placeAfter (repeat (natAbs (field bs p)) (node vars) bs q))
 unfolding thirdSection
 third-place vars bs p = count-next bs p 0 2048 _ _ (λ q. refl)
 
 pub third-there : (vars : ℕ) (bs : List ℕ) (p q : ℕ) → placeAfter (thirdSection vars bs p) ≡ accepted q → p + 8 ≤ length bs
 third-there vars bs p q e =
-    let parts = next-accepted (placeAfter (count 0 2048 bs p)) (λ t. placeAfter (repeat (natAbs (field bs p)) (node vars) bs t)) (sym (third-place vars bs p) ∙ e) in
+    let parts = next-accepted (placeAfter (count 0 2048 bs p))
+    (λ t. placeAfter (repeat (natAbs (field bs p)) (node vars) bs t)) (sym (third-place vars bs p) ∙ e) in
     count-passed 0 2048 bs p (parts .0) (parts .1) .there
 
 -- ---- the whole
@@ -79,7 +82,8 @@ module _ (bs : List ℕ) where
   read-sections h = rw (le-leb (length bs) 65536 h)
 
   -- a part that is refused
-  pub part-stops : {A : Type 0} (m : Got A) (k : A → ℕ → Got Raw) → read bs ≡ after m k → (r : Pass) → passed r ≡ placeAfter m → (e : Refusal) → r ≡ Refused e → readAnswer bs ≡ passed r
+  pub part-stops : {A : Type 0} (m : Got A) (k : A → ℕ → Got Raw) → read bs ≡ after m k →
+      (r : Pass) → passed r ≡ placeAfter m → (e : Refusal) → r ≡ Refused e → readAnswer bs ≡ passed r
   part-stops m k reads r says e v = ap answerOf reads ∙ answer-refused m k (sym says ∙ ap passed v) ∙ sym (ap passed v)
 
   -- the count of variables was read
@@ -97,7 +101,8 @@ module _ (bs : List ℕ) where
 
   module _ (hs : List Head) (second : ℕ) where
     -- the declared constraints were read
-    pub second-goes : (third : ℕ) → read bs ≡ after (secondSection hs bs second) (fromThird bs hs second) → placeAfter (secondSection hs bs second) ≡ accepted third →
+    pub second-goes : (third : ℕ) → read bs ≡ after (secondSection hs bs second) (fromThird bs hs second) →
+        placeAfter (secondSection hs bs second) ≡ accepted third →
         (ds : List Declared) × (read bs ≡ fromThird bs hs second ds third)
     second-goes third reads came =
         let g = gave (secondSection hs bs second) came in
@@ -113,8 +118,11 @@ module _ (bs : List ℕ) where
       third-refused e =
           ⊎-elim
           (λ first. answer-refused (count 0 2048 bs third) nodesFrom first)
-          (λ later. ap answerOf (count-then 0 2048 bs third nodesFrom (later .0) (later .1)) ∙ answer-refused (repeat (natAbs (field bs third)) (node (length hs)) bs (later .0)) _ (later .2))
-          (next-refused (placeAfter (count 0 2048 bs third)) (λ q. placeAfter (repeat (natAbs (field bs third)) (node (length hs)) bs q)) (sym (third-place (length hs) bs third) ∙ e))
+          (λ later.
+          ap answerOf (count-then 0 2048 bs third nodesFrom (later .0) (later .1))
+          ∙ answer-refused (repeat (natAbs (field bs third)) (node (length hs)) bs (later .0)) _ (later .2))
+          (next-refused (placeAfter (count 0 2048 bs third))
+          (λ q. placeAfter (repeat (natAbs (field bs third)) (node (length hs)) bs q)) (sym (third-place (length hs) bs third) ∙ e))
 
       pub third-stops : (r : Pass) → passed r ≡ placeAfter (thirdSection (length hs) bs third) → (e : Refusal) → r ≡ Refused e → readAnswer bs ≡ passed r
       third-stops r says e v = ap answerOf reads ∙ third-refused (sym says ∙ ap passed v) ∙ sym (ap passed v)
@@ -125,7 +133,8 @@ module _ (bs : List ℕ) where
       unfolding fromThird nodesFrom
       third-goes end came =
           let n = natAbs (field bs third) in
-          let parts = next-accepted (placeAfter (count 0 2048 bs third)) (λ q. placeAfter (repeat n (node (length hs)) bs q)) (sym (third-place (length hs) bs third) ∙ came) in
+          let parts = next-accepted (placeAfter (count 0 2048 bs third))
+          (λ q. placeAfter (repeat n (node (length hs)) bs q)) (sym (third-place (length hs) bs third) ∙ came) in
           let g = gave (repeat n (node (length hs)) bs (parts .0)) (parts .2) in
           reads
           ∙ count-then 0 2048 bs third nodesFrom (parts .0) (parts .1)

@@ -4,7 +4,7 @@ use mathlib.Core.Bool.{Bool, true, false, not, _&&_, _||_}
 use mathlib.Core.List.{List, [], _∷_, _++_, map}
 use Prim.Native.Nat.{ℕ, zero, suc, _+_, _-_, _*_, _≤_, _<_}
 use native.Mathlib.Omega.{arith}
-use native.Mathlib.Decide.{ℕ-discrete}
+use borrow.Author.Count.{below-more}
 use borrow.Author.Tests.{le-leb, lt-leb, leb-true, leb-false}
 use lib.ListN.{length, getD, take, set, length-set}
 use lib.Seq.{getD-set-same, getD-set-other, take-set-le, take-suc-set, take-append-le, take-at, take-all}
@@ -106,7 +106,8 @@ head-came earlier bs p q e =
       next = box .next;
     }
 
-pub head-passed : (earlier : List Head) (bs : List ℕ) (p : ℕ) (r : Pass) → passed r ≡ placeAfter (headRecord earlier bs p) → (q : ℕ) → r ≡ To q → HeadRead earlier bs p q
+pub head-passed : (earlier : List Head) (bs : List ℕ) (p : ℕ) (r : Pass) →
+    passed r ≡ placeAfter (headRecord earlier bs p) → (q : ℕ) → r ≡ To q → HeadRead earlier bs p q
 head-passed earlier bs p r says q to = head-came earlier bs p q (came-to (headRecord earlier bs p) r says q to)
 
 -- ---- records one after another
@@ -146,17 +147,9 @@ heads-last : (bs ps : List ℕ) (p : ℕ) → headsAt bs (ps ++ (p ∷ [])) ≡ 
 heads-last bs [] p = refl
 heads-last bs (q ∷ ps) p = ap (λ (l : List Head). headAt bs q ∷ l) (heads-last bs ps p)
 
-points-last : (hs : List Head) (h : Head) → points (hs ++ (h ∷ [])) ≡ points hs + size (h .box)
+pub points-last : (hs : List Head) (h : Head) → points (hs ++ (h ∷ [])) ≡ points hs + size (h .box)
 points-last [] h = omega arith
 points-last (x ∷ hs) h = let e = points-last hs h in omega arith
-
--- what holds below k and at k holds up to k
-below-or-last : (k : ℕ) (P : ℕ → Type 0) → ((i : ℕ) → i < k → P i) → P k → (i : ℕ) → i < k + 1 → P i
-below-or-last k P below last i h = go (ℕ-discrete i k)
-  where
-    go : Dec (i ≡ k) → P i
-    go (yes e) = subst P (sym e) last
-    go (no ne) = below i (let r : ¬ (i ≡ k) = ne in omega arith)
 
 head-size : (bs : List ℕ) (p : ℕ) → size (headAt bs p .box) ≡ size (boxAt bs (p + 32) (dimensionAt bs p))
 unfolding headAt
@@ -234,7 +227,11 @@ module _ {bs : List ℕ} {at n : ℕ} {tab : List ℕ} {k total p : ℕ} (inv : 
       pub reading-over : 4096 < total + pts → Fills bs at n tab (Refused (Count p))
       reading-over over =
           let le = capped-le (size (boxAt bs (p + 32) (dimensionAt bs p))) in
-          record { answer = sym (ap placeAfter (too-many (omega arith))); sized = inv .known .sized; filled = λ t to. absurd (let z : _≡_ {A = ℕ} 0 1 = cc in omega arith) }
+          record {
+            answer = sym (ap placeAfter (too-many (omega arith)));
+            sized = inv .known .sized;
+            filled = λ t to. absurd (let z : _≡_ {A = ℕ} 0 1 = cc in omega arith);
+          }
         where
           too-many : 4096 < total + size (boxAt bs (p + 32) (dimensionAt bs p)) → heads n [] 0 bs at ≡ bad COUNT p
           too-many h = after-head ∙ rw (lt-leb (total + size (boxAt bs (p + 32) (dimensionAt bs p))) 4096 h)
@@ -255,14 +252,17 @@ module _ {bs : List ℕ} {at n : ℕ} {tab : List ℕ} {k total p : ℕ} (inv : 
             known = record {
               sized = length-set (set tab k p) (32 + k) total ∙ length-set tab k p ∙ sized;
               few = omega arith;
-              recorded = below-or-last k (λ i. Recorded bs (getD (stored tab k p total) i 0))
+              recorded = below-more (λ i. Recorded bs (getD (stored tab k p total) i 0)) k
                   (λ i h. rw (stored-before tab k p total sized small i h) (inv .known .recorded i h))
                   (rw (stored-record tab k p total sized small) (read .recorded));
             };
-            decides = onward exact (omega arith) ∙ ap2 all-heads;
-            firsts = below-or-last k (λ i. getD (stored tab k p total) (32 + i) 0 ≡ before (headsAt bs (take (k + 1) (stored tab k p total))) i)
-                (λ i h. stored-first-before tab k p total sized small i h ∙ inv .firsts i h ∙ sym (ap (λ (l : List Head). before l i) all-heads ∙ ap points (take-append-le i hs (headAt bs p ∷ []) (omega arith))))
-                (stored-first tab k p total sized small ∙ inv .sum ∙ sym (ap (λ (l : List Head). before l k) all-heads ∙ ap points (take-at hs (headAt bs p ∷ []) k length-hs)));
+            decides = onward exact (omega arith) ∙ with-heads all-heads;
+            firsts = below-more (λ i. getD (stored tab k p total) (32 + i) 0 ≡ before (headsAt bs (take (k + 1) (stored tab k p total))) i) k
+                (λ i h.
+                stored-first-before tab k p total sized small i h ∙ inv .firsts i h
+                ∙ sym (ap (λ (l : List Head). before l i) all-heads ∙ ap points (take-append-le i hs (headAt bs p ∷ []) (omega arith))))
+                (stored-first tab k p total sized small ∙ inv .sum
+                ∙ sym (ap (λ (l : List Head). before l k) all-heads ∙ ap points (take-at hs (headAt bs p ∷ []) k length-hs)));
             sum =
                 let after = ap points all-heads ∙ points-last hs (headAt bs p) in
                 let before = inv .sum in
@@ -277,8 +277,9 @@ module _ {bs : List ℕ} {at n : ℕ} {tab : List ℕ} {k total p : ℕ} (inv : 
               let e : n - k - 1 ≡ n - (k + 1) = omega arith in
               after-head ∙ rw (le-leb (total + size (boxAt bs (p + 32) (dimensionAt bs p))) 4096 h, e, exact)
 
-          ap2 : {l : List Head} → l ≡ hs ++ (headAt bs p ∷ []) → heads (n - (k + 1)) (hs ++ (headAt bs p ∷ [])) (total + pts) bs q ≡ heads (n - (k + 1)) l (total + pts) bs q
-          ap2 e = ap (λ (l : List Head). heads (n - (k + 1)) l (total + pts) bs q) (sym e)
+          with-heads : {l : List Head} → l ≡ hs ++ (headAt bs p ∷ []) →
+              heads (n - (k + 1)) (hs ++ (headAt bs p ∷ [])) (total + pts) bs q ≡ heads (n - (k + 1)) l (total + pts) bs q
+          with-heads e = ap (λ (l : List Head). heads (n - (k + 1)) l (total + pts) bs q) (sym e)
 
   -- all records were read, and the total is stored
   pub reading-done : n ≤ k → Filled bs at n (set tab (32 + n) total) p
@@ -300,9 +301,12 @@ module _ {bs : List ℕ} {at n : ℕ} {tab : List ℕ} {k total p : ℕ} (inv : 
               recorded = λ i l. rw (getD-set-other tab (32 + n) i total 0 (λ r. omega arith)) (inv .known .recorded i (omega arith));
             };
             gives = inv .decides ∙ ap (λ (m : ℕ). heads m hs total bs p) none ∙ ap (λ (l : List Head). got l p) (sym all-heads);
-            firsts = λ i l. below-or-last n (λ j. getD (set tab (32 + n) total) (32 + j) 0 ≡ before (headsAt bs (take n (set tab (32 + n) total))) j)
-                (λ j m. getD-set-other tab (32 + n) (32 + j) total 0 (λ r. omega arith) ∙ inv .firsts j (omega arith) ∙ sym (ap (λ (x : List Head). before x j) all-heads))
-                (getD-set-same tab (32 + n) total 0 (omega arith) ∙ inv .sum ∙ sym (ap (λ (x : List Head). before x n) all-heads ∙ ap points (take-all n hs (omega arith))))
+            firsts = λ i l. below-more (λ j. getD (set tab (32 + n) total) (32 + j) 0 ≡ before (headsAt bs (take n (set tab (32 + n) total))) j) n
+                (λ j m.
+                getD-set-other tab (32 + n) (32 + j) total 0 (λ r. omega arith) ∙ inv .firsts j (omega arith)
+                ∙ sym (ap (λ (x : List Head). before x j) all-heads))
+                (getD-set-same tab (32 + n) total 0 (omega arith) ∙ inv .sum
+                ∙ sym (ap (λ (x : List Head). before x n) all-heads ∙ ap points (take-all n hs (omega arith))))
                 i (omega arith);
             few = let a = ap points all-heads in let t = inv .sum in let f = inv .few in omega arith;
           }

@@ -2,5 +2,7 @@
 pub mod Place
 pub mod Name
 pub mod Record
+pub mod Rows
 pub mod Section
 pub mod Table
+pub mod Understood

@@ -7,12 +7,13 @@ use constraint::declarations;
 use field::count_at;
 use field::count_field;
 use node::nodes;
+use table::entries;
 use table::first_element;
 use table::note;
 use variable::heads;
 ghost use mathlib.Core.Path.{_≡_};
 ghost use Prim.Native.Nat.{ℕ, _≤_};
-ghost use lib.ListN.{length, take};
+ghost use lib.ListN.{take};
 ghost use Rattle.alpha.specs.Verdict.{told};
 ghost use Rattle.sheet.specs.Place.{placeAfter, passed};
 ghost use Rattle.sheet.specs.Record.{Known, headsAt};
@@ -68,9 +69,10 @@ fn third_section(s: &[u8], at: usize, n: usize) -> Pass
 
 // Reads a sheet: the element total, or refusal 1 to 6. The table is filled where the sheet is accepted.
 pub fn read(s: &[u8], tab: &mut [usize; 102]) -> Verdict
-    requires { ⌜ length (now tab) ≡ 102 ⌝ }
     ensures { λ r. ⌜ Reads (now (s .entry)) (now (tab .exit)) r ⌝ }
 {
+    // Asked for what it tells of the table's length.
+    entries(tab);
     if s.len() > 65536 {
         return Verdict::Refused(Refusal::Long);
     }

@@ -1,13 +1,14 @@
 // Names, judged and compared where they stand in the sheet, byte for byte. Assumes nothing.
 ghost use mathlib.Core.Path.{_≡_};
-ghost use mathlib.Core.Bool.{Bool, _&&_};
+ghost use mathlib.Core.Bool.{_&&_};
 ghost use Prim.Native.Nat.{ℕ, _+_, _≤_};
 ghost use lib.ListN.{length, take};
 ghost use lib.Dec.{leb};
-ghost use Rattle.alpha.specs.Field.{letter, digit, zeros, nameTail, nameForm, sameBytes, eight};
+ghost use Rattle.alpha.specs.Field.{letter, zeros, nameTail, nameForm, sameBytes, eight};
 ghost use Rattle.sheet.specs.Name.{bytesAt, inName, takenAt};
 ghost use Rattle.sheet.specs.Record.{Known};
 
+// lo <= b <= hi.
 fn between(b: u8, lo: u8, hi: u8) -> bool
     ensures { λ r. ⌜ r ≡ (leb lo b && leb b hi) ⌝ }
 {
@@ -18,13 +19,13 @@ fn between(b: u8, lo: u8, hi: u8) -> bool
 fn is_letter(b: u8) -> bool
     ensures { λ r. ⌜ r ≡ letter b ⌝ }
 {
-    if between(b, 65, 90) {
+    if between(b, b'A', b'Z') {
         return true;
     }
-    if between(b, 97, 122) {
+    if between(b, b'a', b'z') {
         return true;
     }
-    b == 95
+    b == b'_'
 }
 
 // A byte that may stand in a name after the first.
@@ -34,7 +35,7 @@ fn in_name(b: u8) -> bool
     if is_letter(b) {
         return true;
     }
-    between(b, 48, 57)
+    between(b, b'0', b'9')
 }
 
 // The n bytes from `at` on are all zero.

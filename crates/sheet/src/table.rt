@@ -4,7 +4,7 @@
 // Assumes nothing.
 ghost use mathlib.Core.Path.{_≡_};
 ghost use Prim.Native.Nat.{ℕ, _+_, _<_, _≤_};
-ghost use lib.ListN.{getD, set};
+ghost use lib.ListN.{length, getD, set};
 ghost use Rattle.sheet.specs.Table.{noted};
 
 const FIRST_ELEMENTS: usize = 32;
@@ -18,6 +18,21 @@ const THIRD: usize = 67;
 const NODES: usize = 68;
 
 const BODIES: usize = 69;
+
+// How many entries a table has, by value, where its type tells.
+fn entries_of(tab: [usize; 102]) -> usize
+    ensures { λ r. ⌜ (r ≡ 102) × (length tab ≡ 102) ⌝ }
+{
+    102
+}
+
+// The same through a reference, which does not tell: whoever asks here needs no `requires` for the length.
+pub fn entries(tab: &[usize; 102]) -> usize
+    ensures { λ r. ⌜ (r ≡ 102) × (length (now (tab .entry)) ≡ 102) ⌝ }
+{
+    let all = *tab;
+    entries_of(all)
+}
 
 // The place of variable v's record.
 pub fn record_place(tab: &[usize; 102], v: usize) -> usize

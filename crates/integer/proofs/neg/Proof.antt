@@ -5,7 +5,8 @@ use lib.IntN.{negℤ, +ℤ-idl}
 use mir.Syntax.{w64}
 use mir.Val.{SFits}
 use mir.Facts.{toZ-ofZ}
-use Rattle.integer.proofs.Sizes.{natAbs-neg, neg-fits}
+use Rattle.laws.proofs.Sizes.{natAbs-neg}
+use Rattle.integer.proofs.Sizes.{neg-fits}
 use Rattle.integer.proofs.neg.Statement.{statement}
 use Rattle.integer.proofs.neg.Tie as tie
 

@@ -17,17 +17,35 @@ use Rattle.sheet.specs.Section.{secondSection, thirdSection}
 use Rattle.sheet.specs.Table.{Table, noted}
 use Rattle.sheet.proofs.Places.{Passed, came-to, count-came, counted}
 use Rattle.sheet.proofs.Heads.{heads-length}
-use Rattle.sheet.proofs.Sections.{rawOf, fromSecond, fromThird, read-long, read-sections, part-stops, first-goes, heads-go, second-goes, third-stops, third-goes, third-there, tail-refused, read-ends, reads-refused, reads-stopped, reads-accepted, noted-table, table-total}
+use Rattle.sheet.proofs.Sections.{rawOf, fromSecond, fromThird}
+use Rattle.sheet.proofs.Sections.{read-long, read-sections, part-stops, first-goes, heads-go, second-goes, third-stops, third-goes, third-there, tail-refused, read-ends}
+use Rattle.sheet.proofs.Sections.{reads-refused, reads-stopped, reads-accepted, noted-table, table-total}
 use Rattle.sheet.proofs.read.Statement.{statement}
 use Rattle.sheet.proofs.read.Tie as tie
 
--- what stands at a place of the code: the sheet, the number of variables, the place of the first record, the table that was filled,
--- the records, and the places of the sections
+-- the places of the code: after the count of variables, the records, the second and the third section
+abbrev opening : tie.After-known-told2 → tie.After-count-at
+opening c = c .before .before .before .before .before
+
+abbrev listing : tie.After-known-told3 → tie.After-known-told2
+listing c = c .before .before .before .before .before
+
+abbrev binding : tie.After-known-told4 → tie.After-known-told3
+binding c = c .before .before .before .before
+
+-- what stands there: the sheet, the number of variables, the place of the first record, the table that was filled, the records,
+-- and the places of the sections and of the end
+abbrev sheet : tie.After-count-at → List ℕ
+sheet c = c .before .before .before .before .before .before .before .before .before .args .s .now
+
+abbrev start : tie.After-count-at → ℕ
+start c = c .before .before .a .given .0 .0
+
 abbrev bytes : tie.After-known-told2 → List ℕ
-bytes c = c .before .before .before .before .before .before .before .before .before .before .before .before .args .s .now
+bytes c = sheet (opening c)
 
 abbrev many : tie.After-known-told2 → ℕ
-many c = c .before .before .before .before .before .count-at .result
+many c = opening c .count-at .result
 
 abbrev filledTable : tie.After-known-told2 → List ℕ
 filledTable c = c .before .before .before .heads .last .1 .0
@@ -45,53 +63,60 @@ abbrev end : tie.After-known-told4 → ℕ
 end c = c .before .d .given .0 .0
 
 -- the count of variables was read
-counts : (c : tie.After-known-told) → Passed (within (pos 1) (pos 32)) (c .before .before .before .before .before .before .args .s .now) 0 (c .before .a .given .0 .0)
-counts c = count-came (c .before .before .before .before .before .before .args .s .now) 0 _ _ (c .before .a .given .1) 1 32 (c .before .before .before .count-field .ensures)
+counts : (c : tie.After-known-told) → Passed (within (pos 1) (pos 32)) (c .before .before .before .before .before .before .before .before .args .s .now) 0 (c .before .a .given .0 .0)
+counts c =
+    let s = c .before .before .before .before .before .before .before .before .args .s .now in
+    count-came s 0 _ _ (c .before .a .given .1) 1 32 (c .before .before .before .count-field .ensures)
 
 some : (c : tie.After-count-at) → (1 ≤ c .count-at .result) × (c .count-at .result ≤ 32)
 some c = let e = c .count-at .ensures in let h = counted 1 32 (counts (c .before)) in (omega arith, omega arith)
 
-opened : (c : tie.After-count-at) →
-    let s = c .before .before .before .before .before .before .before .args .s .now in
-    read s ≡ after (heads (c .count-at .result) [] 0 s (c .before .before .a .given .0 .0)) (fromSecond s)
+opened : (c : tie.After-count-at) → read (sheet c) ≡ after (heads (c .count-at .result) [] 0 (sheet c) (start c)) (fromSecond (sheet c))
 opened c =
-    let s = c .before .before .before .before .before .before .before .args .s .now in
-    let p = c .before .before .a .given .0 .0 in
-    let came = came-to (count 1 32 s 0) _ (c .before .before .before .before .count-field .ensures) p (c .before .before .a .given .1) in
-    first-goes s p (read-sections s (search needs)) came ∙ ap (λ (n : ℕ). after (heads n [] 0 s p) (fromSecond s)) (sym (c .count-at .ensures))
+    let came = came-to (count 1 32 (sheet c) 0) _ (c .before .before .before .before .count-field .ensures) (start c) (c .before .before .a .given .1) in
+    first-goes (sheet c) (start c) (read-sections (sheet c) (search needs)) came
+    ∙ ap (λ (n : ℕ). after (heads n [] 0 (sheet c) (start c)) (fromSecond (sheet c))) (sym (c .count-at .ensures))
 
 -- the records were read
-filled : (c : tie.After-known-told2) → Filled (bytes c) (c .before .before .before .before .before .before .before .a .given .0 .0) (many c) (filledTable c) (second c)
+filled : (c : tie.After-known-told2) → Filled (bytes c) (start (opening c)) (many c) (filledTable c) (second c)
 filled c = c .before .before .before .heads .ensures .filled (second c) (c .before .b .given .1)
 
 listed : (c : tie.After-known-told2) → read (bytes c) ≡ after (secondSection (records c) (bytes c) (second c)) (fromThird (bytes c) (records c) (second c))
-listed c = heads-go (bytes c) _ (records c) (second c) (opened (c .before .before .before .before .before)) (filled c .gives)
+listed c = heads-go (bytes c) _ (records c) (second c) (opened (opening c)) (filled c .gives)
 
 -- the declared constraints were read
-bound : (c : tie.After-known-told3) → let m = c .before .before .before .before .before in
-    (ds : List Declared) × (read (bytes m) ≡ fromThird (bytes m) (records m) (second m) ds (third c))
+bound : (c : tie.After-known-told3) →
+    let m = listing c in (ds : List Declared) × (read (bytes m) ≡ fromThird (bytes m) (records m) (second m) ds (third c))
 bound c =
-    let m = c .before .before .before .before .before in
-    second-goes (bytes m) (records m) (second m) (third c) (listed m) (came-to (secondSection (records m) (bytes m) (second m)) _ (c .before .before .before .second-section .ensures) (third c) (c .before .c .given .1))
+    let m = listing c in
+    let came = came-to (secondSection (records m) (bytes m) (second m)) _ (c .before .before .before .second-section .ensures) (third c) (c .before .c .given .1) in
+    second-goes (bytes m) (records m) (second m) (third c) (listed m) came
 
 -- the nodes were read
-came-third : (c : tie.After-known-told4) → let m = c .before .before .before .before .before .before .before .before .before in placeAfter (thirdSection (many m) (bytes m) (third (c .before .before .before .before))) ≡ accepted (end c)
-came-third c = let m = c .before .before .before .before .before .before .before .before .before in came-to (thirdSection (many m) (bytes m) (third (c .before .before .before .before))) _ (c .before .before .before .third-section .ensures) (end c) (c .before .d .given .1)
+came-third : (c : tie.After-known-told4) →
+    let m = listing (binding c) in placeAfter (thirdSection (many m) (bytes m) (third (binding c))) ≡ accepted (end c)
+came-third c =
+    let m = listing (binding c) in
+    came-to (thirdSection (many m) (bytes m) (third (binding c))) _ (c .before .before .before .third-section .ensures) (end c) (c .before .d .given .1)
 
 raw : tie.After-known-told4 → Raw
 raw c =
-    let m = c .before .before .before .before .before .before .before .before .before in
-    let t = third (c .before .before .before .before) in
-    rawOf (records m) (bound (c .before .before .before .before) .0) (second m) t (t + 8) (natAbs (field (bytes m) t))
+    let m = listing (binding c) in
+    let t = third (binding c) in
+    rawOf (records m) (bound (binding c) .0) (second m) t (t + 8) (natAbs (field (bytes m) t))
 
-read-all : (c : tie.After-known-told4) → let m = c .before .before .before .before .before .before .before .before .before in read (bytes m) ≡ ended (raw c) (bytes m) (end c)
+read-all : (c : tie.After-known-told4) → let s = bytes (listing (binding c)) in read s ≡ ended (raw c) s (end c)
 unfolding raw
 read-all c =
-    let m = c .before .before .before .before .before .before .before .before .before in
-    let t = third (c .before .before .before .before) in
-    let b = bound (c .before .before .before .before) in
-    let all = subst (λ (n : ℕ). placeAfter (thirdSection n (bytes m) t) ≡ accepted (end c)) (sym (heads-length (filled m .known))) (came-third c) in
+    let m = listing (binding c) in
+    let t = third (binding c) in
+    let b = bound (binding c) in
+    let many-heads = sym (heads-length (filled m .known)) in
+    let all = subst (λ (n : ℕ). placeAfter (thirdSection n (bytes m) t) ≡ accepted (end c)) many-heads (came-third c) in
     third-goes (bytes m) (records m) (second m) (b .0) t (b .1) (end c) all
+
+entries-requires : tie.Need-entries-requires
+entries-requires c κs = search needs
 
 returns : tie.Need-returns
 returns c = reads-refused refl (read-long _ (search needs))
@@ -110,15 +135,16 @@ verdict-requires c κs = search needs
 
 returns-2 : tie.Need-returns-2
 returns-2 c =
-    let s = c .before .before .before .before .before .before .args .s .now in
+    let s = c .before .before .before .before .before .before .before .before .args .s .now in
     let refused = c .before .enum-told .given .1 in
-    reads-stopped _ _ _ refused (c .verdict .ensures) (part-stops s (count 1 32 s 0) _ (read-sections s (search needs)) _ (c .before .before .before .count-field .ensures) _ refused)
+    let stops = part-stops s (count 1 32 s 0) _ (read-sections s (search needs)) _ (c .before .before .before .count-field .ensures) _ refused in
+    reads-stopped _ _ _ refused (c .verdict .ensures) stops
 
 count-at-requires : tie.Need-count-at-requires
 count-at-requires c κs = counts c .there
 
 heads-requires : tie.Need-heads-requires
-heads-requires c κs = (c .before .before .before .before .before .before .before .before .pre, some (c .before) .1)
+heads-requires c κs = (c .before .before .before .before .before .before .before .entries .ensures .1, some (c .before) .1)
 
 enum-known-b : tie.Need-enum-known-b
 enum-known-b c = search needs
@@ -131,12 +157,14 @@ verdict-requires-2 c κs = search needs
 
 returns-3 : tie.Need-returns-3
 returns-3 c =
-    let s = c .before .before .before .before .before .before .before .before .before .before .before .before .args .s .now in
+    let o = c .before .before .before .before .before in
     let refused = c .before .enum-told2 .given .1 in
-    reads-stopped _ _ _ refused (c .verdict2 .ensures) (part-stops s (heads (c .before .before .before .before .before .count-at .result) [] 0 s (c .before .before .before .before .before .before .before .a .given .0 .0)) (fromSecond s) (opened (c .before .before .before .before .before)) _ (c .before .before .before .heads .ensures .answer) _ refused)
+    let records = heads (o .count-at .result) [] 0 (sheet o) (start o) in
+    let stops = part-stops (sheet o) records (fromSecond (sheet o)) (opened o) _ (c .before .before .before .heads .ensures .answer) _ refused in
+    reads-stopped _ _ _ refused (c .verdict2 .ensures) stops
 
 second-section-requires : tie.Need-second-section-requires
-second-section-requires c κs = (some (c .before .before .before .before .before .before) .0, filled (c .before) .known)
+second-section-requires c κs = (some (opening (c .before)) .0, filled (c .before) .known)
 
 enum-known-c : tie.Need-enum-known-c
 enum-known-c c = search needs
@@ -151,10 +179,11 @@ returns-4 : tie.Need-returns-4
 returns-4 c =
     let m = c .before .before .before .before .before in
     let refused = c .before .enum-told3 .given .1 in
-    reads-stopped _ _ _ refused (c .verdict3 .ensures) (part-stops (bytes m) (secondSection (records m) (bytes m) (second m)) _ (listed m) _ (c .before .before .before .second-section .ensures) _ refused)
+    let stops = part-stops (bytes m) (secondSection (records m) (bytes m) (second m)) _ (listed m) _ (c .before .before .before .second-section .ensures) _ refused in
+    reads-stopped _ _ _ refused (c .verdict3 .ensures) stops
 
 third-section-requires : tie.Need-third-section-requires
-third-section-requires c κs = some (c .before .before .before .before .before .before .before .before .before .before)
+third-section-requires c κs = some (opening (listing c))
 
 enum-known-d : tie.Need-enum-known-d
 enum-known-d c = search needs
@@ -167,12 +196,14 @@ verdict-requires-4 c κs = search needs
 
 returns-5 : tie.Need-returns-5
 returns-5 c =
-    let m = c .before .before .before .before .before .before .before .before .before in
     let t = c .before .before .before .before in
+    let m = listing t in
+    let asked = c .before .before .before .third-section in
     let refused = c .before .enum-told4 .given .1 in
-    let all = sym (heads-length (filled m .known)) in
-    let says = subst (λ (n : ℕ). passed (c .before .before .before .third-section .result) ≡ placeAfter (thirdSection n (bytes m) (third t))) all (c .before .before .before .third-section .ensures) in
-    reads-stopped _ _ _ refused (c .verdict4 .ensures) (third-stops (bytes m) (records m) (second m) (bound t .0) (third t) (bound t .1) _ says _ refused)
+    let many-heads = sym (heads-length (filled m .known)) in
+    let says = subst (λ (n : ℕ). passed (asked .result) ≡ placeAfter (thirdSection n (bytes m) (third t))) many-heads (asked .ensures) in
+    let stops = third-stops (bytes m) (records m) (second m) (bound t .0) (third t) (bound t .1) _ says _ refused in
+    reads-stopped _ _ _ refused (c .verdict4 .ensures) stops
 
 returns-6 : tie.Need-returns-6
 returns-6 c = reads-refused refl (tail-refused _ _ _ (read-all (c .before)) (c .if2 .taken))
@@ -184,24 +215,27 @@ note-requires : tie.Need-note-requires
 note-requires c κs = search needs
 
 first-element-requires : tie.Need-first-element-requires
-first-element-requires c κs = some (c .before .before .before .before .before .before .before .before .before .before .before .before .before .before .before .before .before .before .before) .1
+first-element-requires c κs = some (opening (listing (binding (c .before .before .before .before .before)))) .1
 
 returns-7 : tie.Need-returns-7
 unfolding raw
 returns-7 c =
     let d = c .before .before .before .before .before .before in
-    let m = c .before .before .before .before .before .before .before .before .before .before .before .before .before .before .before in
-    let t = third (c .before .before .before .before .before .before .before .before .before .before) in
+    let m = listing (binding d) in
+    let t = third (binding d) in
+    let after = c .before .before .note in
     let nodes = natAbs (field (bytes m) t) in
-    let stored = c .before .before .note .ensures ∙ ap (noted (filledTable m) (many m) (second m) t) (c .before .before .before .count-at2 .ensures) in
-    let table = subst (λ (tab : List ℕ). Table tab (raw d)) (sym stored) (noted-table (bound (c .before .before .before .before .before .before .before .before .before .before) .0) t nodes (filled m)) in
-    let total = c .first-element .ensures ∙ ap (λ (k : ℕ). getD (c .before .before .note .last .0) (32 + k) 0) (sym (heads-length (filled m .known))) ∙ table-total table in
-    reads-accepted (read-ends _ _ _ (read-all d) (c .before .before .before .before .before .if2 .left)) total table
+    let stored = after .ensures ∙ ap (noted (filledTable m) (many m) (second m) t) (c .before .before .before .count-at2 .ensures) in
+    let noted-so = noted-table (bound (binding d) .0) t nodes (filled m) in
+    let table = subst (λ (tab : List ℕ). Table tab (raw d)) (sym stored) noted-so in
+    let last = ap (λ (k : ℕ). getD (after .last .0) (32 + k) 0) (sym (heads-length (filled m .known))) in
+    reads-accepted (read-ends _ _ _ (read-all d) (c .before .before .before .before .before .if2 .left)) (c .first-element .ensures ∙ last ∙ table-total table) table
 
 pub read-spec : {M : Type 1} → statement M
 read-spec =
     tie.close
     (tie.spec
+    entries-requires
     returns
     count-field-requires
     enum-known-a

@@ -28,7 +28,8 @@ declarations-requires c κs = search needs
 returns-2 : tie.Need-returns-2
 returns-2 c =
     let r = c .before .before .before in
-    rw (c .before .count-at .ensures) at (c .declarations .ensures) ∙ sym (second-place _ _ _ ∙ goes-on _ (r .before .before .count-field .ensures) _ _ (r .r .given .1))
+    rw (c .before .count-at .ensures) at (c .declarations .ensures)
+    ∙ sym (second-place _ _ _ ∙ goes-on _ (r .before .before .count-field .ensures) _ _ (r .r .given .1))
 
 pub second-section-spec : {M : Type 1} → statement M
 second-section-spec =

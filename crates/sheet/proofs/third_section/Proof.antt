@@ -28,7 +28,8 @@ nodes-requires c κs = search needs
 returns-2 : tie.Need-returns-2
 returns-2 c =
     let r = c .before .before .before in
-    rw (c .before .count-at .ensures) at (c .nodes .ensures) ∙ sym (third-place _ _ _ ∙ goes-on _ (r .before .before .count-field .ensures) _ _ (r .r .given .1))
+    rw (c .before .count-at .ensures) at (c .nodes .ensures)
+    ∙ sym (third-place _ _ _ ∙ goes-on _ (r .before .before .count-field .ensures) _ _ (r .r .given .1))
 
 pub third-section-spec : {M : Type 1} → statement M
 third-section-spec =

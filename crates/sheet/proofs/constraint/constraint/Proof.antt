@@ -21,7 +21,9 @@ row-requires : tie.Need-row-requires
 row-requires c κs = search needs
 
 returns-2 : tie.Need-returns-2
-returns-2 c = c .row .ensures ∙ sym (constraint-place _ _ _ ∙ goes-on _ (c .before .before .before .before .choice-field .ensures) _ _ (c .before .before .r .given .1))
+returns-2 c =
+    let r = c .before .before in
+    c .row .ensures ∙ sym (constraint-place _ _ _ ∙ goes-on _ (r .before .before .choice-field .ensures) _ _ (r .r .given .1))
 
 pub constraint-spec : {M : Type 1} → statement M
 constraint-spec =

@@ -76,7 +76,8 @@ returns-2 : tie.Need-returns-2
 returns-2 c =
     let s = c .before .before .before .before .before .before .before .before .before in
     let hs = headsAt (s .args .s .now) (take (s .args .n) (s .args .tab .now)) in
-    let same = c .before .count-at2 .ensures ∙ sym (heads-dimension (s .pre .1) _ (number (c .before .before .before))) ∙ ap (dimension hs) (c .before .before .before .count-at .ensures) in
+    let v = c .before .before .before in
+    let same = c .before .count-at2 .ensures ∙ sym (heads-dimension (s .pre .1) _ (number v)) ∙ ap (dimension hs) (v .count-at .ensures) in
     let r = c .before .before .before .before .before in
     c .constraint .ensures
     ∙ ap (λ (d : ℕ). placeAfter (constraint d (s .args .s .now) (r .r .given .0 .0))) same

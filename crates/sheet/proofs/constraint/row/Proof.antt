@@ -21,7 +21,9 @@ free-field-requires : tie.Need-free-field-requires
 free-field-requires c κs = search needs
 
 returns-2 : tie.Need-returns-2
-returns-2 c = c .free-field .ensures ∙ sym (row-place _ _ _ ∙ goes-on _ (c .before .before .before .before .numbers .ensures) _ _ (c .before .before .r .given .1))
+returns-2 c =
+    let r = c .before .before in
+    c .free-field .ensures ∙ sym (row-place _ _ _ ∙ goes-on _ (r .before .before .numbers .ensures) _ _ (r .r .given .1))
 
 pub row-spec : {M : Type 1} → statement M
 row-spec =

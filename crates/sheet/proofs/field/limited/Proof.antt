@@ -31,14 +31,17 @@ returns-3 : tie.Need-returns-3
 returns-3 c =
     let a = c .before .before .before .before .before .before .args in
     let w = sym (c .before .within .ensures) ∙ c .if3 .taken in
-    sym (passing-to _ _ _ _ (search needs) (sym (ap (within (a .lo .v) (a .hi .v)) (c .before .before .number-at .ensures)) ∙ w))
+    let fine = sym (ap (within (a .lo .v) (a .hi .v)) (c .before .before .number-at .ensures)) ∙ w in
+    sym (passing-to _ _ _ _ (search needs) fine)
 
 returns-4 : tie.Need-returns-4
 returns-4 c =
     let s = c .before .before .before .before .before .before in
     let a = s .args in
     let w = sym (c .before .within .ensures) ∙ c .if3 .left in
-    ap (refused (numberOf (a .off))) (s .pre) ∙ sym (passing-refused (numberOf (a .off)) (within (a .lo .v) (a .hi .v)) (a .s .now) (a .at) (search needs) (sym (ap (within (a .lo .v) (a .hi .v)) (c .before .before .number-at .ensures)) ∙ w))
+    let off = sym (ap (within (a .lo .v) (a .hi .v)) (c .before .before .number-at .ensures)) ∙ w in
+    ap (refused (numberOf (a .off))) (s .pre)
+    ∙ sym (passing-refused (numberOf (a .off)) (within (a .lo .v) (a .hi .v)) (a .s .now) (a .at) (search needs) off)
 
 pub limited-spec : {M : Type 1} → statement M
 limited-spec =

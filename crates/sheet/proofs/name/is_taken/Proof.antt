@@ -30,7 +30,7 @@ element-copy-out-earlier c = let n = c .before .before .before .pre .1 .few in o
 same-bytes-requires : tie.Need-same-bytes-requires Inv-loop μ-loop
 same-bytes-requires c κs =
     let k = c .before .before .before .before .pre in
-    (k .0, let r = k .1 .recorded (c .before .before .loop .left - 1) (search needs) .fields in omega arith)
+    (let a = k .0 in omega arith, let r = k .1 .recorded (c .before .before .loop .left - 1) (search needs) .fields in omega arith)
 
 returns : tie.Need-returns Inv-loop μ-loop
 returns c =

@@ -10,7 +10,8 @@ use Rattle.sheet.proofs.name.same_bytes.Statement.{statement}
 use Rattle.sheet.proofs.name.same_bytes.Tie as tie
 
 abbrev Inv-loop : tie.InvT-loop
-Inv-loop s p q n i₀ j₀ left₀ i j left = (i + left ≤ length s) × (j + left ≤ length s) × (sameBytes (bytesAt s p n) (bytesAt s q n) ≡ sameBytes (bytesAt s i left) (bytesAt s j left))
+Inv-loop s p q n i₀ j₀ left₀ i j left =
+    (i + left ≤ length s) × (j + left ≤ length s) × (sameBytes (bytesAt s p n) (bytesAt s q n) ≡ sameBytes (bytesAt s i left) (bytesAt s j left))
 
 abbrev μ-loop : tie.MeasureT-loop
 μ-loop s p q n i₀ j₀ left₀ i j left = left

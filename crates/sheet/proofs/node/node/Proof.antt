@@ -33,7 +33,8 @@ node-fields-requires c κs =
 returns-2 : tie.Need-returns-2
 returns-2 c =
     let r = c .before .before .before in
-    rw (c .before .count-at .ensures) at (c .node-fields .ensures) ∙ sym (node-place _ _ _ ∙ goes-on _ (r .before .before .choice-field .ensures) _ _ (r .r .given .1))
+    rw (c .before .count-at .ensures) at (c .node-fields .ensures)
+    ∙ sym (node-place _ _ _ ∙ goes-on _ (r .before .before .choice-field .ensures) _ _ (r .r .given .1))
 
 pub node-spec : {M : Type 1} → statement M
 node-spec =

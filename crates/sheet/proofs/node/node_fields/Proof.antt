@@ -3,7 +3,8 @@ use borrow.Author.Needs.{needs}
 use native.Mathlib.Omega.{arith}
 use mathlib.Core.Path.{_≡_, sym, _∙_}
 use Prim.Native.Nat.{ℕ, suc, _≤_, zero-le}
-use Rattle.sheet.proofs.Readers.{variable-fields, integer-fields, boolean-fields, unary-fields, binary-fields, if-fields, case-fields, restriction-fields, dependence-fields}
+use Rattle.sheet.proofs.Readers.{variable-fields, integer-fields, boolean-fields, unary-fields, binary-fields}
+use Rattle.sheet.proofs.Readers.{if-fields, case-fields, restriction-fields, dependence-fields}
 use Rattle.sheet.proofs.node.node_fields.Statement.{statement}
 use Rattle.sheet.proofs.node.node_fields.Tie as tie
 
@@ -14,7 +15,8 @@ abbrev Not : ℕ → ℕ → Type 0
 Not code k = code ≡ k → ⊥
 
 -- a code that is at most 8 and none of 0 to 7
-last : {code : ℕ} → code ≤ 8 → ((((((((Unit {0} × Not code 0) × Not code 1) × Not code 2) × Not code 3) × Not code 4) × Not code 5) × Not code 6) × Not code 7) → code ≡ 8
+last : {code : ℕ} → code ≤ 8 →
+    ((((((((Unit {0} × Not code 0) × Not code 1) × Not code 2) × Not code 3) × Not code 4) × Not code 5) × Not code 6) × Not code 7) → code ≡ 8
 last few ((((((((_, n0), n1), n2), n3), n4), n5), n6), n7) =
     let low = passed-by 3 (passed-by 2 (passed-by 1 (passed-by 0 zero-le n0) n1) n2) n3 in
     let high = passed-by 7 (passed-by 6 (passed-by 5 (passed-by 4 low n4) n5) n6) n7 in

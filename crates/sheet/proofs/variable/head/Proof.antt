@@ -30,7 +30,9 @@ enum-told-2 c = search needs
 returns-2 : tie.Need-returns-2
 returns-2 c =
     let a = c .before .before .before .before in
-    sym (head-place _ _ _ ∙ goes-on _ (a .before .before .name-field .ensures) _ _ (a .a .given .1) ∙ stops _ (c .before .before .choice-field .ensures) _ _ (c .enum-told2 .given .1))
+    sym (head-place _ _ _
+    ∙ goes-on _ (a .before .before .name-field .ensures) _ _ (a .a .given .1)
+    ∙ stops _ (c .before .before .choice-field .ensures) _ _ (c .enum-told2 .given .1))
 
 choice-field-requires-2 : tie.Need-choice-field-requires-2
 choice-field-requires-2 c κs = search needs
@@ -45,7 +47,8 @@ returns-3 : tie.Need-returns-3
 returns-3 c =
     let b = c .before .before .before .before in
     let a = b .before .before .before .before in
-    sym (head-place _ _ _ ∙ goes-on _ (a .before .before .name-field .ensures) _ _ (a .a .given .1)
+    sym (head-place _ _ _
+    ∙ goes-on _ (a .before .before .name-field .ensures) _ _ (a .a .given .1)
     ∙ goes-on _ (b .before .before .choice-field .ensures) _ _ (b .b .given .1)
     ∙ stops _ (c .before .before .choice-field2 .ensures) _ _ (c .enum-told3 .given .1))
 
@@ -63,7 +66,8 @@ returns-4 c =
     let t = c .before .before .before .before in
     let b = t .before .before .before .before in
     let a = b .before .before .before .before in
-    sym (head-place _ _ _ ∙ goes-on _ (a .before .before .name-field .ensures) _ _ (a .a .given .1)
+    sym (head-place _ _ _
+    ∙ goes-on _ (a .before .before .name-field .ensures) _ _ (a .a .given .1)
     ∙ goes-on _ (b .before .before .choice-field .ensures) _ _ (b .b .given .1)
     ∙ goes-on _ (t .before .before .choice-field2 .ensures) _ _ (t .c .given .1)
     ∙ stops _ (c .before .before .count-field .ensures) _ _ (c .enum-told4 .given .1))
@@ -81,7 +85,8 @@ returns-5 c =
     let b = t .before .before .before .before in
     let a = b .before .before .before .before in
     rw (c .before .count-at .ensures) at (c .ranges .ensures)
-    ∙ sym (head-place _ _ _ ∙ goes-on _ (a .before .before .name-field .ensures) _ _ (a .a .given .1)
+    ∙ sym (head-place _ _ _
+    ∙ goes-on _ (a .before .before .name-field .ensures) _ _ (a .a .given .1)
     ∙ goes-on _ (b .before .before .choice-field .ensures) _ _ (b .b .given .1)
     ∙ goes-on _ (t .before .before .choice-field2 .ensures) _ _ (t .c .given .1)
     ∙ goes-on _ (d .before .before .count-field .ensures) _ _ (d .d .given .1))

@@ -5,7 +5,8 @@ use mathlib.Core.Path.{_≡_, sym, ap, _∙_, subst}
 use Prim.Native.Nat.{ℕ, _-_, _+_, _≤_}
 use lib.ListN.{take}
 use Rattle.sheet.specs.Record.{headsAt, dimensionAt, boxAt, Ranges}
-use Rattle.sheet.proofs.Variables.{Reading, HeadRead, capped-small, head-passed, reading-start, reading-stops, reading-over, reading-more, reading-done, filled-fills}
+use Rattle.sheet.proofs.Variables.{Reading, HeadRead, capped-small, head-passed}
+use Rattle.sheet.proofs.Variables.{reading-start, reading-stops, reading-over, reading-more, reading-done, filled-fills}
 use Rattle.sheet.proofs.variable.heads.Statement.{statement}
 use Rattle.sheet.proofs.variable.heads.Tie as tie
 
@@ -59,7 +60,10 @@ add-if1 c =
     record { fits = omega arith }
 
 returns-2 : tie.Need-returns-2 Inv-loop μ-loop
-returns-2 c = reading-over (c .before .before .before .before .before .before .before .before .before .loop .inv) (search needs) (read (c .before .before .before)) (rw (c .before .before .count-at .ensures) at (c .before .box-points .ensures)) (search needs)
+returns-2 c =
+    let l = c .before .before .before .before .before .before .before .before .before .loop in
+    let counts = rw (c .before .before .count-at .ensures) at (c .before .box-points .ensures) in
+    reading-over (l .inv) (search needs) (read (c .before .before .before)) counts (search needs)
 
 mul-tab : tie.Need-mul-tab Inv-loop μ-loop
 mul-tab c = let small = c .before .before .before .before .before .before .before .before .before .loop .inv .all in record { fits = omega arith }
@@ -86,7 +90,10 @@ loop-less : tie.Need-loop-less Inv-loop μ-loop
 loop-less c = search needs
 
 loop-again : tie.Need-loop-again Inv-loop μ-loop
-loop-again c = reading-more (c .before .before .before .before .before .before .before .before .before .loop .inv) (search needs) (read (c .before .before .before)) (rw (c .before .before .count-at .ensures) at (c .before .box-points .ensures)) (search needs)
+loop-again c =
+    let l = c .before .before .before .before .before .before .before .before .before .loop in
+    let counts = rw (c .before .before .count-at .ensures) at (c .before .box-points .ensures) in
+    reading-more (l .inv) (search needs) (read (c .before .before .before)) counts (search needs)
 
 add-tab-2 : tie.Need-add-tab-2 Inv-loop μ-loop
 add-tab-2 c = let small = c .before .loop .inv .all in record { fits = omega arith }

@@ -1,7 +1,9 @@
 -- `range` meets its contract: lo, then hi from lo on. Assumes nothing.
 use borrow.Author.Needs.{needs}
-use mathlib.Core.Path.{sym, _∙_}
-use lib.IntN.{pos, negℤ}
+use mathlib.Core.Path.{sym, ap, _∙_}
+use lib.IntN.{ℤ, pos, negℤ}
+use Rattle.alpha.specs.Read.{number}
+use Rattle.sheet.specs.Place.{placeAfter}
 use Rattle.sheet.proofs.Readers.{range-place, goes-on, stops}
 use Rattle.sheet.proofs.Places.{number-came}
 use Rattle.sheet.proofs.variable.range.Statement.{statement}
@@ -30,7 +32,8 @@ returns c =
 number-at-requires : tie.Need-number-at-requires
 number-at-requires c κs =
     let ends = c .before .before .before .before in
-    number-came _ _ _ _ (c .before .r .given .1) (negℤ (pos 32768)) (pos 32767) (rw (ends .before .of .ensures, ends .of2 .ensures) at (c .before .before .before .number-field .ensures)) .there
+    let first = rw (ends .before .of .ensures, ends .of2 .ensures) at (c .before .before .before .number-field .ensures) in
+    number-came _ _ _ _ (c .before .r .given .1) (negℤ (pos 32768)) (pos 32767) first .there
 
 number-field-requires-2 : tie.Need-number-field-requires-2
 number-field-requires-2 c κs = search needs
@@ -39,8 +42,11 @@ returns-2 : tie.Need-returns-2
 returns-2 c =
     let ends = c .before .before .before .before .before .before in
     let first = rw (ends .before .of .ensures, ends .of2 .ensures) at (c .before .before .before .before .before .number-field .ensures) in
-    rw (c .before .number-at .ensures, ends .of2 .ensures) at (c .number-field2 .ensures)
-    ∙ sym (range-place _ _ ∙ goes-on _ first _ _ (c .before .before .before .r .given .1))
+    let r = c .before .before .before in
+    let s = r .before .before .before .before .before .before .args .s .now in
+    rw (ends .of2 .ensures) at (c .number-field2 .ensures)
+    ∙ ap (λ (x : ℤ). placeAfter (number x (pos 32767) s (r .r .given .0 .0))) (c .before .number-at .ensures)
+    ∙ sym (range-place _ _ ∙ goes-on _ first _ _ (r .r .given .1))
 
 pub range-spec : {M : Type 1} → statement M
 range-spec =

@@ -1,0 +1,2 @@
+-- The three demands of the minutes, each as one statement.
+pub mod Demands

@@ -1,0 +1,1 @@
+// The three demands as statements, and their proofs; there is no code here.

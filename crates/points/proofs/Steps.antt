@@ -1,0 +1,158 @@
+-- The number of a point, coordinate by coordinate. Assumes nothing.
+use mathlib.Core.Path.{_≡_, refl, sym, ap, _∙_}
+use Prim.Native.Nat.{ℕ, zero, suc, _+_, _*_, _-_, _≤_, _<_}
+use native.Mathlib.Nat.{add-mul, mul-assoc, add-assoc, mul-one, add-zero, suc-mul, mul-le-mul-left, mul-le-mul-right}
+use native.Mathlib.Numerals.{sub-one}
+use native.Mathlib.Omega.{arith}
+use mathlib.Core.Bool.{Bool, true, false, _&&_}
+use mathlib.Core.List.{List, [], _∷_}
+use lib.IntN.{ℤ, natAbs, _-ℤ_}
+use Rattle.alpha.specs.Pick.{ifb}
+use Rattle.alpha.specs.Sheet.{Range, Point}
+use Rattle.alpha.specs.Box.{within, side, size, inBox, index}
+use Rattle.alpha.specs.declared.Int.{Int}
+use Rattle.affine.specs.Value.{several, at, pointOf}
+use Rattle.affine.proofs.Several.{several-same}
+use Rattle.alpha.specs.Field.{field}
+use Rattle.sheet.specs.Record.{boxAt, Ranges}
+use Rattle.laws.proofs.Order.{within-among}
+use Rattle.laws.proofs.Boxes.{size-pos}
+use Rattle.points.specs.Number.{rangeAt, digitIn, numberFrom, numberIn, pointFrom}
+use Rattle.points.specs.declared.Found.{Found}
+use Rattle.points.specs.declared.Found.the-variants.{At, Off}
+
+-- e rows of w boxes of n points, d boxes more and i points more, counted in boxes first
+horner : (e w d n i : ℕ) → e * (w * n) + (d * n + i) ≡ (e * w + d) * n + i
+horner e w d n i = rw (← mul-assoc e w n, ← add-assoc (e * w * n) (d * n) i, ← add-mul (e * w) d n) refl
+
+module _ (e : ℕ) (r : Range) (rs : List Range) (x : ℤ) (z : Point) where
+  pub numberFrom-in : within (r .lo) (r .hi) x ≡ true → numberFrom e (r ∷ rs) (x ∷ z) ≡ numberFrom (e * side r + natAbs (x -ℤ r .lo)) rs z
+  numberFrom-in h = rw h (go (inBox rs z))
+    where
+      go : (b : Bool) → ifb b (λ _. At (e * (side r * size rs) + (natAbs (x -ℤ r .lo) * size rs + index rs z))) (λ _. Off)
+          ≡ ifb b (λ _. At ((e * side r + natAbs (x -ℤ r .lo)) * size rs + index rs z)) (λ _. Off)
+      go true = ap At (horner e (side r) (natAbs (x -ℤ r .lo)) (size rs) (index rs z))
+      go false = refl
+
+  pub numberFrom-off : within (r .lo) (r .hi) x ≡ false → numberFrom e (r ∷ rs) (x ∷ z) ≡ Off
+  numberFrom-off h = rw h refl
+
+pub numberFrom-none : (box : List Range) (z : Point) → numberFrom 0 box z ≡ numberIn box z
+numberFrom-none box z = go (inBox box z)
+  where
+    go : (b : Bool) → ifb b (λ _. At (0 * size box + index box z)) (λ _. Off) ≡ ifb b (λ _. At (index box z)) (λ _. Off)
+    go true = ap At (omega arith)
+    go false = refl
+
+pub numberFrom-end : (e : ℕ) → numberFrom e [] [] ≡ At e
+numberFrom-end e = ap At (omega arith)
+
+pub pointFrom-cons : (k n : ℕ) (z : List Int) → pointFrom k (suc n) z ≡ at z k ∷ pointFrom (k + 1) n z
+pointFrom-cons k n z =
+    rw (add-zero k, several-same n (λ i. at z (k + suc i)) (λ i. at z (k + 1 + i)) (λ i h. ap (at z) (omega arith))) refl
+
+pub pointFrom-zero : (n : ℕ) (z : List Int) → pointFrom 0 n z ≡ pointOf n z
+pointFrom-zero n z = several-same n (λ i. at z (0 + i)) (at z) (λ i h. ap (at z) (omega arith))
+
+-- ---- ranges one after another
+
+pub ranges-head : (bs : List ℕ) (p n : ℕ) → Ranges bs p (suc n) → Ranges bs p 1
+ranges-head bs p n h =
+    record {
+      there = omega (arith, h .there);
+      low = λ i l. h .low i (omega arith);
+      high = λ i l. h .high i (omega arith);
+    }
+
+pub ranges-tail : (bs : List ℕ) (p n : ℕ) → Ranges bs p (suc n) → Ranges bs (p + 16) n
+ranges-tail bs p n h =
+    record {
+      there = omega (arith, h .there);
+      low = λ i l. rw (next i) at (h .low (suc i) (omega arith));
+      high = λ i l. rw (next i) at (h .high (suc i) (omega arith));
+    }
+  where
+    next : (i : ℕ) → p + 16 * suc i ≡ p + 16 + 16 * i
+    next i = omega arith
+
+-- ---- a turn of the loop: one coordinate more
+
+module _ (bs : List ℕ) (p k e : ℕ) (z : List Int) where
+  step-in : (n i : ℕ) → digitIn (rangeAt bs p) (at z k) ≡ At i →
+      numberFrom e (boxAt bs p (suc n)) (pointFrom k (suc n) z) ≡ numberFrom (e * side (rangeAt bs p) + i) (boxAt bs (p + 16) n) (pointFrom (k + 1) n z)
+  unfolding boxAt
+  step-in n i h =
+      let r = rangeAt bs p in
+      ap (numberFrom e (r ∷ boxAt bs (p + 16) n)) (pointFrom-cons k n z)
+      ∙ go (within (r .lo) (r .hi) (at z k)) refl h
+    where
+      go : (b : Bool) → within (rangeAt bs p .lo) (rangeAt bs p .hi) (at z k) ≡ b →
+          ifb b (λ _. At (natAbs (at z k -ℤ rangeAt bs p .lo))) (λ _. Off) ≡ At i →
+          numberFrom e (rangeAt bs p ∷ boxAt bs (p + 16) n) (at z k ∷ pointFrom (k + 1) n z)
+          ≡ numberFrom (e * side (rangeAt bs p) + i) (boxAt bs (p + 16) n) (pointFrom (k + 1) n z)
+      go true w q =
+          let d : natAbs (at z k -ℤ rangeAt bs p .lo) ≡ i = cc in
+          rw (numberFrom-in e (rangeAt bs p) (boxAt bs (p + 16) n) (at z k) (pointFrom (k + 1) n z) w, d) refl
+      go false w q = absurd (let o : _≡_ {A = ℕ} 0 1 = cc in omega arith)
+
+  step-off : (n : ℕ) → digitIn (rangeAt bs p) (at z k) ≡ Off → numberFrom e (boxAt bs p (suc n)) (pointFrom k (suc n) z) ≡ Off
+  unfolding boxAt
+  step-off n h =
+      ap (numberFrom e (rangeAt bs p ∷ boxAt bs (p + 16) n)) (pointFrom-cons k n z)
+      ∙ go (within (rangeAt bs p .lo) (rangeAt bs p .hi) (at z k)) refl h
+    where
+      go : (b : Bool) → within (rangeAt bs p .lo) (rangeAt bs p .hi) (at z k) ≡ b →
+          ifb b (λ _. At (natAbs (at z k -ℤ rangeAt bs p .lo))) (λ _. Off) ≡ Off →
+          numberFrom e (rangeAt bs p ∷ boxAt bs (p + 16) n) (at z k ∷ pointFrom (k + 1) n z) ≡ Off
+      go true w q = absurd (let o : _≡_ {A = ℕ} 0 1 = cc in omega arith)
+      go false w q = numberFrom-off e (rangeAt bs p) (boxAt bs (p + 16) n) (at z k) (pointFrom (k + 1) n z) w
+
+-- a digit is below the width
+pub digit-low : (r : Range) (x : ℤ) (i : ℕ) → digitIn r x ≡ At i → i < side r
+digit-low r x i h = go (within (r .lo) (r .hi) x) refl h
+  where
+    go : (b : Bool) → within (r .lo) (r .hi) x ≡ b → ifb b (λ _. At (natAbs (x -ℤ r .lo))) (λ _. Off) ≡ At i → i < side r
+    go true w q = let d : natAbs (x -ℤ r .lo) ≡ i = cc in omega (arith, d, within-among r x w .small)
+    go false w q = absurd (let o : _≡_ {A = ℕ} 0 1 = cc in omega arith)
+
+-- what the loop keeps: the number from here is the number asked for, it stays below 4,096, and the ranges are there
+pub record Kept (bs : List ℕ) (asked : Found) (z : List Int) (p k e n : ℕ) : Type 0 where
+  pub number : numberFrom e (boxAt bs p n) (pointFrom k n z) ≡ asked
+  pub low : (e + 1) * size (boxAt bs p n) ≤ 4096
+  pub ranges : Ranges bs p n
+  pub few : k + n ≤ 4
+
+module _ {bs : List ℕ} {asked : Found} {z : List Int} {p k e : ℕ} where
+  pub kept-low : (n : ℕ) → Kept bs asked z p k e n → e < 4096
+  kept-low n h = omega (arith, mul-le-mul-left (e + 1) (size-pos (boxAt bs p n)), mul-one (e + 1), h .low)
+
+  pub kept-end : (n : ℕ) → n ≡ 0 → Kept bs asked z p k e n → At e ≡ asked
+  unfolding boxAt
+  kept-end n zeroed h = sym (numberFrom-end e) ∙ rw zeroed at (h .number)
+
+  pub kept-off : (n : ℕ) → 0 < n → Kept bs asked z p k e n → digitIn (rangeAt bs p) (at z k) ≡ Off → Off ≡ asked
+  kept-off zero l h d = absurd (omega arith)
+  kept-off (suc n) l h d = sym (step-off bs p k e z n d) ∙ h .number
+
+  pub kept-head : (n : ℕ) → 0 < n → Kept bs asked z p k e n → Ranges bs p 1
+  kept-head zero l h = absurd (omega arith)
+  kept-head (suc n) l h = ranges-head bs p n (h .ranges)
+
+  more : (n i : ℕ) → Kept bs asked z p k e (suc n) → digitIn (rangeAt bs p) (at z k) ≡ At i →
+      Kept bs asked z (p + 16) (k + 1) (e * side (rangeAt bs p) + i) n
+  unfolding boxAt
+  more n i h d =
+      let w = side (rangeAt bs p) in
+      let rest = size (boxAt bs (p + 16) n) in
+      let i-low : e * w + i + 1 ≤ (e + 1) * w = omega (arith, add-mul e 1 w, digit-low (rangeAt bs p) (at z k) i d) in
+      record {
+        number = sym (step-in bs p k e z n i d) ∙ h .number;
+        low = omega (arith, mul-le-mul-right rest i-low, mul-assoc (e + 1) w rest, h .low);
+        ranges = ranges-tail bs p n (h .ranges);
+        few = omega (arith, h .few);
+      }
+
+  pub kept-more : (n i : ℕ) → 0 < n → Kept bs asked z p k e n → digitIn (rangeAt bs p) (at z k) ≡ At i →
+      Kept bs asked z (p + 16) (k + 1) (e * side (rangeAt bs p) + i) (n - 1)
+  kept-more zero i l h d = absurd (omega arith)
+  kept-more (suc n) i l h d = rw (sub-one (suc n)) (more n i h d)

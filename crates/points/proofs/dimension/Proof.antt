@@ -1,0 +1,28 @@
+use borrow.Author.Needs.{needs}
+use mathlib.Core.Path.{ap, _∙_}
+use lib.IntN.{natAbs}
+use Rattle.points.proofs.dimension.Statement.{statement}
+use Rattle.points.proofs.dimension.Tie as tie
+use Rattle.points.proofs.dimension.Reads as reads
+use Rattle.points.proofs.dimension.Lts as lts
+use Rattle.integer.proofs.number_at.Reads as number-at-reads
+use Rattle.integer.proofs.to_usize.Reads as to-usize-reads
+
+-- src/lib.rt:25:45
+add-number-at : tie.Need-add-number-at
+add-number-at c = search needs
+
+-- src/lib.rt:25:23
+number-at-requires : tie.Need-number-at-requires
+number-at-requires c κs = search needs
+
+-- src/lib.rt:25:5
+to-usize-requires : tie.Need-to-usize-requires
+to-usize-requires c κs = search needs
+
+-- src/lib.rt:21:1
+returns : tie.Need-returns
+returns c = c .to-usize .ensures ∙ ap natAbs (c .before .number-at .ensures)
+
+pub dimension-spec : {M : Type 1} → statement M
+dimension-spec = tie.close (tie.spec add-number-at number-at-requires to-usize-requires returns)

@@ -1,0 +1,142 @@
+-- `points::point` meets its contract: the coordinates made so far and the point of what is left are the point asked for.
+-- Assumes nothing.
+use mathlib.Core.Path.{_≡_, refl, sym, ap, _∙_}
+use Prim.Native.Nat.{ℕ, _+_, _*_, _/_, _≤_, _<_}
+use native.Mathlib.Omega.{arith}
+use native.Mathlib.Nat.{div-le-self}
+use borrow.Author.Needs.{needs}
+use Rattle.alpha.specs.Box.{pointAt}
+use Rattle.sheet.specs.Record.{dimensionAt}
+use Rattle.points.specs.Number.{boxOf}
+use Rattle.points.proofs.Coordinates.{Making, making-head, making-end, making-more, rest-some, zeros-padded}
+use Rattle.points.proofs.point.Statement.{statement}
+use Rattle.points.proofs.point.Tie as tie
+use Rattle.points.proofs.point.Reads as reads
+use Rattle.points.proofs.point.Lts as lts
+use Rattle.integer.proofs.of.Reads as of-reads
+use Rattle.points.proofs.dimension.Reads as dimension-reads
+use Rattle.points.proofs.nth.Reads as nth-reads
+use Rattle.points.proofs.width.Reads as width-reads
+
+abbrev Inv-loop : tie.InvT-loop
+Inv-loop s place points i z₀ left₀ p₀ k₀ rest₀ j₀ z left p k rest j =
+    Making s (pointAt (boxOf s place) i) (dimensionAt s place) z left p k rest j
+
+abbrev μ-loop : tie.MeasureT-loop
+μ-loop s place points i z₀ left₀ p₀ k₀ rest₀ j₀ z left p k rest j = left
+
+-- src/lib.rt:95:18
+of-requires : tie.Need-of-requires Inv-loop μ-loop
+of-requires c κs = search needs
+
+-- src/lib.rt:96:9
+dimension-requires : tie.Need-dimension-requires Inv-loop μ-loop
+dimension-requires c κs = search needs
+
+-- src/lib.rt:97:17
+add-p : tie.Need-add-p Inv-loop μ-loop
+add-p c = search needs
+
+-- src/lib.rt:101:5
+loop-holds : tie.Need-loop-holds Inv-loop μ-loop
+loop-holds c =
+    let start = c .before .before .before in
+    let n = c .dimension .ensures in
+    record {
+      made = rw n refl;
+      points = rw n (start .pre .1);
+      few = start .pre .2;
+      low = start .pre .3;
+      ranges = rw n (start .pre .0 .ranges);
+      sized = refl;
+      padded = zeros-padded (c .before .of .result) (c .before .of .ensures);
+      whole = omega (arith, n);
+      four = start .pre .0 .small;
+    }
+
+-- src/lib.rt:102:23
+width-requires : tie.Need-width-requires Inv-loop μ-loop
+width-requires c κs = making-head _ (c .loop-test .taken) (c .before .loop .inv)
+
+-- src/lib.rt:102:16
+div-rest : tie.Need-div-rest Inv-loop μ-loop
+div-rest c = omega (arith, c .width .ensures .0)
+
+-- src/lib.rt:103:26
+div-nth : tie.Need-div-nth Inv-loop μ-loop
+div-nth c = rw (c .width .ensures .0) (rest-some _ (c .before .loop-test .taken) (c .before .before .loop .inv))
+
+-- src/lib.rt:103:16
+nth-requires : tie.Need-nth-requires Inv-loop μ-loop
+nth-requires c κs =
+    let loop = c .before .before .loop in
+    (making-head _ (c .before .loop-test .taken) (loop .inv), omega (arith, div-le-self (loop .j) (loop .rest / c .width .result), loop .inv .low, loop .inv .few))
+
+-- src/lib.rt:103:9
+mul-z : tie.Need-mul-z Inv-loop μ-loop
+mul-z c = search needs
+
+-- src/lib.rt:103:9
+array-set-from-z : tie.Need-array-set-from-z Inv-loop μ-loop
+array-set-from-z c =
+    let inv = c .before .before .before .loop .inv in
+    omega (arith, inv .whole, inv .four, c .before .before .loop-test .taken)
+
+-- src/lib.rt:104:13
+rem-j : tie.Need-rem-j Inv-loop μ-loop
+rem-j c = rw (c .before .width .ensures .0) (rest-some _ (c .before .before .loop-test .taken) (c .before .before .before .loop .inv))
+
+-- src/lib.rt:105:9
+add-p-2 : tie.Need-add-p-2 Inv-loop μ-loop
+add-p-2 c = omega (arith, making-head _ (c .before .before .loop-test .taken) (c .before .before .before .loop .inv) .there)
+
+-- src/lib.rt:106:9
+add-k : tie.Need-add-k Inv-loop μ-loop
+add-k c =
+    let inv = c .before .before .before .loop .inv in
+    omega (arith, inv .whole, inv .four)
+
+-- src/lib.rt:107:9
+sub-left : tie.Need-sub-left Inv-loop μ-loop
+sub-left c = search needs
+
+-- src/lib.rt:101:5
+loop-less : tie.Need-loop-less Inv-loop μ-loop
+loop-less c = search needs
+
+-- src/lib.rt:101:5
+loop-again : tie.Need-loop-again Inv-loop μ-loop
+loop-again c =
+    let taken = c .before .before .loop-test .taken in
+    let width = c .before .width .ensures .0 in
+    rw width (making-more _ taken (c .before .before .before .loop .inv) (c .nth .result) (rw width at (c .nth .ensures)))
+
+-- src/lib.rt:91:1
+returns : tie.Need-returns Inv-loop μ-loop
+returns c =
+    let done = making-end _ (omega (arith, c .loop-test .left)) (c .before .loop .inv) in
+    record { is = done .0; rest = done .1 }
+
+pub point-spec : {M : Type 1} → statement M
+point-spec =
+    tie.close
+    (tie.spec
+    Inv-loop
+    μ-loop
+    of-requires
+    dimension-requires
+    add-p
+    loop-holds
+    width-requires
+    div-rest
+    div-nth
+    nth-requires
+    mul-z
+    array-set-from-z
+    rem-j
+    add-p-2
+    add-k
+    sub-left
+    loop-less
+    loop-again
+    returns)

@@ -1,0 +1,42 @@
+-- The number of a point in a box, or that it is not in the box; and what the code's answer says of that. Assumes nothing.
+use Prim.Native.Nat.{ℕ, _+_, _*_}
+use mathlib.Core.Path.{_≡_}
+use mathlib.Core.List.{List}
+use lib.IntN.{ℤ, natAbs, _-ℤ_}
+use Rattle.alpha.specs.Pick.{ifb}
+use Rattle.alpha.specs.Field.{field}
+use Rattle.alpha.specs.Sheet.{Range, Point}
+use Rattle.alpha.specs.Box.{within, size, inBox, index, pointAt}
+use Rattle.alpha.specs.declared.Int.{Int}
+use Rattle.affine.specs.Value.{several, at, pointOf, Padded}
+use Rattle.sheet.specs.Record.{boxAt, dimensionAt}
+use Rattle.points.specs.declared.Found.{Found}
+use Rattle.points.specs.declared.Found.the-variants.{At, Off}
+
+-- the range at p
+abbrev pub rangeAt : List ℕ → ℕ → Range
+rangeAt bs p = record { lo = field bs p; hi = field bs (p + 8) }
+
+-- the box of the record at p
+abbrev pub boxOf : List ℕ → ℕ → List Range
+boxOf bs p = boxAt bs (p + 32) (dimensionAt bs p)
+
+-- where x stands in a range
+abbrev pub digitIn : Range → ℤ → Found
+digitIn r x = ifb (within (r .lo) (r .hi) x) (λ _. At (natAbs (x -ℤ r .lo))) (λ _. Off)
+
+-- the number of z in the box, after e boxes like it
+abbrev pub numberFrom : ℕ → List Range → Point → Found
+numberFrom e box z = ifb (inBox box z) (λ _. At (e * size box + index box z)) (λ _. Off)
+
+abbrev pub numberIn : List Range → Point → Found
+numberIn box z = ifb (inBox box z) (λ _. At (index box z)) (λ _. Off)
+
+-- n coordinates from the k-th on
+abbrev pub pointFrom : ℕ → ℕ → List Int → Point
+pointFrom k n z = several n (λ i. at z (k + i))
+
+-- z is the point with the number i in the box of the record at p, with zeros beyond
+pub record PointAt (bs : List ℕ) (p i : ℕ) (z : List Int) : Type 0 where
+  pub is : pointOf (dimensionAt bs p) z ≡ pointAt (boxOf bs p) i
+  pub rest : Padded (dimensionAt bs p) z

@@ -1,0 +1,110 @@
+// Points of the variables' boxes: the number of a point, and the point of a number, the last coordinate fastest. A box is read where its
+// record stands. Assumes nothing.
+use alpha::Int;
+ghost use mathlib.Core.Path.{_≡_};
+ghost use Prim.Native.Nat.{ℕ, _+_, _*_, _≤_, _<_};
+ghost use lib.ListN.{length};
+ghost use lib.IntN.{ℤ, pos, natAbs, _+ℤ_, _-ℤ_};
+ghost use Rattle.alpha.specs.Box.{side, size};
+ghost use Rattle.alpha.specs.Field.{field};
+ghost use Rattle.affine.specs.Value.{pointOf};
+ghost use Rattle.sheet.specs.Record.{dimensionAt, Recorded, Ranges};
+ghost use Rattle.points.specs.Number.{rangeAt, boxOf, digitIn, numberIn, PointAt};
+
+// The number of a point in a box, or that it is not in the box.
+pub enum Found {
+    At(usize),
+    Off,
+}
+
+// How many dimensions the record at `place` has.
+pub fn dimension(s: &[u8], place: usize) -> usize
+    requires { ⌜ Recorded (now s) place ⌝ }
+    ensures { λ n. ⌜ n ≡ dimensionAt (now (s .entry)) place ⌝ }
+{
+    integer::to_usize(integer::number_at(s, place + 24))
+}
+
+// How far x lies from lo, where both are small.
+fn above(x: Int, lo: Int) -> usize
+    requires { ⌜ (natAbs (x .v) ≤ 32768) × (natAbs (lo .v) ≤ 32768) ⌝ }
+    ensures { λ n. ⌜ (n ≡ natAbs (x .v -ℤ lo .v)) × (n ≤ 65536) ⌝ }
+{
+    integer::to_usize(integer::sub(x, lo))
+}
+
+// How many numbers the range at p has.
+fn width(s: &[u8], p: usize) -> usize
+    requires { ⌜ Ranges (now s) p 1 ⌝ }
+    ensures { λ n. ⌜ (n ≡ side (rangeAt (now (s .entry)) p)) × (n ≤ 65537) ⌝ }
+{
+    let lo = integer::number_at(s, p);
+    let hi = integer::number_at(s, p + 8);
+    above(hi, lo) + 1
+}
+
+// Where x stands in the range at p.
+fn digit(s: &[u8], p: usize, x: Int) -> Found
+    requires { ⌜ Ranges (now s) p 1 ⌝ }
+    ensures { λ r. ⌜ r ≡ digitIn (rangeAt (now (s .entry)) p) (x .v) ⌝ }
+{
+    let lo = integer::number_at(s, p);
+    let hi = integer::number_at(s, p + 8);
+    if integer::within(x, lo, hi) {
+        Found::At(above(x, lo))
+    } else {
+        Found::Off
+    }
+}
+
+// The number of z in the box of the record at `place`.
+pub fn index(s: &[u8], place: usize, z: [Int; 4]) -> Found
+    requires { ⌜ Recorded (now s) place × (size (boxOf (now s) place) ≤ 4096) ⌝ }
+    ensures { λ r. ⌜ r ≡ numberIn (boxOf (now (s .entry)) place) (pointOf (dimensionAt (now (s .entry)) place) z) ⌝ }
+{
+    let mut left = dimension(s, place);
+    let mut p = place + 32;
+    let mut k: usize = 0;
+    let mut e: usize = 0;
+    while left > 0 {
+        let d = digit(s, p, z[k]);
+        let Found::At(i) = d else {
+            return Found::Off;
+        };
+        e = e * width(s, p) + i;
+        p += 16;
+        k += 1;
+        left -= 1;
+    }
+    Found::At(e)
+}
+
+// The number that lies n above the least of the range at p.
+fn nth(s: &[u8], p: usize, n: usize) -> Int
+    requires { ⌜ Ranges (now s) p 1 × (n ≤ 4096) ⌝ }
+    ensures { λ x. ⌜ x .v ≡ field (now (s .entry)) p +ℤ pos n ⌝ }
+{
+    integer::add(integer::number_at(s, p), integer::of_usize(n))
+}
+
+// The point with the number i in the box of the record at `place`, which has `points` points.
+pub fn point(s: &[u8], place: usize, points: usize, i: usize) -> [Int; 4]
+    requires { ⌜ Recorded (now s) place × (points ≡ size (boxOf (now s) place)) × (points ≤ 4096) × (i < points) ⌝ }
+    ensures { λ z. ⌜ PointAt (now (s .entry)) place i z ⌝ }
+{
+    let mut z = [integer::of(0); 4];
+    let mut left = dimension(s, place);
+    let mut p = place + 32;
+    let mut k: usize = 0;
+    let mut rest = points;
+    let mut j = i;
+    while left > 0 {
+        rest = rest / width(s, p);
+        z[k] = nth(s, p, j / rest);
+        j = j % rest;
+        p += 16;
+        k += 1;
+        left -= 1;
+    }
+    z
+}
