@@ -1,12 +1,12 @@
 -- How far values reach, over the definitions of crate alpha: a row's value at a point within reach r is within the row's reach, a
 -- composition reaches no further than its parts, and what reaches no further than 2^40 fits in an i64. Assumes nothing.
 use Prim.Native.Nat.{ℕ, zero, suc, _+_, _*_, _^_, _≤_, _<_, max}
-use mathlib.Core.Path.{_≡_, refl, sym, ap, _∙_, subst}
+use mathlib.Core.Path.{_≡_, refl, ap, subst}
 use mathlib.Core.Logic.{⊎-elim}
 use mathlib.Core.List.{List, [], _∷_, map}
 use native.Mathlib.Omega.{arith}
-use native.Mathlib.Nat.{le-trans, le-refl, mul-le-mul, mul-le-mul-left, mul-le-mul-right, mul-one, mul-add, add-mul, mul-assoc, add-le-add}
-use lib.IntN.{ℤ, pos, natAbs, _+ℤ_, _*ℤ_}
+use native.Mathlib.Nat.{le-trans, mul-le-mul-left, mul-le-mul-right, mul-one, mul-add, add-mul, mul-assoc}
+use lib.IntN.{ℤ, natAbs, _*ℤ_}
 use Rattle.integer.proofs.Sizes.{natAbs-add, natAbs-mul}
 use Rattle.alpha.specs.declared.Int.{Int}
 use Rattle.alpha.specs.Sheet as Sheet
@@ -15,7 +15,7 @@ use Rattle.alpha.specs.Reach.{limit, sizes, rowReach, mapReach}
 use Rattle.affine.specs.declared.Row.{Row}
 use Rattle.affine.specs.declared.Map.{Map}
 use Rattle.affine.specs.Value.{several, at, line, pointOf, rowOf, mapOf, Padded, NeatRow, Neat}
-use Rattle.affine.specs.Size.{dotSize, rowSize, Near, Fit, column, constants, FitAfter}
+use Rattle.affine.specs.Size.{dotSize, rowSize, Near, Fit, FitAfter}
 use Rattle.affine.proofs.Several.{lt-or-le, dotSize-several, sizes-nothing, rowSize-neat, rowSize-zero}
 use Rattle.affine.proofs.Meaning.{neat-line}
 
@@ -212,3 +212,24 @@ module _ (reach : ℕ) (f : Map) (h : Neat f) (one : 1 ≤ reach) where
       outside l =
           let z = ng .beyond i l in
           rw (sizes-nothing (f .height) (at (line g i .coef)) (z .coefs), z .const) (omega arith)
+
+-- ---- rows of zeros reach nowhere
+
+mapReach-nothing : (r k : ℕ) (f : ℕ → Sheet.Row) → ((j : ℕ) → rowReach r (f j) ≡ 0) → mapReach r (several k f) ≡ 1
+mapReach-nothing r zero f e = refl
+mapReach-nothing r (suc k) f e = omega (arith, e 0, mapReach-nothing r k (λ i. f (suc i)) (λ j. e (suc j)))
+
+mapReach-several :
+    (r k n : ℕ) (f : ℕ → Sheet.Row) → n ≤ k → ((j : ℕ) → n ≤ j → rowReach r (f j) ≡ 0) →
+    mapReach r (several k f) ≡ mapReach r (several n f)
+mapReach-several r k zero f h e = mapReach-nothing r k f (λ j. e j (omega arith))
+mapReach-several r zero (suc n) f h e = absurd (omega arith)
+mapReach-several r (suc k) (suc n) f h e =
+    ap (λ t. max (rowReach r (f 0)) t) (mapReach-several r k n (λ i. f (suc i)) (omega arith) (λ j l. e (suc j) (omega arith)))
+
+-- a map reaches as far as its four rows
+pub mapReach-neat :
+    (r : ℕ) (m : Map) → Neat m → mapReach r (several 4 (λ i. rowOf (m .width) (line m i))) ≡ mapReach r (mapOf m .rows)
+mapReach-neat r m h =
+    mapReach-several r 4 (m .height) (λ i. rowOf (m .width) (line m i)) (h .rows-few) (λ j l.
+    let z = h .beyond j l in rw (sizes-nothing (m .width) (at (line m j .coef)) (z .coefs), z .const) (omega arith))

@@ -6,7 +6,7 @@ use lib.ListN.{length}
 use lib.IntN.{ℤ, pos, _+ℤ_, _*ℤ_, +ℤ-idl, +ℤ-idr, +ℤ-assoc, zero-*ℤ, *ℤ-zero}
 use Rattle.integer.proofs.Ring.{*ℤ-distr, *ℤ-distl, *ℤ-assoc, +ℤ-middle, one-*ℤ}
 use Rattle.alpha.specs.Sheet.{Row, Constraint, Map, Point}
-use Rattle.alpha.specs.Affine.{dot, rowAt, stands, meets, meetsAll, image, scale, addAll, zeroes, combine, rowAfter, constraintAfter, mapAfter, wider, idRows, identity}
+use Rattle.alpha.specs.Affine.{dot, rowAt, stands, meets, meetsAll, image, scale, addAll, zeroes, combine, rowAfter, constraintAfter, wider, idRows, identity}
 
 -- ---- at a point, coefficients scaled and added
 

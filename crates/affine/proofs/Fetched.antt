@@ -1,6 +1,6 @@
 -- What is read number by number is the row and the map of the fields. Assumes nothing.
-use Prim.Native.Nat.{ℕ, suc, _+_, _*_, _≤_, _<_}
-use mathlib.Core.Path.{_≡_, refl, sym, ap, _∙_}
+use Prim.Native.Nat.{ℕ, _+_, _*_, _≤_, _<_}
+use mathlib.Core.Path.{_≡_, sym, ap, _∙_}
 use mathlib.Core.Logic.{⊎-elim}
 use mathlib.Core.List.{List, [], _∷_}
 use native.Mathlib.Omega.{arith}
@@ -11,7 +11,7 @@ use Rattle.alpha.specs.Field.{field}
 use Rattle.alpha.specs.Sheet as Sheet
 use Rattle.affine.specs.declared.Row.{Row}
 use Rattle.affine.specs.declared.Map.{Map}
-use Rattle.affine.specs.Value.{several, at, line, rowOf, mapOf, NeatRow, Neat}
+use Rattle.affine.specs.Value.{at, line, rowOf, mapOf, NeatRow, Neat}
 use Rattle.affine.specs.Reading.{rowFields, rowsFields, mapFields, RowAmong, MapRead}
 use Rattle.affine.proofs.Several.{lt-or-le, several-same, below-four, past-four}
 use Rattle.affine.proofs.Meaning.{padded-more, row-same, map-same, past-line}

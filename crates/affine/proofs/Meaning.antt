@@ -1,13 +1,13 @@
 -- What the code computes, row by row and number by number, is what the definitions of crate alpha say of the maps that its values stand
 -- for: an image, a row after a map, a map after a map. Assumes nothing.
-use Prim.Native.Nat.{ℕ, zero, suc, _+_, _*_, _≤_, _<_}
+use Prim.Native.Nat.{ℕ, zero, suc, _≤_, _<_}
 use mathlib.Core.Path.{_≡_, refl, sym, ap, _∙_}
-use mathlib.Core.List.{List, [], _∷_, map}
+use mathlib.Core.List.{List, [], _∷_}
 use native.Mathlib.Omega.{arith}
 use native.Mathlib.Nat.{le-trans}
 use mathlib.Core.Logic.{⊎-elim}
 use borrow.Author.Tests.{le-ltb}
-use lib.ListN.{getD}
+use lib.ListN.{length}
 use lib.IntN.{ℤ, pos, _+ℤ_, _*ℤ_}
 use Rattle.alpha.specs.declared.Int.{Int}
 use Rattle.alpha.specs.Sheet as Sheet
@@ -16,7 +16,7 @@ use Rattle.affine.specs.declared.Row.{Row}
 use Rattle.affine.specs.declared.Map.{Map}
 use Rattle.affine.specs.Value.{several, at, line, pointOf, rowOf, mapOf, Padded, NeatRow, ZeroRow, Neat, After, markOf}
 use Rattle.affine.specs.Size.{column, constants}
-use Rattle.affine.proofs.Several.{lt-or-le, several-same, map-several, below-four, past-four, dot-nothing, dot-several, dot-origin, rowAt-zero}
+use Rattle.affine.proofs.Several.{lt-or-le, length-several, several-same, map-several, below-four, past-four, dot-nothing, dot-several, dot-origin, rowAt-zero}
 
 -- ---- padding
 
@@ -29,6 +29,13 @@ neat-four r h e = record { few = omega arith; rest = padded-more (r .coef) h e }
 
 pub neat-line : (m : Map) → Neat m → (i : ℕ) → NeatRow (m .width) (line m i)
 neat-line m h i = record { few = h .cols-few; rest = h .lines i }
+
+-- a map's rows and columns are those of what it stands for
+pub height-length : (m : Map) {f : Sheet.Map} → mapOf m ≡ f → m .height ≡ length (f .rows)
+height-length m e = sym (length-several (m .height) (λ i. rowOf (m .width) (line m i))) ∙ ap (λ (g : Sheet.Map). length (g .rows)) e
+
+pub width-cols : (m : Map) {f : Sheet.Map} → mapOf m ≡ f → m .width ≡ f .cols
+width-cols m e = ap (λ (g : Sheet.Map). g .cols) e
 
 -- below 4 and past it
 by-four : (P : ℕ → Type 0) → P 0 → P 1 → P 2 → P 3 → ((j : ℕ) → 4 ≤ j → P j) → (i : ℕ) → P i

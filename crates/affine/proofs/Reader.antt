@@ -1,8 +1,8 @@
 -- What the readers of crate alpha give, as fields at places: a number, a row, a map. Assumes nothing.
-use Prim.Native.Nat.{ℕ, zero, suc, _+_, _*_, _^_, _≤_, _<_}
-use mathlib.Core.Path.{_≡_, refl, sym, ap, _∙_}
+use Prim.Native.Nat.{ℕ, zero, suc, _+_, _*_, _^_, _≤_}
+use mathlib.Core.Path.{_≡_, refl, ap, _∙_}
 use mathlib.Core.Bool.{Bool, true, false}
-use mathlib.Core.List.{List, [], _∷_}
+use mathlib.Core.List.{List, _∷_}
 use native.Mathlib.Omega.{arith}
 use native.Mathlib.Nat.{suc-mul}
 use borrow.Author.Tests.{leb-true}
@@ -15,7 +15,7 @@ use Rattle.alpha.specs.Field.{field}
 use Rattle.alpha.specs.Box.{within}
 use Rattle.alpha.specs.Sheet as Sheet
 use Rattle.alpha.specs.Read as Read
-use Rattle.alpha.specs.Read.{Got, got, bad, Reader, after, repeat, room, passing, count, free, dependence}
+use Rattle.alpha.specs.Read.{Got, got, bad, after, repeat, room, passing, count, free, dependence}
 use Rattle.affine.specs.Value.{several}
 use Rattle.affine.specs.Size.{Near}
 use Rattle.affine.specs.Reading.{rowFields, rowsFields, mapFields}

@@ -1,6 +1,6 @@
 -- Lists by index, and sums that zeros do not change: a row of n coefficients has the value and the size of its four. Assumes nothing.
 use Prim.Native.Nat.{ℕ, zero, suc, _+_, _*_, _≤_, _<_}
-use mathlib.Core.Path.{_≡_, refl, sym, ap, _∙_}
+use mathlib.Core.Path.{_≡_, refl, ap, _∙_}
 use mathlib.Core.List.{List, [], _∷_, map}
 use mathlib.Core.Bool.{Bool, true, false}
 use mathlib.Core.Logic.{_⊎_, inl, inr}
@@ -11,7 +11,6 @@ use borrow.Author.Tests.{ltb-true, ltb-false}
 use lib.ListN.{length, getD, List·getD-eq-default}
 use lib.IntN.{ℤ, pos, natAbs, _+ℤ_, _*ℤ_, +ℤ-idl, zero-*ℤ, *ℤ-zero}
 use Rattle.alpha.specs.declared.Int.{Int}
-use Rattle.alpha.specs.Sheet as Sheet
 use Rattle.alpha.specs.Affine.{dot, rowAt}
 use Rattle.alpha.specs.Reach.{sizes, rowReach}
 use Rattle.affine.specs.declared.Row.{Row}

@@ -1,5 +1,5 @@
 -- What an answer on a size tells, step by step: a sum and a product that are tested before they are made. Assumes nothing.
-use Prim.Native.Nat.{ℕ, _+_, _*_, _/_, _≤_, _<_}
+use Prim.Native.Nat.{ℕ, _+_, _*_, _/_, _≤_, _<_, max}
 use mathlib.Core.Path.{_≡_, ap, _∙_, subst}
 use native.Mathlib.Omega.{arith}
 use native.Mathlib.Nat.{mul-le-mul-left, mul-one, div-lt-iff-lt-mul, le-div-iff-mul-le}
@@ -35,3 +35,18 @@ module _ {s : Reached} (e : s ≡ Past) (t : ℕ) (h : Tells s t) where
       let p : limit < t = rw e at h in
       let m = mul-le-mul-left t k in
       let o = mul-one t in omega arith
+
+-- the larger of two
+module _ {s t : Reached} (m n : ℕ) (e : s ≡ Within m) (f : t ≡ Within n) (a b : ℕ) (h : Tells s a) (k : Tells t b) where
+  pub larger-second-is : m < n → Tells (Within n) (max a b)
+  larger-second-is l = let p = rw e at h in let q = rw f at k in (omega arith, omega arith)
+
+  pub larger-first-is : n ≤ m → Tells (Within m) (max a b)
+  larger-first-is l = let p = rw e at h in let q = rw f at k in (omega arith, omega arith)
+
+module _ (a b : ℕ) {s : Reached} (e : s ≡ Past) where
+  pub larger-first-past : Tells s a → limit < max a b
+  larger-first-past h = let p : limit < a = rw e at h in omega arith
+
+  pub larger-second-past : Tells s b → limit < max a b
+  larger-second-past h = let p : limit < b = rw e at h in omega arith

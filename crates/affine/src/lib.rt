@@ -5,15 +5,13 @@ use alpha::Int;
 use integer::add;
 use integer::mul;
 ghost use mathlib.Core.Path.{_≡_};
-ghost use Prim.Native.Nat.{ℕ, _+_, _*_, _^_, _≤_, _<_};
-ghost use mathlib.Core.List.{List};
+ghost use Prim.Native.Nat.{ℕ, _+_, _*_, _^_, _≤_, _<_, max};
 ghost use lib.ListN.{length};
 ghost use lib.IntN.{ℤ, pos, natAbs, _+ℤ_, _*ℤ_};
-ghost use Rattle.alpha.specs.Sheet as Sheet;
 ghost use Rattle.alpha.specs.Affine as Affine;
-ghost use Rattle.alpha.specs.Reach.{limit, sizes, rowReach};
+ghost use Rattle.alpha.specs.Reach.{sizes, rowReach, mapReach};
 ghost use Rattle.alpha.specs.Read as Read;
-ghost use Rattle.affine.specs.Value.{several, at, line, pointOf, rowOf, mapOf, Padded, NeatRow, ZeroRow, Neat, After, markOf};
+ghost use Rattle.affine.specs.Value.{several, at, line, pointOf, rowOf, mapOf, Padded, NeatRow, Neat, After, markOf};
 ghost use Rattle.affine.specs.Size.{dotSize, rowSize, Fit, column, constants, FitAfter, Tells};
 ghost use Rattle.affine.specs.Reading.{rowFields, rowsFields, RowAmong, MapRead};
 ghost use Rattle.alpha.specs.Field.{field};
@@ -168,7 +166,7 @@ pub fn row_after(f: Map, w: Row) -> Row
 // First the inner map, then the outer.
 pub fn compose(outer: Map, inner: Map) -> Map
     requires { ⌜ Neat outer × Neat inner × (outer .width ≡ inner .height) × ((i : ℕ) → FitAfter inner (line outer i)) ⌝ }
-    ensures { λ m. ⌜ (mapOf m ≡ Affine.mapAfter (mapOf inner) (mapOf outer)) × Neat m ⌝ }
+    ensures { λ m. ⌜ (mapOf m ≡ Affine.mapAfter (mapOf inner) (mapOf outer)) × Neat m × (m .height ≡ outer .height) × (m .width ≡ inner .width) ⌝ }
 {
     let rows = outer.rows;
     let r0 = row_after(inner, rows[0]);
@@ -295,6 +293,34 @@ pub fn row_reach(r: Row, reach: u64) -> Reached
     let c = r.coef;
     let k = r.constant;
     more(times(spread(c), reach), k)
+}
+
+// The larger of what s and t tell of.
+fn larger(s: Reached, t: Reached) -> Reached
+    ensures { λ y. ⌜ ((a b : ℕ) → Tells s a → Tells t b → Tells y (max a b)) ⌝ }
+{
+    let Reached::Within(m) = s else {
+        return Reached::Past;
+    };
+    let Reached::Within(n) = t else {
+        return Reached::Past;
+    };
+    if m < n {
+        return Reached::Within(n);
+    }
+    Reached::Within(m)
+}
+
+// How far the image reaches where the coordinates reach so far.
+pub fn map_reach(m: Map, reach: u64) -> Reached
+    requires { ⌜ Neat m × (1 ≤ reach) ⌝ }
+    ensures { λ y. ⌜ Tells y (mapReach reach (mapOf m .rows)) ⌝ }
+{
+    let rows = m.rows;
+    let s3 = larger(row_reach(rows[3], reach), Reached::Within(1));
+    let s2 = larger(row_reach(rows[2], reach), s3);
+    let s1 = larger(row_reach(rows[1], reach), s2);
+    larger(row_reach(rows[0], reach), s1)
 }
 
 // ---- read from a sheet

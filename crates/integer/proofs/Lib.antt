@@ -2,6 +2,7 @@
 pub mod Ring
 pub mod Sizes
 pub mod Order
+pub mod Gaps
 pub mod Complement
 pub mod Fields
 pub mod Division

@@ -1,12 +1,12 @@
 -- Tests on ℤ and the facts that they decide: zero, at most, within two bounds. Those on ℕ are in `borrow.Author.Tests`.
 -- Assumes nothing.
-use Prim.Native.Nat.{ℕ, zero, suc, _+_, _≤_, _<_}
+use Prim.Native.Nat.{ℕ, zero, suc, _≤_, _<_}
 use mathlib.Core.Path.{_≡_, refl, sym, ap, _∙_}
 use mathlib.Core.Bool.{Bool, true, false, not, _&&_, true≢false, false≢true}
 use native.Mathlib.Omega.{arith}
 use lib.Dec.{leb, ltb}
-use lib.IntN.{ℤ, pos, negsuc, negℤ, natAbs, _+ℤ_, _-ℤ_, +ℤ-invr, negℤ-negℤ}
-use lib.Signed.{mag, leZ, ltZ, nonNeg}
+use lib.IntN.{ℤ, pos, negsuc, negℤ, natAbs, _-ℤ_, +ℤ-invr, negℤ-negℤ}
+use lib.Signed.{leZ, ltZ, nonNeg}
 use borrow.Author.Tests.{leb-true, ltb-false, le-leb, le-ltb, not-true}
 use Rattle.alpha.specs.Affine.{isZero}
 use Rattle.alpha.specs.Box.{within}

@@ -1,13 +1,13 @@
 -- Sizes of numbers, for `omega`, which reads no ℤ and takes `natAbs x` and `mag x` as unknown numbers: sizes of sums and products,
 -- and which of them an i64 holds. Assumes nothing.
 use Prim.Native.Nat.{ℕ, zero, suc, _+_, _-_, _*_, _/_, _^_, _≤_, _<_}
-use mathlib.Core.Path.{_≡_, refl, ap, _∙_}
+use mathlib.Core.Path.{_≡_, refl}
 use mathlib.Core.Bool.{Bool, true, false, cond}
 use native.Mathlib.Omega.{arith}
-use native.Mathlib.Nat.{mul-le-mul, le-trans, le-of-eq, div-le-self, mod-le}
+use native.Mathlib.Nat.{mul-le-mul, le-trans, le-of-eq, div-le-self}
 use lib.Dec.{ltb}
 use lib.IntN.{ℤ, pos, negsuc, _+ℤ_, _-ℤ_, _*ℤ_, negℤ, natAbs}
-use lib.Signed.{mag, quotZ, remZ}
+use lib.Signed.{mag, quotZ}
 use mir.Syntax.{w64}
 use mir.Val.{SFits}
 use borrow.Author.Tests.{ltb-true}

@@ -4,8 +4,7 @@
 use alpha::Int;
 use alpha::Outcome;
 ghost use mathlib.Core.Path.{_≡_};
-ghost use mathlib.Core.Bool.{Bool, true, false, not};
-ghost use Prim.Native.Nat.{ℕ, _+_, _*_, _%_, _^_, _≤_, _<_};
+ghost use Prim.Native.Nat.{_+_, _*_, _%_, _^_, _≤_, _<_};
 ghost use lib.ListN.{length};
 ghost use lib.Seq.{sets};
 ghost use lib.IntN.{ℤ, pos, negℤ, natAbs, _+ℤ_, _-ℤ_, _*ℤ_};
@@ -16,7 +15,6 @@ ghost use Rattle.alpha.specs.Box as Box;
 ghost use Rattle.alpha.specs.Outcome as Outcomes;
 ghost use Rattle.alpha.specs.Read.{unaryOf, binaryOf};
 ghost use Rattle.alpha.specs.Program.{word4, value4};
-ghost use Rattle.alpha.specs.Verdict.{outcomeOf};
 ghost use Rattle.integer.specs.Range.{In64, In32, Says};
 
 // ---- made of machine numbers, and turned into them

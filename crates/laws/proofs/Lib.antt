@@ -11,6 +11,7 @@ pub mod Elements
 pub mod Growth
 pub mod Composed
 pub mod NormalForm
+pub mod Children
 pub mod Heads
 pub mod Bodies
 pub mod Checked
@@ -23,3 +24,4 @@ pub mod NormalClear
 pub mod Widths
 pub mod NormalAgain
 pub mod NormalSheet
+pub mod Written

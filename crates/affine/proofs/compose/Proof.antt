@@ -1,6 +1,6 @@
 -- `compose` meets its contract: each row is a row of the outer map after the inner. Assumes nothing.
 use borrow.Author.Needs.{needs}
-use mathlib.Core.Path.{_≡_}
+use mathlib.Core.Path.{refl}
 use Rattle.affine.proofs.Meaning.{compose-is}
 use Rattle.affine.proofs.compose.Statement.{statement}
 use Rattle.affine.proofs.compose.Tie as tie
@@ -39,9 +39,11 @@ returns c =
     let c2 = c3 .before .before in
     let c1 = c2 .before .before in
     let s = c1 .before .before .before in
+    let both =
     compose-is (s .args .outer) (s .args .inner) (s .pre .0) (s .pre .1) (s .pre .2)
     (c1 .row-after .result) (c2 .row-after2 .result) (c3 .row-after3 .result) (c .row-after4 .result)
-    (c1 .row-after .ensures) (c2 .row-after2 .ensures) (c3 .row-after3 .ensures) (c .row-after4 .ensures)
+    (c1 .row-after .ensures) (c2 .row-after2 .ensures) (c3 .row-after3 .ensures) (c .row-after4 .ensures) in
+    (both .0, both .1, refl, refl)
 
 pub compose-spec : {M : Type 1} → statement M
 compose-spec =

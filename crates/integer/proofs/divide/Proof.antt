@@ -1,7 +1,7 @@
 -- `divide` meets its contract: the divisor is not 0 where it divides. Assumes nothing.
 use borrow.Author.Needs.{needs}
 use native.Mathlib.Omega.{arith}
-use mathlib.Core.Path.{_≡_, refl, sym, ap, _∙_}
+use mathlib.Core.Path.{_≡_, sym, ap, _∙_}
 use Rattle.alpha.specs.Outcome as Outcomes
 use Rattle.integer.proofs.Sizes.{in32-size}
 use Rattle.integer.proofs.Order.{isZero-false}

@@ -1,6 +1,6 @@
 -- `exact` meets its contract. Assumes nothing.
 use borrow.Author.Needs.{needs}
-use mathlib.Core.Path.{refl, sym, _∙_}
+use mathlib.Core.Path.{sym, _∙_}
 use Rattle.integer.proofs.Order.{within-32}
 use Rattle.integer.proofs.exact.Statement.{statement}
 use Rattle.integer.proofs.exact.Tie as tie

@@ -1,10 +1,9 @@
 -- `put_word` meets its contract. The loop's invariant: storing what is left of the word here gives what storing all of it gives at
 -- the start. The measure is what is left. Assumes nothing.
 use borrow.Author.Needs.{needs}
-use native.Mathlib.Omega.{arith}
-use Prim.Native.Nat.{_+_, _≤_}
-use mathlib.Core.Path.{_≡_, refl, sym, ap, _∙_}
-use lib.ListN.{length, set, length-set}
+use Prim.Native.Nat.{_+_}
+use mathlib.Core.Path.{_≡_, refl, sym, _∙_}
+use lib.ListN.{length, length-set}
 use lib.Seq.{sets}
 use Rattle.alpha.specs.Field.{bytesOf}
 use Rattle.integer.proofs.Fields.{sets-bytesOf}

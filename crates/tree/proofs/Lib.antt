@@ -1,0 +1,7 @@
+-- Laws that the proofs of the walkers cite.
+pub mod Noding
+pub mod Standings
+pub mod Heading
+pub mod Fitting
+pub mod Judging
+pub mod Sorting

@@ -1,0 +1,21 @@
+// Walks over the prefix nodes of a sheet's bodies. Each function says of the tree that stands at a place of the bytes what a definition
+// of crate alpha says of it. A walk does each node alike, and then its children one after another. Assumes nothing.
+mod node;
+mod shape;
+mod skip;
+mod typing;
+mod variable;
+
+// What a place was found to hold where a tree of some dimension is wanted: a tree that fits, with the place after it and the nodes
+// left, or none.
+pub enum Shaped {
+    Fits { next: usize, left: usize },
+    Bad,
+}
+
+// The type of a tree, with the place after it; or a type rule is broken.
+pub enum Typed {
+    Integer(usize),
+    Boolean(usize),
+    Mistyped,
+}
