@@ -1,10 +1,10 @@
 // Walks over the prefix nodes of a sheet's bodies. Each function says of the tree that stands at a place of the bytes what a definition
 // of crate alpha says of it. A walk does each node alike, and then its children one after another. Assumes nothing.
-mod node;
-mod shape;
-mod skip;
-mod typing;
-mod variable;
+pub mod node;
+pub mod shape;
+pub mod skip;
+pub mod typing;
+pub mod variable;
 
 // What a place was found to hold where a tree of some dimension is wanted: a tree that fits, with the place after it and the nodes
 // left, or none.

@@ -1,0 +1,6 @@
+-- Laws that the proofs of the walkers cite.
+pub mod Standings
+pub mod Walks
+pub mod Restrictions
+pub mod Records
+pub mod Leaves
