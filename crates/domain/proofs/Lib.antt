@@ -4,3 +4,4 @@ pub mod Walks
 pub mod Restrictions
 pub mod Records
 pub mod Leaves
+pub mod Ways

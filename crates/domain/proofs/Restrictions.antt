@@ -17,7 +17,8 @@ use Rattle.alpha.specs.Affine.{meets, meetsAll}
 use Rattle.alpha.specs.Read.{relationOf}
 use Rattle.alpha.specs.Shape.{fits}
 use Rattle.alpha.specs.Reach.{limit, rowReach, allReach, reach}
-use Rattle.laws.specs.At.{At}
+use Rattle.alpha.specs.Written.{nodeCount}
+use Rattle.laws.specs.At.{nodeLen}
 use Rattle.laws.specs.Sheets.{headsOf, varsOf}
 use Rattle.laws.proofs.Tests.{&&-left, &&-right}
 use Rattle.laws.proofs.Readers.{counted-is}
@@ -146,9 +147,27 @@ module _ (bs : List ℕ) (p : ℕ) where
     unfolding reach
     reach-here = rw (here .is) at (h .reaches)
 
+    count-here : nodeCount (h .tree) ≡ suc (nodeCount (here .child))
+    unfolding nodeCount
+    count-here = ap nodeCount (here .is)
+
     -- its constraints can be tested
     pub restriction-testable : AllTestable (natAbs (field bs (p + 16))) bs (p + 24) (natAbs (field bs (p + 8))) (pointOf (natAbs (field bs (p + 8))) z)
     restriction-testable =
         rw (← counted-is (here .fields .many), ← counted-is (here .fields .dim))
         (constraints-testable (here .dim) bs (here .fields .dim .high) (h .bound) (pointOf (here .dim) z) (rw dims-are (h .point .near))
         (here .given) (p + 24) (λ i lt c. restr-constraint (here .fields) i lt c) (&&-left (allReach (h .bound) (here .given)) (reach (here .child) (h .bound)) reach-here))
+
+    -- and its child may be walked at the same point
+    pub restriction-walk : Walk bs (p + nodeLen bs p) (left - 1) z
+    restriction-walk = record {
+      tree = here .child;
+      end = h .end;
+      dims = h .dims;
+      bound = h .bound;
+      at = here .below;
+      few = omega (arith, h .few, count-here);
+      fitting = &&-right (eqb (here .dim) (h .dims)) (fits (here .child) (headsOf bs) (h .dims)) fit-here;
+      reaches = &&-right (allReach (h .bound) (here .given)) (reach (here .child) (h .bound)) reach-here;
+      point = h .point;
+    }

@@ -2,6 +2,7 @@
 mod constraint;
 mod join;
 mod leaf;
+mod stand;
 
 // How an expression stands at a point: it does not hold, it holds, or it holds and a case that is reached there clashes.
 pub enum Standing {
