@@ -5,3 +5,4 @@ pub mod Restrictions
 pub mod Records
 pub mod Leaves
 pub mod Ways
+pub mod Choices
