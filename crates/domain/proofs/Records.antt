@@ -26,7 +26,7 @@ use Rattle.sheet.specs.Record.{boxAt, dimensionAt, Ranges, Recorded}
 use Rattle.sheet.specs.Record as Record
 use Rattle.points.specs.Number.{boxOf}
 use Rattle.tree.proofs.Heading.{prepared-sections, prepared-few}
-use Rattle.domain.specs.Laid.{Laid}
+use Rattle.tree.specs.Formed.{BodiesPlaced}
 
 -- ---- a record by its place
 
@@ -118,7 +118,7 @@ pub record VariableLaid (bs tab : List ℕ) (v : ℕ) : Type 0 where
   -- its elements are numbered below 4,096
   pub few : before (sheetOf bs) v + size (variable (sheetOf bs) v .head .box) ≤ 4096
 
-module _ (bs tab : List ℕ) (h : Laid bs tab) where
+module _ (bs tab : List ℕ) (h : BodiesPlaced bs tab) where
   laid-bodies : BodiesRead (rawOf bs) bs (headsOf bs) 0 (rawOf bs .first) (rawOf bs .nodes) (sheetOf bs)
   laid-bodies = bodies-read (rawOf bs) bs (h .shaped)
 

@@ -1,5 +1,4 @@
 -- The definitions that this crate's contracts cite, besides those of the crates below.
-pub mod Laid
 pub mod Walk
 pub mod Standing
 pub mod Inside

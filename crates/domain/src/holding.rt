@@ -10,7 +10,7 @@ ghost use Prim.Native.Nat.{ℕ, _+_, _-_, _≤_};
 ghost use lib.IntN.{natAbs};
 ghost use Rattle.alpha.specs.Field.{field};
 ghost use Rattle.laws.specs.Sheets.{sheetOf};
-ghost use Rattle.domain.specs.Laid.{Laid};
+ghost use Rattle.tree.specs.Formed.{BodiesPlaced};
 ghost use Rattle.domain.specs.Inside.{Inside};
 ghost use Rattle.domain.specs.Walk.{Walk, WalkAll};
 ghost use Rattle.domain.specs.Holding.{isHeld, TakesOf, Chooses};
@@ -35,7 +35,7 @@ fn first_holding(
     z: [Int; 4],
     count: usize,
 ) -> Branch
-    requires { ⌜ Laid (now s) (now tab) × Inside (sheetOf (now s)) (now inside) × WalkAll (now s) at left count z × (left ≤ 2048) ⌝ }
+    requires { ⌜ BodiesPlaced (now s) (now tab) × Inside (sheetOf (now s)) (now inside) × WalkAll (now s) at left count z × (left ≤ 2048) ⌝ }
     ensures { λ r. ⌜ TakesOf (now (s .entry)) at left count z r ⌝ }
 {
     if count < 1 {
@@ -59,7 +59,7 @@ pub fn holding(
     left: usize,
     z: [Int; 4],
 ) -> Choice
-    requires { ⌜ Laid (now s) (now tab) × Inside (sheetOf (now s)) (now inside) × Walk (now s) at left z × (left ≤ 2048) × (natAbs (field (now s) at) ≡ 6) ⌝ }
+    requires { ⌜ BodiesPlaced (now s) (now tab) × Inside (sheetOf (now s)) (now inside) × Walk (now s) at left z × (left ≤ 2048) × (natAbs (field (now s) at) ≡ 6) ⌝ }
     ensures { λ r. ⌜ Chooses (now (s .entry)) at (left - 1) z r ⌝ }
 {
     let count = natural(s, at + 8);

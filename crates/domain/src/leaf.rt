@@ -8,7 +8,7 @@ ghost use Rattle.alpha.specs.Sheet.{Expr.var};
 ghost use Rattle.alpha.specs.Read.{dimension};
 ghost use Rattle.laws.specs.Sheets.{headsOf, varsOf, sheetOf};
 ghost use Rattle.affine.specs.Value.{pointOf};
-ghost use Rattle.domain.specs.Laid.{Laid};
+ghost use Rattle.tree.specs.Formed.{BodiesPlaced};
 ghost use Rattle.domain.specs.Inside.{Inside};
 ghost use Rattle.domain.specs.Standing.{standing};
 
@@ -20,7 +20,7 @@ pub fn leaf_stands(
     v: usize,
     z: [Int; 4],
 ) -> Standing
-    requires { ⌜ Laid (now s) (now tab) × Inside (sheetOf (now s)) (now inside) × (v < varsOf (now s)) ⌝ }
+    requires { ⌜ BodiesPlaced (now s) (now tab) × Inside (sheetOf (now s)) (now inside) × (v < varsOf (now s)) ⌝ }
     ensures { λ r. ⌜ r ≡ standing (var v) (sheetOf (now (s .entry))) (pointOf (dimension (headsOf (now (s .entry))) v) z) ⌝ }
 {
     let place = tab[v];

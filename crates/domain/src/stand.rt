@@ -12,7 +12,7 @@ use tree::node::node_len;
 ghost use mathlib.Core.Path.{_≡_};
 ghost use Prim.Native.Nat.{ℕ, _≤_};
 ghost use Rattle.laws.specs.Sheets.{sheetOf};
-ghost use Rattle.domain.specs.Laid.{Laid};
+ghost use Rattle.tree.specs.Formed.{BodiesPlaced};
 ghost use Rattle.domain.specs.Inside.{Inside};
 ghost use Rattle.domain.specs.Walk.{Walk, WalkAll};
 ghost use Rattle.domain.specs.Standing.{StandsAt, StandTogether};
@@ -26,7 +26,7 @@ pub fn stand(
     left: usize,
     z: [Int; 4],
 ) -> Stood
-    requires { ⌜ Laid (now s) (now tab) × Inside (sheetOf (now s)) (now inside) × Walk (now s) at left z × (left ≤ 2048) ⌝ }
+    requires { ⌜ BodiesPlaced (now s) (now tab) × Inside (sheetOf (now s)) (now inside) × Walk (now s) at left z × (left ≤ 2048) ⌝ }
     ensures { λ r. ⌜ StandsAt (now (s .entry)) at z r ⌝ }
 {
     let code = natural(s, at);
@@ -81,7 +81,7 @@ fn stand_all(
     branches: bool,
     sofar: Standing,
 ) -> Stood
-    requires { ⌜ Laid (now s) (now tab) × Inside (sheetOf (now s)) (now inside) × WalkAll (now s) at left count z × (left ≤ 2048) × (count ≤ 64) ⌝ }
+    requires { ⌜ BodiesPlaced (now s) (now tab) × Inside (sheetOf (now s)) (now inside) × WalkAll (now s) at left count z × (left ≤ 2048) × (count ≤ 64) ⌝ }
     ensures { λ r. ⌜ StandTogether (now (s .entry)) at count z branches sofar r ⌝ }
 {
     if count < 1 {

@@ -5,3 +5,9 @@ pub mod Heading
 pub mod Fitting
 pub mod Judging
 pub mod Sorting
+pub mod Reaching
+pub mod Placing
+pub mod Bodying
+pub mod Passing
+pub mod Declaring
+pub mod Forming

@@ -3,3 +3,6 @@ pub mod Standing
 pub mod Prepared
 pub mod Judged
 pub mod Sorted
+pub mod Bounding
+pub mod Ruled
+pub mod Formed

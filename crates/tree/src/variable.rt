@@ -1,5 +1,6 @@
 // A variable's record, found by the table of places: its kind, its type, its dimension. Assumes nothing.
 use super::node::natural;
+use sheet::table::record_place;
 ghost use mathlib.Core.Path.{_≡_};
 ghost use Prim.Native.Nat.{ℕ, _+_, _≤_, _<_};
 ghost use lib.ListN.{getD};
@@ -14,7 +15,7 @@ fn record_field(s: &[u8], tab: &[usize; 102], v: usize, offset: usize) -> usize
     requires { ⌜ Prepared (now s) (now tab) × (v < varsOf (now s)) × (offset ≤ 24) ⌝ }
     ensures { λ r. ⌜ r ≡ natAbs (field (now (s .entry)) (getD (now (tab .entry)) v 0 + offset)) ⌝ }
 {
-    let record = tab[v];
+    let record = record_place(tab, v);
     natural(s, record + offset)
 }
 

@@ -1,27 +1,27 @@
 -- `tree::record_field` meets its contract: the variable's record stands where the table says. Assumes nothing.
-use mathlib.Core.Path.{_≡_}
+use mathlib.Core.Path.{_≡_, ap, _∙_}
 use Prim.Native.Nat.{ℕ, _+_, _<_}
 use native.Mathlib.Omega.{arith}
+use lib.IntN.{natAbs}
 use borrow.Author.Needs.{needs}
+use Rattle.alpha.specs.Field.{field}
 use Rattle.tree.proofs.Heading.{prepared-record, prepared-few}
 use Rattle.tree.proofs.variable.record_field.Statement.{statement}
 use Rattle.tree.proofs.variable.record_field.Tie as tie
 
-mul-record : tie.Need-mul-record
-mul-record c = omega (arith, prepared-few _ _ (c .before .pre .0) _ (c .before .pre .1))
-
-element-copy-out-record : tie.Need-element-copy-out-record
-element-copy-out-record c = omega (arith, prepared-few _ _ (c .before .pre .0) _ (c .before .pre .1))
+record-place-requires : tie.Need-record-place-requires
+record-place-requires c κs = prepared-few _ _ (c .before .pre .0) _ (c .before .pre .1)
 
 add-natural : tie.Need-add-natural
-add-natural c = omega (arith, prepared-record _ _ (c .before .before .pre .0) _ (c .before .before .pre .1) .there)
+add-natural c = omega (arith, prepared-record _ _ (c .before .before .pre .0) _ (c .before .before .pre .1) .there, c .record-place .ensures)
 
 natural-requires : tie.Need-natural-requires
-natural-requires c κs = omega (arith, prepared-record _ _ (c .before .before .pre .0) _ (c .before .before .pre .1) .there)
+natural-requires c κs = omega (arith, prepared-record _ _ (c .before .before .pre .0) _ (c .before .before .pre .1) .there, c .record-place .ensures)
 
 returns : tie.Need-returns
-returns c = c .natural .ensures
+returns c =
+    let s = c .before .before .before .args in
+    c .natural .ensures ∙ ap (λ r. natAbs (field (s .s .now) (r + s .offset))) (c .before .record-place .ensures)
 
 pub record-field-spec : {M : Type 1} → statement M
-record-field-spec =
-    tie.close (tie.spec mul-record element-copy-out-record add-natural natural-requires returns)
+record-field-spec = tie.close (tie.spec record-place-requires add-natural natural-requires returns)
