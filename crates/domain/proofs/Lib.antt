@@ -6,3 +6,5 @@ pub mod Records
 pub mod Leaves
 pub mod Ways
 pub mod Choices
+pub mod Checking
+pub mod Bodying

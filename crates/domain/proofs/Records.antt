@@ -14,14 +14,15 @@ use Rattle.alpha.specs.Read.{noHead, dimension}
 use Rattle.alpha.specs.Holds.{noVariable, variable}
 use Rattle.alpha.specs.Check.{total}
 use Rattle.alpha.specs.Ask.{before}
+use Rattle.laws.specs.Box.{readBox}
 use Rattle.laws.specs.Heads.{HeadsAt, pointsOf}
 use Rattle.laws.specs.Sheets.{rawOf, headsOf, varsOf, sheetOf}
 use Rattle.laws.proofs.Tests.{&&-left, &&-right, &&-true}
 use Rattle.laws.proofs.Readers.{counted-is}
 use Rattle.laws.proofs.Order.{leZ-trans}
-use Rattle.laws.proofs.Heads.{RangeAt, HeadAt, head-at, head-range}
+use Rattle.laws.proofs.Heads.{RangeAt, HeadAt, head-at, head-range, head-box}
 use Rattle.laws.proofs.Bodies.{BodiesRead, bodies-read}
-use Rattle.laws.proofs.Elements.{before-fits}
+use Rattle.laws.proofs.Elements.{before-suc, before-fits}
 use Rattle.sheet.specs.Record.{boxAt, dimensionAt, Ranges, Recorded}
 use Rattle.sheet.specs.Record as Record
 use Rattle.points.specs.Number.{boxOf}
@@ -35,6 +36,7 @@ record StandsAt (bs : List ℕ) (h : Head) (p : ℕ) : Type 0 where
   recorded : Recorded bs p
   box-is : boxOf bs p ≡ h .box
   dims-are : dimensionAt bs p ≡ length (h .box)
+  box-read : readBox (h .box) ≡ true
 
 abbrev noRange : Range
 noRange = record { lo = pos 0; hi = pos 0 }
@@ -85,6 +87,7 @@ head-stands earlier bs p h a =
       };
       box-is = rw (← d) (box-fields bs (h .box) (p + 32) (λ i lt. head-range a i lt noRange));
       dims-are = sym d;
+      box-read = head-box a;
     })
 
 heads-stand : (bs : List ℕ) (hs earlier : List Head) (p q : ℕ) → HeadsAt hs earlier bs p q → (v : ℕ) → v < length hs →
@@ -113,8 +116,10 @@ pub record VariableLaid (bs tab : List ℕ) (v : ℕ) : Type 0 where
   pub head-is : variable (sheetOf bs) v .head ≡ getD (headsOf bs) v noHead
   pub recorded : Recorded bs (getD tab v 0)
   pub box-is : boxOf bs (getD tab v 0) ≡ variable (sheetOf bs) v .head .box
+  pub box-read : readBox (variable (sheetOf bs) v .head .box) ≡ true
   pub dims-are : dimensionAt bs (getD tab v 0) ≡ dimension (headsOf bs) v
   pub first-is : getD tab (32 + v) 0 ≡ before (sheetOf bs) v
+  pub last-is : getD tab (32 + (v + 1)) 0 ≡ before (sheetOf bs) v + size (variable (sheetOf bs) v .head .box)
   -- its elements are numbered below 4,096
   pub few : before (sheetOf bs) v + size (variable (sheetOf bs) v .head .box) ≤ 4096
 
@@ -131,6 +136,10 @@ module _ (bs tab : List ℕ) (h : BodiesPlaced bs tab) where
   pub laid-head : (v : ℕ) → variable (sheetOf bs) v .head ≡ getD (headsOf bs) v noHead
   laid-head v = sym (List·getD-map (λ x. x .head) (sheetOf bs) v noVariable) ∙ ap (λ l. getD l v noHead) (laid-bodies .heads-are)
 
+  -- the first element of a variable, and the total after the last
+  first : (v : ℕ) → v ≤ varsOf bs → getD tab (32 + v) 0 ≡ before (sheetOf bs) v
+  first v le = h .prepared .table .first-element v le ∙ ap (λ l. Record.before l v) (sym (laid-bodies .heads-are)) ∙ before-points (sheetOf bs) v
+
   pub laid-variable : (v : ℕ) → v < varsOf bs → VariableLaid bs tab v
   laid-variable v lt =
       let r = heads-stand bs (headsOf bs) [] 8 (rawOf bs .second) (prepared-sections bs tab (h .prepared) .heads-stand) v lt in
@@ -142,7 +151,11 @@ module _ (bs tab : List ℕ) (h : BodiesPlaced bs tab) where
         head-is = laid-head v;
         recorded = rw place (r .recorded);
         box-is = rw (place, laid-head v) (r .box-is);
+        box-read = rw (laid-head v) (r .box-read);
         dims-are = rw place (r .dims-are);
-        first-is = h .prepared .table .first-element v (omega arith) ∙ ap (λ l. Record.before l v) (sym (laid-bodies .heads-are)) ∙ before-points (sheetOf bs) v;
+        first-is = first v (omega arith);
+        last-is =
+            let e : v + 1 ≡ suc v = omega arith in
+            first (v + 1) (omega arith) ∙ ap (before (sheetOf bs)) e ∙ before-suc (sheetOf bs) v known;
         few = omega (arith, before-fits (sheetOf bs) v known, laid-total);
       }

@@ -4,3 +4,4 @@ pub mod Standing
 pub mod Inside
 pub mod Constraints
 pub mod Holding
+pub mod Element

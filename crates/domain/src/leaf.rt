@@ -2,6 +2,8 @@
 use super::Standing;
 use alpha::Int;
 use points::Found;
+use sheet::table::first_element;
+use sheet::table::record_place;
 ghost use mathlib.Core.Path.{_≡_};
 ghost use Prim.Native.Nat.{ℕ, _<_};
 ghost use Rattle.alpha.specs.Sheet.{Expr.var};
@@ -23,13 +25,11 @@ pub fn leaf_stands(
     requires { ⌜ BodiesPlaced (now s) (now tab) × Inside (sheetOf (now s)) (now inside) × (v < varsOf (now s)) ⌝ }
     ensures { λ r. ⌜ r ≡ standing (var v) (sheetOf (now (s .entry))) (pointOf (dimension (headsOf (now (s .entry))) v) z) ⌝ }
 {
-    let place = tab[v];
-    let found = points::index(s, place, z);
+    let found = points::index(s, record_place(tab, v), z);
     let Found::At(i) = found else {
         return Standing::Not;
     };
-    let first = tab[32 + v];
-    let n = first + i;
+    let n = first_element(tab, v) + i;
     if inside[n] == 1 {
         Standing::Holds
     } else {

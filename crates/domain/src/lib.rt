@@ -1,5 +1,6 @@
 // Where expressions hold and where cases clash: how a tree stands at a point, by one walk over its nodes. Assumes nothing.
 pub mod constraint;
+pub mod faults;
 pub mod holding;
 mod join;
 pub mod leaf;
