@@ -1,27 +1,27 @@
 -- A tree as its first node and its children: where the children stand, and what `exprAt`, `fits`, `typeOf` and `reach` are by the node
 -- and the children. A walk over prefix nodes does each node alike, and then so many children. Assumes nothing.
 use mathlib.Core.Path.{_≡_, refl, sym, ap, _∙_}
-use Prim.Native.Nat.{ℕ, zero, suc, _+_, _*_, _-_, _≤_, _<_}
+use Prim.Native.Nat.{ℕ, zero, suc, _+_, _-_, _≤_}
 use native.Mathlib.Omega.{arith}
 use mathlib.Core.Bool.{Bool, true, false, _&&_}
 use mathlib.Core.List.{List, [], _∷_}
 use mathlib.Core.Option.{Option, Option.none, some}
 use lib.ListN.{length, getD}
-use lib.IntN.{pos, natAbs}
+use lib.IntN.{natAbs}
 use lib.Dec.{eqb, leb}
 use Rattle.alpha.specs.Field.{field}
-use Rattle.alpha.specs.Sheet.{Sort, Sort.integer, Sort.boolean, Unary, Binary, Constraint, Map, Node, Head, Expr, Exprs}
+use Rattle.alpha.specs.Sheet.{Sort, Sort.integer, Sort.boolean, Node, Head, Expr, Exprs}
 use Rattle.alpha.specs.Sheet.{Node.nVar, Node.nInt, Node.nBool, Node.nUnary, Node.nBinary, Node.nIf, Node.nCase, Node.nRestr, Node.nDep}
 use Rattle.alpha.specs.Sheet.{Expr.var, Expr.int, Expr.boo, Expr.un, Expr.bin, Expr.ite, Expr.kase, Expr.restr, Expr.dep, Exprs.none, Exprs.more}
-use Rattle.alpha.specs.Read.{Got, got, bad, node, dimension, noHead}
+use Rattle.alpha.specs.Read.{got, node, dimension}
 use Rattle.alpha.specs.Shape.{Parsed, tree, ill, then, Parser, branches, withNode, atNode, exprAt, fits, allFit}
-use Rattle.alpha.specs.Typing.{agree, unarySort, binarySort, ifSort, typeOf, typesOf, agreeing}
+use Rattle.alpha.specs.Typing.{agree, typeOf, typesOf, agreeing}
 use Rattle.alpha.specs.Reach.{limit, mapReach, allReach, reach, reachAll}
 use Rattle.alpha.specs.Written.{branchCount, nodeCount, nodeCounts}
-use Rattle.laws.specs.At.{nodeOf, codeOf, nodeLen, Headed, Two, At, AllAt}
+use Rattle.laws.specs.At.{nodeOf, codeOf, nodeLen, Headed, At, AllAt}
 use Rattle.laws.specs.Children.{childrenOf, arity, fitsHere, wanted, reachHere, reachBelow, sortBy}
-use Rattle.laws.proofs.Readers.{Counted, counted-is}
-use Rattle.laws.proofs.Nodes.{NodeAt, node-at, node-next}
+use Rattle.laws.proofs.Readers.{counted-is}
+use Rattle.laws.proofs.Nodes.{NodeAt, node-next}
 
 -- ---- children
 

@@ -4,29 +4,26 @@ use mathlib.Core.Path.{_≡_, refl, sym, ap, _∙_, subst}
 use Prim.Native.Nat.{ℕ, zero, suc, _+_, _-_, _≤_, _<_}
 use native.Mathlib.Omega.{arith}
 use mathlib.Core.Bool.{Bool, true, false}
-use mathlib.Core.List.{List, [], _∷_, map}
+use mathlib.Core.List.{List, [], _∷_}
 use mathlib.Core.Logic.{_⊎_, inl, inr}
 use lib.ListN.{length, getD, set, drop, length-map, List·getD-map, drop-of-length-le}
 use lib.Seq.{drop-cons}
 use Rattle.alpha.specs.Pick.{ifb}
 use Rattle.alpha.specs.Answer.{Answer, accepted, refused, next, SHAPE}
-use Rattle.alpha.specs.Sheet.{Kind, Kind.input, Kind.output, Kind.local, Head, Raw, Expr, Variable, Sheet}
+use Rattle.alpha.specs.Sheet.{Kind, Kind.input, Kind.output, Kind.local, Head, Expr, Variable, Sheet}
 use Rattle.alpha.specs.Read.{noHead, kindOf, dimension}
 use Rattle.alpha.specs.Shape.{Parsed, tree, ill, exprAt, fits, ofVariable, Bodied, shaped, bodyOf, bodies}
 use Rattle.alpha.specs.Holds.{noVariable, variable, isInputKind, isInput}
-use Rattle.alpha.specs.Written.{nodeCount, depth}
 use Rattle.alpha.specs.declared.Refusal.the-variants.{Shape}
-use Rattle.laws.specs.At.{At}
-use Rattle.laws.specs.Accepted.{Sections, TreeAt, NoTree, BodyAt, VariableAt, BodiesAt}
+use Rattle.laws.specs.Accepted.{TreeAt, BodyAt, BodiesAt}
 use Rattle.laws.specs.Sheets.{rawOf, headsOf, varsOf, shapedOf, acceptedSheet, sheetOf}
 use Rattle.laws.proofs.Tests.{true-not-false}
 use Rattle.laws.proofs.Bodies.{BodiesRead, bodies-read}
-use Rattle.tree.specs.declared.Shaped.{Shaped}
 use Rattle.tree.specs.declared.Shaped.the-variants.{Fits, Bad}
 use Rattle.tree.specs.declared.Ruling.{Ruling}
 use Rattle.tree.specs.declared.Ruling.the-variants.{Passes, Refused}
 use Rattle.tree.specs.Prepared.{Prepared}
-use Rattle.tree.specs.Judged.{Flat, judged, treeJudged}
+use Rattle.tree.specs.Judged.{judged, treeJudged}
 use Rattle.tree.specs.Ruled.{ruled, bodyShape, bodyAt, shapesFrom, only}
 use Rattle.tree.specs.Formed.{BodyStands, PlacesFrom, ShapesFrom, BodiesPlaced}
 use Rattle.tree.proofs.Heading.{prepared-sections}

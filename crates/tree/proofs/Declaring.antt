@@ -1,12 +1,12 @@
 -- The declared constraints as they stand in the second section, one after another: what is read at each, and whether those of one
 -- variable pass REACH. Assumes nothing.
-use mathlib.Core.Path.{_≡_, refl, sym, ap, _∙_, subst}
-use Prim.Native.Nat.{ℕ, zero, suc, _+_, _*_, _-_, _≤_, _<_}
+use mathlib.Core.Path.{_≡_, refl, sym, ap, _∙_}
+use Prim.Native.Nat.{ℕ, _+_, _*_, _-_, _≤_, _<_}
 use native.Mathlib.Omega.{arith}
 use mathlib.Core.Bool.{Bool, true, false, _&&_}
 use mathlib.Core.List.{List, [], _∷_}
 use lib.ListN.{length}
-use lib.IntN.{pos, natAbs}
+use lib.IntN.{natAbs}
 use lib.Dec.{eqb, leb}
 use borrow.Author.Tests.{eq-eqb, ne-eqb}
 use Rattle.alpha.specs.Pick.{ifb}
@@ -17,7 +17,6 @@ use Rattle.alpha.specs.Shape.{ofVariable}
 use Rattle.alpha.specs.Reach.{limit, topReach, rowReach, allReach}
 use Rattle.affine.specs.Reading.{rowFields}
 use Rattle.laws.specs.Heads.{declaredLen, InRow}
-use Rattle.laws.specs.Accepted.{Sections}
 use Rattle.laws.specs.Sheets.{rawOf, headsOf, varsOf}
 use Rattle.laws.proofs.Readers.{counted-is}
 use Rattle.laws.proofs.Heads.{DeclaredAt, declared-at, declared-next}

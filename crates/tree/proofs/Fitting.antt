@@ -1,11 +1,10 @@
 -- What a node itself asks of the dimension where it stands, by its code; and the dimension that it wants of its children. Assumes nothing.
 use mathlib.Core.Path.{_≡_, refl, sym, ap, _∙_}
-use Prim.Native.Nat.{ℕ, zero, suc, _+_, _*_, _-_, _≤_, _<_}
+use Prim.Native.Nat.{ℕ, _+_, _-_, _≤_, _<_}
 use native.Mathlib.Omega.{arith}
-use mathlib.Core.Bool.{Bool, true, false}
+use mathlib.Core.Bool.{true}
 use mathlib.Core.List.{List}
-use lib.ListN.{length}
-use lib.IntN.{pos, natAbs}
+use lib.IntN.{natAbs}
 use lib.Dec.{eqb}
 use Rattle.alpha.specs.Field.{field}
 use Rattle.alpha.specs.Sheet.{Node, Head}

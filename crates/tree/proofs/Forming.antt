@@ -1,18 +1,17 @@
 -- SHAPE, TYPE and REACH one after another: where the walk over all variables starts, what it leaves, and the answer for each way through
 -- the three. Assumes nothing.
-use mathlib.Core.Path.{_≡_, refl, sym, ap, _∙_, subst}
-use Prim.Native.Nat.{ℕ, zero, suc, _+_, _≤_, _<_}
+use mathlib.Core.Path.{_≡_, refl, sym, ap, _∙_}
+use Prim.Native.Nat.{ℕ, _+_}
 use native.Mathlib.Omega.{arith}
-use mathlib.Core.Bool.{Bool, true, false}
-use mathlib.Core.List.{List, [], _∷_}
-use lib.ListN.{length, getD}
+use mathlib.Core.List.{List}
+use lib.ListN.{getD}
 use Rattle.alpha.specs.Answer.{Answer, accepted, refused, next, TYPE, REACH}
-use Rattle.alpha.specs.Sheet.{Raw, Sheet}
+use Rattle.alpha.specs.Sheet.{Sheet}
 use Rattle.alpha.specs.Check.{first, typed, reached}
 use Rattle.alpha.specs.Holds.{variable}
 use Rattle.alpha.specs.Verdict.{numberOf, placeOf}
 use Rattle.alpha.specs.declared.Refusal.{Refusal}
-use Rattle.laws.specs.Sheets.{rawOf, headsOf, varsOf, shapedOf, sheetOf}
+use Rattle.laws.specs.Sheets.{rawOf, headsOf, shapedOf, sheetOf}
 use Rattle.tree.specs.declared.Ruling.{Ruling}
 use Rattle.tree.specs.declared.Ruling.the-variants.{Passes, Refused}
 use Rattle.tree.specs.Prepared.{Prepared}

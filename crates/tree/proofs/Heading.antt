@@ -1,13 +1,13 @@
 -- What the table and the bytes say of a variable of a prepared sheet: where its record stands, and what its fields say. Assumes nothing.
-use mathlib.Core.Path.{_≡_, refl, sym, ap, _∙_}
-use Prim.Native.Nat.{ℕ, zero, suc, _+_, _*_, _≤_, _<_}
+use mathlib.Core.Path.{_≡_, sym}
+use Prim.Native.Nat.{ℕ, zero, suc, _+_, _≤_, _<_}
 use native.Mathlib.Omega.{arith}
 use mathlib.Core.List.{List, [], _∷_, _++_}
 use lib.ListN.{length, getD}
-use lib.IntN.{pos, natAbs}
+use lib.IntN.{natAbs}
 use Rattle.alpha.specs.Field.{field}
 use Rattle.alpha.specs.Sheet.{Head}
-use Rattle.alpha.specs.Read.{noHead, kindOf, sortOf, dimension}
+use Rattle.alpha.specs.Read.{noHead, kindOf, sortOf}
 use Rattle.laws.specs.Heads.{HeadsAt}
 use Rattle.laws.specs.Accepted.{Sections}
 use Rattle.laws.specs.Sheets.{rawOf, headsOf, varsOf}

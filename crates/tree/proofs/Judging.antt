@@ -1,21 +1,20 @@
 -- The ways through the walk that judges SHAPE: for each, the judgement of the tree or trees from what the code has found. Assumes nothing.
-use mathlib.Core.Path.{_≡_, refl, sym, ap, _∙_, subst}
+use mathlib.Core.Path.{_≡_, refl, sym, ap, _∙_}
 use Prim.Native.Nat.{ℕ, zero, suc, _+_, _-_, _≤_, _<_}
 use native.Mathlib.Omega.{arith}
 use mathlib.Core.Bool.{Bool, true, false, _&&_}
 use mathlib.Core.List.{List, [], _∷_}
 use lib.ListN.{length}
 use Rattle.alpha.specs.Pick.{ifb}
-use Rattle.alpha.specs.Sheet.{Node, Head, Expr, Exprs}
-use Rattle.alpha.specs.Sheet.{Exprs.none, Exprs.more}
+use Rattle.alpha.specs.Sheet.{Node, Expr, Exprs}
+use Rattle.alpha.specs.Sheet.{Exprs.more}
 use Rattle.alpha.specs.Read.{got, node}
-use Rattle.alpha.specs.Shape.{Parsed, tree, ill, then, Parser, branches, exprAt, fits, allFit}
-use Rattle.alpha.specs.Written.{branchCount}
+use Rattle.alpha.specs.Shape.{Parsed, tree, ill, then, branches, exprAt, fits, allFit}
 use Rattle.laws.specs.At.{nodeLen}
 use Rattle.laws.specs.Heads.{InRow}
 use Rattle.laws.specs.Children.{arity, fitsHere, wanted}
 use Rattle.laws.specs.Sheets.{headsOf, varsOf}
-use Rattle.laws.proofs.Nodes.{NodeAt, node-at, node-next}
+use Rattle.laws.proofs.Nodes.{node-at, node-next}
 use Rattle.laws.proofs.Children.{arity-few, build, branches-many, exprAt-branches, fits-build}
 use Rattle.tree.specs.declared.Shaped.{Shaped}
 use Rattle.tree.specs.declared.Shaped.the-variants.{Fits, Bad}

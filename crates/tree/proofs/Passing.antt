@@ -10,8 +10,8 @@ use lib.ListN.{length, getD, drop, drop-of-length-le}
 use lib.Seq.{drop-cons}
 use lib.Dec.{eqb}
 use Rattle.alpha.specs.Pick.{ifb}
-use Rattle.alpha.specs.Answer.{Answer, accepted, refused}
-use Rattle.alpha.specs.Sheet.{Kind, Kind.input, Sort, Sort.integer, Sort.boolean, Variable, Sheet}
+use Rattle.alpha.specs.Answer.{accepted, refused}
+use Rattle.alpha.specs.Sheet.{Sort, Sort.integer, Sort.boolean, Variable, Sheet}
 use Rattle.alpha.specs.Read.{noHead, kindOf, sortOf}
 use Rattle.alpha.specs.Shape.{ofVariable}
 use Rattle.alpha.specs.Typing.{typeOf, isSort}
@@ -19,18 +19,18 @@ use Rattle.alpha.specs.Reach.{topReach, allReach, reach}
 use Rattle.alpha.specs.Holds.{noVariable, variable, isInputKind, isInput}
 use Rattle.alpha.specs.Check.{first, typed, reached}
 use Rattle.laws.specs.Sheets.{rawOf, headsOf, varsOf, sheetOf}
-use Rattle.laws.proofs.Tests.{true-not-false, &&-right}
+use Rattle.laws.proofs.Tests.{&&-right}
 use Rattle.tree.specs.declared.Typed.{Typed}
 use Rattle.tree.specs.declared.Typed.the-variants.{Integer, Boolean, Mistyped}
 use Rattle.tree.specs.declared.Bounded.{Bounded}
 use Rattle.tree.specs.declared.Bounded.the-variants.{Next, Beyond}
 use Rattle.tree.specs.Standing.{Standing}
-use Rattle.tree.specs.Sorted.{typedAt}
-use Rattle.tree.specs.Bounding.{boundedAt}
-use Rattle.tree.specs.Formed.{BodyStands, BodiesPlaced}
+use Rattle.tree.specs.Sorted.{typedAt, TreeTyped}
+use Rattle.tree.specs.Bounding.{boundedAt, TreeBounded}
+use Rattle.tree.specs.Formed.{BodiesPlaced}
 use Rattle.tree.proofs.Heading.{prepared-sections}
-use Rattle.tree.proofs.Sorting.{TreeTyped, integer-ends, boolean-ends, mistyped-is}
-use Rattle.tree.proofs.Reaching.{TreeBounded, bounded-next, bounded-beyond}
+use Rattle.tree.proofs.Sorting.{integer-ends, boolean-ends, mistyped-is}
+use Rattle.tree.proofs.Reaching.{bounded-next, bounded-beyond}
 
 -- ---- all variables
 

@@ -1,11 +1,11 @@
 -- A prepared sheet stays prepared where the table changes only in the places of the bodies. Assumes nothing.
-use mathlib.Core.Path.{_≡_, refl, sym, ap, _∙_}
+use mathlib.Core.Path.{_≡_, _∙_}
 use Prim.Native.Nat.{ℕ, _+_, _≤_, _<_}
 use native.Mathlib.Omega.{arith}
 use mathlib.Core.List.{List}
 use lib.ListN.{length, getD, set, length-set}
 use lib.Seq.{getD-set-other, getD-set-same}
-use Rattle.laws.specs.Sheets.{rawOf, varsOf}
+use Rattle.laws.specs.Sheets.{varsOf}
 use Rattle.tree.specs.Prepared.{Prepared}
 use Rattle.tree.proofs.Heading.{prepared-sections}
 

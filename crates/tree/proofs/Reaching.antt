@@ -12,10 +12,9 @@ use lib.Dec.{leb}
 use borrow.Author.Tests.{le-leb, lt-leb}
 use Rattle.alpha.specs.Field.{field}
 use Rattle.alpha.specs.Sheet.{Row, Constraint, Map, Node, Expr, Exprs}
-use Rattle.alpha.specs.Sheet.{Node.nVar, Node.nInt, Node.nBool, Node.nUnary, Node.nBinary, Node.nIf, Node.nCase, Node.nRestr, Node.nDep, Exprs.none, Exprs.more}
-use Rattle.alpha.specs.Read.{got, node, dependence}
+use Rattle.alpha.specs.Sheet.{Node.nVar, Node.nInt, Node.nBool, Node.nUnary, Node.nBinary, Node.nIf, Node.nCase, Node.nRestr, Node.nDep, Exprs.more}
+use Rattle.alpha.specs.Read.{got, node}
 use Rattle.alpha.specs.Reach.{limit, rowReach, mapReach, allReach, reach, reachAll}
-use Rattle.alpha.specs.Written.{branchCount}
 use Rattle.affine.specs.declared.Reached.{Reached}
 use Rattle.affine.specs.declared.Reached.the-variants.{Within, Past}
 use Rattle.affine.specs.declared.Map as Code
@@ -33,10 +32,10 @@ use Rattle.laws.proofs.Shapes.{at-got, allAt-none}
 use Rattle.laws.proofs.Children.{children-many, at-children, reach-children}
 use Rattle.tree.specs.declared.Bounded.{Bounded}
 use Rattle.tree.specs.declared.Bounded.the-variants.{Next, Beyond}
-use Rattle.tree.specs.Standing.{Noded, Wide}
-use Rattle.tree.specs.Bounding.{boundedAt, reachedAt, constraintsReach}
-use Rattle.tree.proofs.Noding.{node-of, code-is, wide-fields, length-restriction}
-use Rattle.tree.proofs.Standings.{none-left, one-more}
+use Rattle.tree.specs.Standing.{Noded}
+use Rattle.tree.specs.Bounding.{boundedAt, reachedAt, constraintsReach, NodeReached, TreeBounded, TreesBounded}
+use Rattle.tree.proofs.Noding.{node-of, code-is, length-restriction}
+use Rattle.tree.proofs.Standings.{one-more}
 
 -- ---- an answer on a size
 
@@ -192,17 +191,6 @@ reached-past true x h = let z : _≡_ {A = ℕ} 0 1 = cc in absurd (omega arith)
 reached-past false x h = refl
 
 -- ---- a tree
-
--- what is told of the node at p, at each node that is read there
-abbrev pub NodeReached : List ℕ → ℕ → ℕ → Reached → Type 0
-NodeReached bs p r y = (nd : Node) (q : ℕ) → node (varsOf bs) bs p ≡ got nd q → y ≡ reachedAt (reachHere nd r) (reachBelow nd r)
-
--- the answer on each tree that stands from p on, and on each n trees
-abbrev pub TreeBounded : List ℕ → ℕ → ℕ → Bounded → Type 0
-TreeBounded bs p r t = (e : Expr) (q : ℕ) → At e (varsOf bs) bs p q → t ≡ boundedAt (reach e r) q
-
-abbrev pub TreesBounded : List ℕ → ℕ → ℕ → ℕ → Bounded → Type 0
-TreesBounded bs p r n t = (es : Exprs) (q : ℕ) → AllAt es (varsOf bs) bs p q → branchCount es ≡ n → t ≡ boundedAt (reachAll es r) q
 
 module _ (bs : List ℕ) (p r : ℕ) (y : Reached) (says : NodeReached bs p r y) where
   pub reach-some : 1 ≤ r → Noded (varsOf bs) bs p → (n : ℕ) → y ≡ Within n → 1 ≤ n

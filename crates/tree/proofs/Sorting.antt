@@ -1,9 +1,8 @@
 -- The ways through the walk that judges TYPE: what an operator gives, and for each way the type of the tree or trees from what the code
 -- has found. Assumes nothing.
-use mathlib.Core.Path.{_≡_, refl, sym, ap, _∙_, subst}
+use mathlib.Core.Path.{_≡_, refl, sym, ap, _∙_}
 use Prim.Native.Nat.{ℕ, zero, suc, _+_, _-_, _≤_, _<_}
 use native.Mathlib.Omega.{arith}
-use mathlib.Core.Bool.{Bool, true, false}
 use mathlib.Core.List.{List, [], _∷_}
 use mathlib.Core.Option.{Option, Option.none, some}
 use lib.ListN.{length, getD}
@@ -12,11 +11,11 @@ use lib.Dec.{ltb}
 use borrow.Author.Tests.{lt-ltb, le-ltb}
 use Rattle.alpha.specs.Pick.{ifb}
 use Rattle.alpha.specs.Field.{field}
-use Rattle.alpha.specs.Sheet.{Sort, Sort.integer, Sort.boolean, Unary, Binary, Node, Head, Expr, Exprs}
+use Rattle.alpha.specs.Sheet.{Sort, Sort.integer, Sort.boolean, Binary, Node, Head, Expr, Exprs}
 use Rattle.alpha.specs.Sheet.{Node.nVar, Node.nInt, Node.nBool, Node.nUnary, Node.nBinary, Node.nIf, Node.nCase, Node.nRestr, Node.nDep}
-use Rattle.alpha.specs.Sheet.{Expr.var, Expr.int, Expr.boo, Expr.ite, Exprs.none, Exprs.more, Unary.negate, Binary.plus}
-use Rattle.alpha.specs.Read.{got, node, noHead, unaryOf, binaries, binaryOf, sortOf}
-use Rattle.alpha.specs.Typing.{agree, giving, integers, booleans, unarySort, binarySort, ifSort, typeOf, typesOf, agreeing}
+use Rattle.alpha.specs.Sheet.{Expr.ite, Exprs.none, Exprs.more, Binary.plus}
+use Rattle.alpha.specs.Read.{got, node, noHead, unaryOf, binaries, binaryOf}
+use Rattle.alpha.specs.Typing.{agree, giving, integers, booleans, unarySort, binarySort, ifSort, typeOf, typesOf}
 use Rattle.alpha.specs.Written.{branchCount}
 use Rattle.laws.specs.At.{nodeOf, codeOf, nodeLen, At, AllAt}
 use Rattle.laws.specs.Children.{childrenOf, arity, sortBy}
@@ -28,7 +27,7 @@ use Rattle.laws.proofs.Children.{children-many, at-children, types-more, types-
 use Rattle.tree.specs.declared.Typed.{Typed}
 use Rattle.tree.specs.declared.Typed.the-variants.{Integer, Boolean, Mistyped}
 use Rattle.tree.specs.Standing.{Noded}
-use Rattle.tree.specs.Sorted.{typedAt, asInteger, asBoolean, anyBoolean, IfAt}
+use Rattle.tree.specs.Sorted.{typedAt, asInteger, asBoolean, anyBoolean, IfAt, TreeTyped, TreesTyped, NodeTyped}
 use Rattle.tree.proofs.Noding.{node-of, code-is, arity-leaf-is}
 use Rattle.tree.proofs.Standings.{one-more}
 
@@ -208,14 +207,6 @@ module _ (vars : ℕ) (bs : List ℕ) (p : ℕ) where
 
 -- ---- a tree, by its code
 
--- the answer on each tree that stands from p on
-abbrev pub TreeTyped : List ℕ → ℕ → Typed → Type 0
-TreeTyped bs p t = (e : Expr) (q : ℕ) → At e (varsOf bs) bs p q → t ≡ typedAt (typeOf e (headsOf bs)) q
-
--- the answer on each n trees that stand from p on
-abbrev pub TreesTyped : List ℕ → ℕ → ℕ → Typed → Type 0
-TreesTyped bs p n t = (es : Exprs) (q : ℕ) → AllAt es (varsOf bs) bs p q → branchCount es ≡ n → t ≡ typedAt (typesOf es (headsOf bs)) q
-
 module _ (bs : List ℕ) (p k : ℕ) (long : k ≡ nodeLen bs p) (e : Expr) (q : ℕ) (h : At e (varsOf bs) bs p q) where
   read : node (varsOf bs) bs p ≡ got (nodeOf e) (p + nodeLen bs p)
   read = at-got (varsOf bs) bs e p q h
@@ -261,8 +252,7 @@ module _ (bs : List ℕ) (p k : ℕ) (long : k ≡ nodeLen bs p) (e : Expr) (q :
       rw (v .is) (says (v .test) (v .left) (v .right) q parts)
 
   pub type-other : 3 ≤ natAbs (field bs p) → (natAbs (field bs p) ≡ 5 → ⊥) → (n : ℕ) → ((nd : Node) (o : ℕ) → node (varsOf bs) bs p ≡ got nd o → n ≡ arity nd) →
-      (t : Typed) → TreesTyped bs (p + k) n t → (r : Typed) → ((nd : Node) (o : ℕ) → node (varsOf bs) bs p ≡ got nd o → (s : Option Sort) (m : ℕ) → t ≡ typedAt s m → r ≡ typedAt (sortBy nd s) m) →
-      r ≡ typedAt (typeOf e (headsOf bs)) q
+      (t : Typed) → TreesTyped bs (p + k) n t → (r : Typed) → NodeTyped bs p t r → r ≡ typedAt (typeOf e (headsOf bs)) q
   type-other l five n many t all r by =
       let c = code-is (varsOf bs) bs p (nodeOf e) (p + nodeLen bs p) read in
       let is = all (childrenOf e) q below (children-many e ∙ sym (many (nodeOf e) (p + nodeLen bs p) read)) in

@@ -1,12 +1,11 @@
 -- What a walk knows of the tree that stands at a place: its first node, that its children stand after the node, and of so many trees the
 -- first and the rest. Assumes nothing.
-use mathlib.Core.Path.{_≡_, refl, sym, ap, _∙_}
-use Prim.Native.Nat.{ℕ, zero, suc, _+_, _-_, _≤_, _<_}
+use mathlib.Core.Path.{_≡_, sym, ap, _∙_}
+use Prim.Native.Nat.{ℕ, _+_, _-_, _≤_, _<_}
 use native.Mathlib.Omega.{arith}
 use mathlib.Core.List.{List}
 use lib.ListN.{length}
 use Rattle.alpha.specs.Sheet.{Node, Expr, Exprs}
-use Rattle.alpha.specs.Sheet.{Exprs.none, Exprs.more}
 use Rattle.alpha.specs.Read.{got, node}
 use Rattle.alpha.specs.Written.{branchCount, nodeCount, nodeCounts}
 use Rattle.laws.specs.At.{nodeOf, nodeLen, At, AllAt}

@@ -6,7 +6,7 @@ use mathlib.Core.Bool.{Bool}
 use mathlib.Core.List.{List}
 use lib.ListN.{length}
 use Rattle.alpha.specs.Pick.{ifb}
-use Rattle.alpha.specs.Sheet.{Node, Expr, Exprs}
+use Rattle.alpha.specs.Sheet.{Node}
 use Rattle.alpha.specs.Read.{node}
 use Rattle.alpha.specs.Shape.{Parsed, tree, ill, branches, exprAt, fits, allFit}
 use Rattle.laws.specs.Heads.{InRow}

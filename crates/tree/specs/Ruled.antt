@@ -6,7 +6,7 @@ use lib.ListN.{getD, drop}
 use lib.Dec.{eqb, leb}
 use Rattle.alpha.specs.Pick.{ifb}
 use Rattle.alpha.specs.Answer.{Answer, accepted, refused, next, TYPE, REACH}
-use Rattle.alpha.specs.Sheet.{Head, Declared, Sheet}
+use Rattle.alpha.specs.Sheet.{Declared, Sheet}
 use Rattle.alpha.specs.Read.{noHead}
 use Rattle.alpha.specs.Shape.{Bodied, bodyOf, bodies}
 use Rattle.alpha.specs.Reach.{limit, topReach, rowReach}

@@ -9,21 +9,14 @@ use affine::map_read;
 use affine::row_reach;
 use affine::row_read;
 ghost use mathlib.Core.Path.{_≡_};
-ghost use Prim.Native.Nat.{ℕ, _+_, _*_, _≤_};
+ghost use Prim.Native.Nat.{_+_, _*_, _≤_};
 ghost use lib.ListN.{length};
 ghost use lib.Dec.{leb};
-ghost use Rattle.alpha.specs.Sheet.{Node, Expr, Exprs};
-ghost use Rattle.alpha.specs.Read.{got};
-ghost use Rattle.alpha.specs.Read as Read;
-ghost use Rattle.alpha.specs.Reach.{limit, rowReach, reachAll};
-ghost use Rattle.alpha.specs.Reach as Reach;
-ghost use Rattle.alpha.specs.Written.{branchCount};
+ghost use Rattle.alpha.specs.Reach.{limit, rowReach};
 ghost use Rattle.affine.specs.Reading.{rowFields};
-ghost use Rattle.laws.specs.At.{At, AllAt};
-ghost use Rattle.laws.specs.Children.{reachHere, reachBelow};
 ghost use Rattle.laws.specs.Sheets.{varsOf};
 ghost use Rattle.tree.specs.Standing.{Noded, Standing, StandingAll};
-ghost use Rattle.tree.specs.Bounding.{boundedAt, reachedAt, constraintsReach};
+ghost use Rattle.tree.specs.Bounding.{constraintsReach, NodeReached, TreeBounded, TreesBounded};
 
 // The row of n coefficients at `at` passes no limit where the coordinates reach `around`.
 pub fn row_within(s: &[u8], at: usize, n: usize, around: u64) -> bool
@@ -57,7 +50,7 @@ fn constraints_within(s: &[u8], at: usize, count: usize, n: usize, around: u64) 
 // How far the coordinates reach at the children of the node at `at`, or that the node itself passes the limit.
 fn reach_below(s: &[u8], at: usize, around: u64) -> Reached
     requires { ⌜ Noded (varsOf (now s)) (now s) at × (1 ≤ around) ⌝ }
-    ensures { λ r. ⌜ ((nd : Node) (q : ℕ) → Read.node (varsOf (now (s .entry))) (now (s .entry)) at ≡ got nd q → r ≡ reachedAt (reachHere nd around) (reachBelow nd around)) ⌝ }
+    ensures { λ r. ⌜ NodeReached (now (s .entry)) at around r ⌝ }
 {
     let code = natural(s, at);
     if code == 8 {
@@ -75,7 +68,7 @@ fn reach_below(s: &[u8], at: usize, around: u64) -> Reached
 // The tree at `at`, of at most `left` nodes, where the coordinates reach `around`.
 pub fn reach(s: &[u8], at: usize, left: usize, around: u64) -> Bounded
     requires { ⌜ Standing (varsOf (now s)) (now s) at left × (left ≤ 2048) × (1 ≤ around) ⌝ }
-    ensures { λ r. ⌜ ((e : Expr) (q : ℕ) → At e (varsOf (now (s .entry))) (now (s .entry)) at q → r ≡ boundedAt (Reach.reach e around) q) ⌝ }
+    ensures { λ r. ⌜ TreeBounded (now (s .entry)) at around r ⌝ }
 {
     let r = reach_below(s, at, around);
     let Reached::Within(below) = r else {
@@ -87,7 +80,7 @@ pub fn reach(s: &[u8], at: usize, left: usize, around: u64) -> Bounded
 // `count` trees one after another.
 fn reach_all(s: &[u8], at: usize, left: usize, count: usize, around: u64) -> Bounded
     requires { ⌜ StandingAll (varsOf (now s)) (now s) at left count × (left ≤ 2048) × (count ≤ 64) × (1 ≤ around) ⌝ }
-    ensures { λ r. ⌜ ((es : Exprs) (q : ℕ) → AllAt es (varsOf (now (s .entry))) (now (s .entry)) at q → branchCount es ≡ count → r ≡ boundedAt (reachAll es around) q) ⌝ }
+    ensures { λ r. ⌜ TreesBounded (now (s .entry)) at around count r ⌝ }
 {
     if count < 1 {
         return Bounded::Next(at);

@@ -9,12 +9,11 @@ use sheet::table::keep_body;
 use sheet::table::node_count;
 use sheet::table::third_place;
 use sheet::table::variable_count;
-ghost use mathlib.Core.Path.{_≡_};
-ghost use Prim.Native.Nat.{ℕ, _+_, _≤_, _<_};
+ghost use Prim.Native.Nat.{_+_, _≤_, _<_};
 ghost use Rattle.laws.specs.Sheets.{varsOf};
 ghost use Rattle.tree.specs.Prepared.{Prepared};
 ghost use Rattle.tree.specs.Judged.{Flat, Judges};
-ghost use Rattle.tree.specs.Ruled.{ruled, bodyShape, bodyAt};
+ghost use Rattle.tree.specs.Ruled.{bodyShape, bodyAt};
 ghost use Rattle.tree.specs.Formed.{ShapesFrom, ShapesAll};
 
 // The body of variable v at `at`, with `left` nodes left. An input has none.

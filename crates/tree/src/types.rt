@@ -8,7 +8,7 @@ use alpha::Refusal;
 use sheet::table::body_place;
 use sheet::table::variable_count;
 ghost use mathlib.Core.Path.{_≡_};
-ghost use Prim.Native.Nat.{ℕ, _<_};
+ghost use Prim.Native.Nat.{_<_};
 ghost use Rattle.alpha.specs.Answer.{TYPE};
 ghost use Rattle.alpha.specs.Holds.{variable};
 ghost use Rattle.alpha.specs.Check.{first, typed};

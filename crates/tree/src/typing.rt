@@ -8,17 +8,13 @@ ghost use mathlib.Core.Path.{_≡_};
 ghost use Prim.Native.Nat.{ℕ, _+_, _≤_, _<_};
 ghost use mathlib.Core.Option.{Option, some};
 ghost use lib.ListN.{getD};
-ghost use Rattle.alpha.specs.Sheet.{Sort, Node, Expr, Exprs};
-ghost use Rattle.alpha.specs.Read.{got, noHead, unaryOf, binaryOf};
-ghost use Rattle.alpha.specs.Read as Read;
-ghost use Rattle.alpha.specs.Typing.{unarySort, binarySort, typeOf, typesOf};
-ghost use Rattle.alpha.specs.Written.{branchCount};
-ghost use Rattle.laws.specs.At.{At, AllAt};
-ghost use Rattle.laws.specs.Children.{sortBy};
+ghost use Rattle.alpha.specs.Sheet.{Sort};
+ghost use Rattle.alpha.specs.Read.{noHead, unaryOf, binaryOf};
+ghost use Rattle.alpha.specs.Typing.{unarySort, binarySort};
 ghost use Rattle.laws.specs.Sheets.{headsOf, varsOf};
 ghost use Rattle.tree.specs.Standing.{Noded, Standing, StandingAll};
 ghost use Rattle.tree.specs.Prepared.{Prepared};
-ghost use Rattle.tree.specs.Sorted.{typedAt, asInteger, asBoolean, anyBoolean, IfAt};
+ghost use Rattle.tree.specs.Sorted.{typedAt, asInteger, asBoolean, anyBoolean, IfAt, TreeTyped, TreesTyped, NodeTyped};
 
 // The type of variable v, of a node that ends at `next`.
 fn variable_type(s: &[u8], tab: &[usize; 102], v: usize, next: usize) -> Typed
@@ -91,7 +87,7 @@ fn binary_type(op: usize, t: Typed) -> Typed
 // What the node at `at`, no if, gives for children of the type t.
 fn node_type(s: &[u8], at: usize, t: Typed) -> Typed
     requires { ⌜ Noded (varsOf (now s)) (now s) at ⌝ }
-    ensures { λ r. ⌜ ((nd : Node) (p : ℕ) → Read.node (varsOf (now (s .entry))) (now (s .entry)) at ≡ got nd p → (o : Option Sort) (q : ℕ) → t ≡ typedAt o q → r ≡ typedAt (sortBy nd o) q) ⌝ }
+    ensures { λ r. ⌜ NodeTyped (now (s .entry)) at t r ⌝ }
 {
     let code = natural(s, at);
     if code == 3 {
@@ -106,7 +102,7 @@ fn node_type(s: &[u8], at: usize, t: Typed) -> Typed
 // The type of the tree at `at`, of at most `left` nodes.
 pub fn type_of(s: &[u8], tab: &[usize; 102], at: usize, left: usize) -> Typed
     requires { ⌜ Prepared (now s) (now tab) × Standing (varsOf (now s)) (now s) at left × (left ≤ 2048) ⌝ }
-    ensures { λ r. ⌜ ((e : Expr) (q : ℕ) → At e (varsOf (now (s .entry))) (now (s .entry)) at q → r ≡ typedAt (typeOf e (headsOf (now (s .entry)))) q) ⌝ }
+    ensures { λ r. ⌜ TreeTyped (now (s .entry)) at r ⌝ }
 {
     let code = natural(s, at);
     let next = at + node_len(s, at);
@@ -142,7 +138,7 @@ fn type_if(s: &[u8], tab: &[usize; 102], at: usize, left: usize) -> Typed
 // The type that `count` trees have, which stand one after another from `at` on.
 fn type_all(s: &[u8], tab: &[usize; 102], at: usize, left: usize, count: usize) -> Typed
     requires { ⌜ Prepared (now s) (now tab) × StandingAll (varsOf (now s)) (now s) at left count × (left ≤ 2048) × (1 ≤ count) × (count ≤ 64) ⌝ }
-    ensures { λ r. ⌜ ((es : Exprs) (q : ℕ) → AllAt es (varsOf (now (s .entry))) (now (s .entry)) at q → branchCount es ≡ count → r ≡ typedAt (typesOf es (headsOf (now (s .entry)))) q) ⌝ }
+    ensures { λ r. ⌜ TreesTyped (now (s .entry)) at count r ⌝ }
 {
     let t = type_of(s, tab, at, left);
     if count < 2 {

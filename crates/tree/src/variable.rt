@@ -2,7 +2,7 @@
 use super::node::natural;
 use sheet::table::record_place;
 ghost use mathlib.Core.Path.{_≡_};
-ghost use Prim.Native.Nat.{ℕ, _+_, _≤_, _<_};
+ghost use Prim.Native.Nat.{_+_, _≤_, _<_};
 ghost use lib.ListN.{getD};
 ghost use lib.IntN.{natAbs};
 ghost use Rattle.alpha.specs.Field.{field};

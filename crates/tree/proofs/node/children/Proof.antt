@@ -3,7 +3,6 @@ use mathlib.Core.Path.{_≡_, sym, _∙_}
 use Prim.Native.Nat.{ℕ, _+_, _≤_}
 use native.Mathlib.Omega.{arith}
 use lib.ListN.{length}
-use borrow.Author.Needs.{needs}
 use Rattle.tree.proofs.Noding.{code-there, second-there, arity-leaf-is, arity-two-is, arity-three-is, arity-case-is, arity-one-is}
 use Rattle.tree.proofs.node.children.Statement.{statement}
 use Rattle.tree.proofs.node.children.Tie as tie

@@ -1,8 +1,6 @@
 -- `tree::node_len` meets its contract, code by code. Assumes nothing.
-use mathlib.Core.Path.{_≡_, sym, _∙_}
-use Prim.Native.Nat.{ℕ, _≤_}
+use mathlib.Core.Path.{sym, _∙_}
 use native.Mathlib.Omega.{arith}
-use borrow.Author.Needs.{needs}
 use Rattle.tree.proofs.Noding.{code-there, wide-fields, length-if, length-restriction, length-dependence, length-other}
 use Rattle.tree.proofs.node.node_len.Statement.{statement}
 use Rattle.tree.proofs.node.node_len.Tie as tie

@@ -1,5 +1,4 @@
 -- `tree::wide_len` meets its contract: 64 constraints of 4 coefficients are within an index. Assumes nothing.
-use mathlib.Core.Path.{_≡_, refl}
 use Prim.Native.Nat.{ℕ, _+_, _*_, _≤_}
 use native.Mathlib.Nat.{mul-le-mul}
 use native.Mathlib.Omega.{arith}

@@ -1,6 +1,5 @@
 -- `tree::reach` and `tree::reach_all` meet their contracts: a tree by its node and then by its children. Assumes nothing.
-use Prim.Native.Nat.{ℕ, _+_, _*_, _-_, _<_, _≤_}
-use mathlib.Core.Path.{_≡_, sym, _∙_}
+use Prim.Native.Nat.{ℕ, _+_, _*_, _-_, _<_}
 use native.Mathlib.Omega.{arith}
 use borrow.Author.Needs.{needs}
 use Rattle.tree.proofs.Standings.{standing-noded, standing-some, standing-there, standing-children, children-few, first-standing, rest-standing}
@@ -39,7 +38,16 @@ reach-all-below t =
     and 1 reach-all-kinds.ps (falls 1 reach-all-kinds.ps _<_ μ-reach-all t) reach-all.Pre
 
 abbrev reach-uses : ℕ → reach-lts.Claims
-reach-uses t = (reach-below-reads.Asked, reach-below-reads.Learnt, node-len-reads.Asked, node-len-reads.Learnt, children-reads.Asked, children-reads.Learnt, reach-all-below t, reach-all.Post)
+reach-uses t = (
+  reach-below-reads.Asked,
+  reach-below-reads.Learnt,
+  node-len-reads.Asked,
+  node-len-reads.Learnt,
+  children-reads.Asked,
+  children-reads.Learnt,
+  reach-all-below t,
+  reach-all.Post,
+)
 
 abbrev reach-all-uses : ℕ → reach-all-lts.Claims
 reach-all-uses t = (reach-below t, reach.Post, reach-all-below t, reach-all.Post)
@@ -77,7 +85,8 @@ reach-reach-all-requires t c κs =
     let long = c .before .node-len .ensures in
     let many = c .children .ensures in
     let few = children-few _ _ _ _ (h .0) _ _ long many in
-    let below = reach-some _ _ _ _ (c .before .before .before .before .before .reach-below .ensures) (h .2) (standing-noded _ _ _ _ (h .0)) _ (c .before .before .before .r .given .1) in
+    let says = c .before .before .before .before .before .reach-below .ensures in
+    let below = reach-some _ _ _ _ says (h .2) (standing-noded _ _ _ _ (h .0)) _ (c .before .before .before .r .given .1) in
     (omega arith, (standing-children _ _ _ _ (h .0) _ _ long many, omega arith, few, below))
 
 reach-returns-2 : (t : ℕ) → reach-lts.Need-returns-2 (reach-uses t) (reach-at t) reach.Post
@@ -115,7 +124,10 @@ reach-all-reach-all-requires t c κs =
     (omega arith, (rest-standing _ _ _ _ _ enough (h .0) _ ends, h .1, omega (arith, h .2), h .3))
 
 reach-all-returns-3 : (t : ℕ) → reach-all-lts.Need-returns-3 (reach-all-uses t) (reach-all-at t) reach-all.Post
-reach-all-returns-3 t c = trees-bounded _ _ _ _ (c .before .before .before .before .before .if1 .left) _ (c .before .before .before .before .reach .ensures) _ (c .before .before .r .given .1) _ (c .reach-all .ensures)
+reach-all-returns-3 t c =
+    let enough = c .before .before .before .before .before .if1 .left in
+    let first = c .before .before .before .before .reach .ensures in
+    trees-bounded _ _ _ _ enough _ first _ (c .before .before .r .given .1) _ (c .reach-all .ensures)
 
 pub +reach+reach-all-spec : {M : Type 1} → statement M
 +reach+reach-all-spec = close μ-reach μ-reach-all (λ t. reach-lts.spec (reach-uses t) (reach-at t)

@@ -1,9 +1,8 @@
 -- `tree::reach_below` meets its contract: a dependence by its map, a restriction by its constraints, any other as it is. Assumes nothing.
-use mathlib.Core.Path.{_≡_, sym, ap, _∙_}
-use Prim.Native.Nat.{ℕ, _+_, _*_, _≤_}
+use mathlib.Core.Path.{_≡_, sym, _∙_}
+use Prim.Native.Nat.{_+_}
 use native.Mathlib.Omega.{arith}
-use mathlib.Core.Bool.{Bool, true, false}
-use lib.ListN.{length}
+use mathlib.Core.Bool.{true, false}
 use lib.IntN.{natAbs}
 use borrow.Author.Needs.{needs}
 use Rattle.alpha.specs.Field.{field}

@@ -1,6 +1,5 @@
 -- `tree::row_within` meets its contract: the row that is read is the one that its fields say. Assumes nothing.
-use mathlib.Core.Path.{_≡_, subst}
-use Prim.Native.Nat.{ℕ}
+use mathlib.Core.Path.{subst}
 use borrow.Author.Needs.{needs}
 use Rattle.alpha.specs.Sheet.{Row}
 use Rattle.alpha.specs.Reach.{rowReach}

@@ -1,6 +1,6 @@
 -- `tree::declared_len` meets its contract: the variable is known, and so its dimension. Assumes nothing.
-use mathlib.Core.Path.{_≡_, ap, _∙_}
-use Prim.Native.Nat.{ℕ, _+_, _*_}
+use mathlib.Core.Path.{ap, _∙_}
+use Prim.Native.Nat.{_+_, _*_}
 use native.Mathlib.Omega.{arith}
 use borrow.Author.Needs.{needs}
 use Rattle.alpha.specs.Read.{dimension}
@@ -22,7 +22,7 @@ add-result : tie.Need-add-result
 add-result c = search needs
 
 returns : tie.Need-returns
-returns c = ap (λ d. 24 + 8 * d) (c .dimension-of .ensures .0 ∙ ap (dimension (headsOf (c .before .before .before .args .s .now))) (c .before .natural .ensures))
+returns c =     ap (λ d. 24 + 8 * d) (c .dimension-of .ensures .0 ∙ ap (dimension (headsOf (c .before .before .before .args .s .now))) (c .before .natural .ensures))
 
 pub declared-len-spec : {M : Type 1} → statement M
 declared-len-spec =

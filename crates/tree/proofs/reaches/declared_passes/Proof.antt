@@ -1,11 +1,9 @@
 -- `tree::declared_passes` meets its contract: a constraint of another variable, or its row. Assumes nothing.
 use mathlib.Core.Path.{_≡_, sym, ap, _∙_}
-use Prim.Native.Nat.{ℕ, _+_, _*_, _≤_}
+use Prim.Native.Nat.{_+_}
 use native.Mathlib.Omega.{arith}
-use lib.ListN.{length}
 use lib.IntN.{natAbs}
 use lib.Dec.{leb}
-use borrow.Author.Needs.{needs}
 use Rattle.alpha.specs.Field.{field}
 use Rattle.alpha.specs.Read.{dimension}
 use Rattle.alpha.specs.Reach.{limit, topReach, rowReach}
@@ -31,8 +29,11 @@ dimension-of-requires c κs = (c .before .before .before .pre .0, omega (arith, 
 
 -- the dimension of the constraint's variable
 dimension-is : (c : tie.After-dimension-of) →
-    c .dimension-of .result ≡ dimension (headsOf (c .before .before .before .before .args .s .now)) (natAbs (field (c .before .before .before .before .args .s .now) (c .before .before .before .before .args .at)))
-dimension-is c = c .dimension-of .ensures .0 ∙ ap (dimension (headsOf (c .before .before .before .before .args .s .now))) (c .before .before .natural .ensures)
+    c .dimension-of .result
+    ≡ dimension (headsOf (c .before .before .before .before .args .s .now)) (natAbs (field (c .before .before .before .before .args .s .now) (c .before .before .before .before .args .at)))
+dimension-is c =
+    let bs = c .before .before .before .before .args .s .now in
+    c .dimension-of .ensures .0 ∙ ap (dimension (headsOf bs)) (c .before .before .natural .ensures)
 
 row-within-requires : tie.Need-row-within-requires
 row-within-requires c κs =

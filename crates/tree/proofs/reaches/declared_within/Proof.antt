@@ -1,15 +1,13 @@
 -- `tree::declared_within` meets its contract. The loop's invariant: those that are left stand there and decide. The measure is how many
 -- are left. Assumes nothing.
-use mathlib.Core.Path.{_≡_, sym, ap, _∙_}
-use Prim.Native.Nat.{ℕ, _+_, _-_, _≤_, _<_}
+use mathlib.Core.Path.{_≡_, ap, _∙_}
+use Prim.Native.Nat.{_+_, _-_}
 use native.Mathlib.Omega.{arith}
-use lib.ListN.{length}
 use lib.IntN.{natAbs}
 use borrow.Author.Needs.{needs}
 use borrow.Author.Tests.{not-true, not-false}
 use Rattle.alpha.specs.Field.{field}
 use Rattle.laws.specs.Sheets.{rawOf}
-use Rattle.tree.proofs.Heading.{prepared-sections}
 use Rattle.tree.proofs.Declaring.{DeclaredLeft, all-left, none-declared-left, first-declared, one-declared-fails, one-declared-passes, declared-there, section-there}
 use Rattle.tree.proofs.reaches.declared_within.Statement.{statement}
 use Rattle.tree.proofs.reaches.declared_within.Tie as tie
@@ -42,7 +40,10 @@ declared-passes-requires : tie.Need-declared-passes-requires Inv-loop μ-loop
 declared-passes-requires c κs = (c .before .before .before .before .before .pre, first-declared _ _ _ _ (c .before .loop .inv) (c .loop-test .taken) .read)
 
 returns : tie.Need-returns Inv-loop μ-loop
-returns c = one-declared-fails _ _ _ _ (c .before .before .before .loop .inv) (c .before .before .loop-test .taken) _ (c .before .declared-passes .ensures) (not-true _ (c .if1 .taken))
+returns c =
+    let inv = c .before .before .before .loop .inv in
+    let says = c .before .declared-passes .ensures in
+    one-declared-fails _ _ _ _ inv (c .before .before .loop-test .taken) _ says (not-true _ (c .if1 .taken))
 
 declared-len-requires : tie.Need-declared-len-requires Inv-loop μ-loop
 declared-len-requires c κs = (c .before .before .before .before .before .before .before .pre, first-declared _ _ _ _ (c .before .before .before .loop .inv) (c .before .before .loop-test .taken) .read)
@@ -60,8 +61,9 @@ loop-less c = search needs
 
 loop-again : tie.Need-loop-again Inv-loop μ-loop
 loop-again c =
-    one-declared-passes _ _ _ _ (c .before .before .before .before .loop .inv) (c .before .before .before .loop-test .taken) _ (c .before .before .declared-passes .ensures) (not-false _ (c .before .if1 .left))
-    _ (c .declared-len .ensures)
+    let inv = c .before .before .before .before .loop .inv in
+    let says = c .before .before .declared-passes .ensures in
+    one-declared-passes _ _ _ _ inv (c .before .before .before .loop-test .taken) _ says (not-false _ (c .before .if1 .left)) _ (c .declared-len .ensures)
 
 returns-2 : tie.Need-returns-2 Inv-loop μ-loop
 returns-2 c = none-declared-left _ _ _ _ (c .before .loop .inv) (c .loop-test .left)

@@ -1,6 +1,5 @@
 -- `tree::reach_right` meets its contract: the declared constraints first, then the body. Assumes nothing.
-use mathlib.Core.Path.{_≡_, _∙_}
-use Prim.Native.Nat.{ℕ, _≤_}
+use mathlib.Core.Path.{_≡_}
 use native.Mathlib.Omega.{arith}
 use mathlib.Core.Bool.{false}
 use borrow.Author.Needs.{needs}
@@ -49,14 +48,20 @@ enum-told-2 c = search needs
 returns-3 : tie.Need-returns-3
 returns-3 c =
     let s = c .before .before .before .before .before .before .before .before .before in
-    reach-of-next _ _ (s .pre .0) _ (s .pre .1) _ (c .before .before .before .before .before .before .before .declared-within .ensures) (not-false _ (c .before .before .before .before .before .before .if1 .left))
-    (no-input-here (c .before .before .before .before)) _ (c .before .before .before .body-place .ensures) _ (c .before .before .reach .ensures) _ (c .enum-told .given .1)
+    let declared = c .before .before .before .before .before .before .before .declared-within .ensures in
+    let place = c .before .before .before .body-place .ensures in
+    let says = c .before .before .reach .ensures in
+    reach-of-next _ _ (s .pre .0) _ (s .pre .1) _ declared (not-false _ (c .before .before .before .before .before .before .if1 .left)) (no-input-here (c .before .before .before .before)) _ place _ says _
+    (c .enum-told .given .1)
 
 returns-4 : tie.Need-returns-4
 returns-4 c =
     let s = c .before .before .before .before .before .before .before .before .before in
-    reach-of-beyond _ _ (s .pre .0) _ (s .pre .1) _ (c .before .before .before .before .before .before .before .declared-within .ensures) (not-false _ (c .before .before .before .before .before .before .if1 .left))
-    (no-input-here (c .before .before .before .before)) _ (c .before .before .before .body-place .ensures) _ (c .before .before .reach .ensures) (c .enum-told2 .given .1)
+    let declared = c .before .before .before .before .before .before .before .declared-within .ensures in
+    let place = c .before .before .before .body-place .ensures in
+    let says = c .before .before .reach .ensures in
+    reach-of-beyond _ _ (s .pre .0) _ (s .pre .1) _ declared (not-false _ (c .before .before .before .before .before .before .if1 .left)) (no-input-here (c .before .before .before .before)) _ place _ says
+    (c .enum-told2 .given .1)
 
 pub reach-right-spec : {M : Type 1} → statement M
 reach-right-spec =

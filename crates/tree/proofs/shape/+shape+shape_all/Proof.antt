@@ -1,11 +1,12 @@
 -- `tree::shape` and `tree::shape_all` meet their contracts: a tree is judged by its node and then by its children. Assumes nothing.
-use Prim.Native.Nat.{ℕ, _+_, _*_, _-_, _<_, _≤_}
-use mathlib.Core.Path.{_≡_, refl, sym, ap, _∙_}
+use Prim.Native.Nat.{ℕ, _+_, _*_, _-_, _<_}
+use mathlib.Core.Path.{sym, _∙_}
 use native.Mathlib.Omega.{arith}
 use borrow.Author.Needs.{needs}
 use borrow.Author.Tests.{not-true, not-false}
 use Rattle.laws.proofs.Nodes.{node-next}
-use Rattle.tree.proofs.Judging.{FirstOf, flat-first, noded-few, tree-no-nodes, tree-no-depth, tree-misfit, tree-goes, trees-none, trees-bad, trees-go, bad-judges, fits-judges}
+use Rattle.tree.proofs.Judging.{FirstOf, flat-first, noded-few, tree-no-nodes, tree-no-depth, tree-misfit}
+use Rattle.tree.proofs.Judging.{tree-goes, trees-none, trees-bad, trees-go, bad-judges, fits-judges}
 use borrow.Fn.Kinds.{In}
 use borrow.Fn.PlainCycle.{Measures, is, falls, and}
 use Rattle.tree.proofs.shape.shape.Reads as shape
@@ -41,7 +42,18 @@ shape-all-below t =
     and 2 shape-all-kinds.ps (falls 2 shape-all-kinds.ps _<_ μ-shape-all t) shape-all.Pre
 
 abbrev shape-uses : ℕ → shape-lts.Claims
-shape-uses t = (fits-here-reads.Asked, fits-here-reads.Learnt, node-len-reads.Asked, node-len-reads.Learnt, wanted-below-reads.Asked, wanted-below-reads.Learnt, children-reads.Asked, children-reads.Learnt, shape-all-below t, shape-all.Post)
+shape-uses t = (
+  fits-here-reads.Asked,
+  fits-here-reads.Learnt,
+  node-len-reads.Asked,
+  node-len-reads.Learnt,
+  wanted-below-reads.Asked,
+  wanted-below-reads.Learnt,
+  children-reads.Asked,
+  children-reads.Learnt,
+  shape-all-below t,
+  shape-all.Post,
+)
 
 abbrev shape-all-uses : ℕ → shape-all-lts.Claims
 shape-all-uses t = (shape-below t, shape.Post, shape-all-below t, shape-all.Post)
@@ -53,7 +65,8 @@ shape-returns-2 : (t : ℕ) → shape-lts.Need-returns-2 (shape-uses t) (shape-a
 shape-returns-2 t c = bad-judges _ _ (tree-no-depth _ _ _ _ _ (c .if2 .taken))
 
 -- the first node, and the others after it
-the-first : (t : ℕ) (c : shape-lts.Else2 (shape-uses t) (shape-at t) shape.Post) → FirstOf (c .before .before .before .args .s .now) (c .before .before .before .args .at) (c .before .before .before .args .left)
+the-first : (t : ℕ) (c : shape-lts.Else2 (shape-uses t) (shape-at t) shape.Post) →
+    FirstOf (c .before .before .before .args .s .now) (c .before .before .before .args .at) (c .before .before .before .args .left)
 the-first t c = flat-first _ _ _ (c .before .if1 .left) (c .before .before .before .pre .1 .1)
 
 shape-fits-here-requires : (t : ℕ) → shape-lts.Need-fits-here-requires (shape-uses t) (shape-at t) shape.Post
@@ -64,7 +77,9 @@ shape-returns-3 t c =
     let first = the-first t (c .before .before) in
     let n = first .noded in
     let here = c .before .fits-here .ensures (n .what) (n .next) (n .read) in
-    bad-judges _ _ (tree-misfit _ _ _ _ _ (c .before .before .before .if1 .left) (c .before .before .if2 .left) (n .what) (n .next) (n .read) (sym here ∙ not-true _ (c .if3 .taken)))
+    let nodes = c .before .before .before .if1 .left in
+    let depth = c .before .before .if2 .left in
+    bad-judges _ _ (tree-misfit _ _ _ _ _ nodes depth (n .what) (n .next) (n .read) (sym here ∙ not-true _ (c .if3 .taken)))
 
 shape-node-len-requires : (t : ℕ) → shape-lts.Need-node-len-requires (shape-uses t) (shape-at t) shape.Post
 shape-node-len-requires t c κs = the-first t (c .before .before) .noded
@@ -95,9 +110,11 @@ shape-returns-4 t c =
     let below = c .before .before .wanted-below .ensures .0 (n .what) (n .next) (n .read) in
     let many = c .before .children .ensures (n .what) (n .next) (n .read) in
     let next = node-next _ _ _ (n .what) (n .next) (n .read) in
+    let nodes = c .before .before .before .before .before .before .before .if1 .left in
+    let depth = c .before .before .before .before .before .before .if2 .left in
     let all = c .shape-all .ensures in
     record {
-      is = all .is ∙ rw (long, below, many, ← next) (tree-goes _ _ _ _ _ (c .before .before .before .before .before .before .before .if1 .left) (c .before .before .before .before .before .before .if2 .left) (n .what) (n .next) (n .read) here);
+      is = all .is ∙ rw (long, below, many, ← next) (tree-goes _ _ _ _ _ nodes depth (n .what) (n .next) (n .read) here);
       flat = all .flat;
     }
 

@@ -1,12 +1,9 @@
 -- `tree::fits_here` meets its contract, code by code. Assumes nothing.
-use mathlib.Core.Path.{_≡_, sym, ap, _∙_}
-use Prim.Native.Nat.{ℕ, _+_, _≤_, _<_}
+use mathlib.Core.Path.{ap, _∙_}
+use Prim.Native.Nat.{_+_, _≤_}
 use native.Mathlib.Omega.{arith}
 use lib.ListN.{length}
 use lib.Dec.{eqb}
-use lib.IntN.{natAbs}
-use borrow.Author.Needs.{needs}
-use Rattle.alpha.specs.Field.{field}
 use Rattle.alpha.specs.Read.{dimension}
 use Rattle.laws.specs.Sheets.{headsOf}
 use Rattle.tree.proofs.Noding.{code-there, second-there}

@@ -1,10 +1,9 @@
 -- `tree::wanted_below` meets its contract: below a dependence its rows, elsewhere the same. Assumes nothing.
-use mathlib.Core.Path.{_≡_, sym, _∙_}
-use Prim.Native.Nat.{ℕ, _+_, _≤_}
+use mathlib.Core.Path.{sym, _∙_}
+use Prim.Native.Nat.{_+_, _≤_}
 use native.Mathlib.Omega.{arith}
 use mathlib.Core.List.{[]}
 use lib.ListN.{length}
-use borrow.Author.Needs.{needs}
 use Rattle.tree.proofs.Noding.{code-there, wide-fields}
 use Rattle.tree.proofs.Fitting.{wants-rows, wants-same, wants-few}
 use Rattle.tree.proofs.shape.wanted_below.Statement.{statement}

@@ -1,8 +1,7 @@
 -- `tree::shapes_from` meets its contract: this variable's place is stored, and then those of the others. Assumes nothing.
-use Prim.Native.Nat.{ℕ, _+_, _*_, _-_, _<_, _≤_}
-use mathlib.Core.Path.{_≡_, sym, ap, _∙_}
+use Prim.Native.Nat.{ℕ, _+_, _-_, _<_, _≤_}
+use mathlib.Core.Path.{_≡_, sym, _∙_}
 use native.Mathlib.Omega.{arith}
-use lib.ListN.{length, getD, set}
 use borrow.Author.Needs.{needs}
 use Rattle.laws.specs.Sheets.{varsOf}
 use Rattle.tree.specs.Prepared.{Prepared}
@@ -32,7 +31,16 @@ shapes-from-below t =
     and 2 shapes-from-kinds.ps (falls 2 shapes-from-kinds.ps _<_ μ-shapes-from t) shapes-from.Pre
 
 abbrev shapes-from-uses : ℕ → shapes-from-lts.Claims
-shapes-from-uses t = (keep-body-reads.Asked, keep-body-reads.Learnt, variable-count-reads.Asked, variable-count-reads.Learnt, body-reads.Asked, body-reads.Learnt, shapes-from-below t, shapes-from.Post)
+shapes-from-uses t = (
+  keep-body-reads.Asked,
+  keep-body-reads.Learnt,
+  variable-count-reads.Asked,
+  variable-count-reads.Learnt,
+  body-reads.Asked,
+  body-reads.Learnt,
+  shapes-from-below t,
+  shapes-from.Post,
+)
 
 few : (t : ℕ) (c : shapes-from-lts.Start (shapes-from-uses t) (shapes-from-at t) shapes-from.Post) → c .args .v ≤ 32
 few t c = omega (arith, c .pre .1 .1, prepared-sections _ _ (c .pre .1 .0) .few)

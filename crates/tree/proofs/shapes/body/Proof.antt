@@ -1,8 +1,6 @@
 -- `tree::body` meets its contract: an input has no body, and any other variable the tree of its dimension. Assumes nothing.
-use mathlib.Core.Path.{_≡_, ap, _∙_}
-use Prim.Native.Nat.{ℕ, _≤_}
+use mathlib.Core.Path.{ap, _∙_}
 use native.Mathlib.Omega.{arith}
-use borrow.Author.Needs.{needs}
 use Rattle.tree.specs.Judged.{treeJudged}
 use Rattle.tree.proofs.Judging.{fits-judges}
 use Rattle.tree.proofs.Bodying.{body-input, body-tree}
@@ -28,8 +26,8 @@ returns-2 c =
     let r = c .shape .ensures in
     record {
       is =
-          r .is ∙ ap (treeJudged (s .s .now) (s .at) (s .left) 32) (c .before .dimension-of .ensures .0)
-          ∙ body-tree _ _ _ _ _ (k .0) (k .1) (c .before .before .if1 .left);
+        r .is ∙ ap (treeJudged (s .s .now) (s .at) (s .left) 32) (c .before .dimension-of .ensures .0)
+        ∙ body-tree _ _ _ _ _ (k .0) (k .1) (c .before .before .if1 .left);
       flat = r .flat;
     }
 

@@ -1,6 +1,6 @@
 -- `tree::shapes` meets its contract: it starts at the first node, with all nodes left. Assumes nothing.
-use mathlib.Core.Path.{_≡_, ap, _∙_}
-use Prim.Native.Nat.{ℕ, _+_, _≤_}
+use mathlib.Core.Path.{ap}
+use Prim.Native.Nat.{_+_}
 use native.Mathlib.Omega.{arith}
 use borrow.Author.Needs.{needs}
 use Rattle.tree.proofs.Heading.{prepared-sections}
@@ -23,10 +23,13 @@ node-count-requires c κs = search needs
 shapes-from-requires : tie.Need-shapes-from-requires
 shapes-from-requires c κs =
     let h = c .before .before .before .before .before .before .pre in
-    (h, omega arith, all-flat _ _ h _ _ (ap (λ x. x + 8) (c .before .before .before .third-place .ensures)) (c .before .node-count .ensures))
+    let first = ap (λ x. x + 8) (c .before .before .before .third-place .ensures) in
+    (h, omega arith, all-flat _ _ h _ _ first (c .before .node-count .ensures))
 
 returns : tie.Need-returns
-returns c = all-shaped _ _ (c .before .before .before .before .before .before .before .pre) _ _ (ap (λ x. x + 8) (c .before .before .before .before .third-place .ensures)) (c .before .before .node-count .ensures) _ _ (c .shapes-from .ensures)
+returns c =
+    let first = ap (λ x. x + 8) (c .before .before .before .before .third-place .ensures) in
+    all-shaped _ _ (c .before .before .before .before .before .before .before .pre) _ _ first (c .before .before .node-count .ensures) _ _ (c .shapes-from .ensures)
 
 pub shapes-spec : {M : Type 1} → statement M
 shapes-spec =

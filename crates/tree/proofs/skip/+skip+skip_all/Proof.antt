@@ -1,10 +1,9 @@
 -- `tree::skip` and `tree::skip_all` meet their contracts: the children of a tree end where the tree ends. Assumes nothing.
-use Prim.Native.Nat.{ℕ, _+_, _*_, _-_, _<_, _≤_}
-use mathlib.Core.Path.{_≡_, sym, _∙_}
+use Prim.Native.Nat.{ℕ, _+_, _*_, _-_, _<_}
 use native.Mathlib.Omega.{arith}
-use borrow.Author.Needs.{needs}
 use Rattle.laws.specs.Children.{childrenOf}
-use Rattle.tree.proofs.Standings.{standing-noded, standing-some, standing-there, standing-children, children-few, children-at, children-counted, none-left, one-more, first-standing, rest-standing}
+use Rattle.tree.proofs.Standings.{standing-noded, standing-some, standing-there, standing-children, children-few, children-at}
+use Rattle.tree.proofs.Standings.{children-counted, none-left, one-more, first-standing, rest-standing}
 use borrow.Fn.Kinds.{In}
 use borrow.Fn.PlainCycle.{Measures, is, falls, and}
 use Rattle.tree.proofs.skip.skip.Reads as skip

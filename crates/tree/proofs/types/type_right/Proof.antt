@@ -1,6 +1,5 @@
 -- `tree::type_right` meets its contract: the body's type is the one that the record says. Assumes nothing.
-use mathlib.Core.Path.{_≡_, _∙_}
-use Prim.Native.Nat.{ℕ, _≤_}
+use mathlib.Core.Path.{_≡_}
 use native.Mathlib.Omega.{arith}
 use mathlib.Core.Bool.{false}
 use borrow.Author.Needs.{needs}
@@ -49,21 +48,24 @@ returns-2 : tie.Need-returns-2
 returns-2 c =
     let s = c .before .before .before .before .before .before .before .before in
     let k = c .sort-of .ensures in
-    type-of-integer _ _ (s .pre .0) _ (s .pre .1) (no-input-here (c .before .before .before .before .before)) _ (c .before .before .before .before .body-place .ensures) _ (c .before .before .before .type-of .ensures)
-    _ (c .before .enum-told .given .1) _ (k .0) (k .1)
+    let place = c .before .before .before .before .body-place .ensures in
+    let says = c .before .before .before .type-of .ensures in
+    type-of-integer _ _ (s .pre .0) _ (s .pre .1) (no-input-here (c .before .before .before .before .before)) _ place _ says _ (c .before .enum-told .given .1) _ (k .0) (k .1)
 
 returns-3 : tie.Need-returns-3
 returns-3 c =
     let s = c .before .before .before .before .before .before .before .before in
     let k = c .sort-of2 .ensures in
-    type-of-boolean _ _ (s .pre .0) _ (s .pre .1) (no-input-here (c .before .before .before .before .before)) _ (c .before .before .before .before .body-place .ensures) _ (c .before .before .before .type-of .ensures)
-    _ (c .before .enum-told2 .given .1) _ (k .0) (k .1)
+    let place = c .before .before .before .before .body-place .ensures in
+    let says = c .before .before .before .type-of .ensures in
+    type-of-boolean _ _ (s .pre .0) _ (s .pre .1) (no-input-here (c .before .before .before .before .before)) _ place _ says _ (c .before .enum-told2 .given .1) _ (k .0) (k .1)
 
 returns-4 : tie.Need-returns-4
 returns-4 c =
     let s = c .before .before .before .before .before .before .before in
-    type-of-none _ _ (s .pre .0) _ (s .pre .1) (no-input-here (c .before .before .before .before)) _ (c .before .before .before .body-place .ensures) _ (c .before .before .type-of .ensures)
-    (c .enum-told3 .given .1)
+    let place = c .before .before .before .body-place .ensures in
+    let says = c .before .before .type-of .ensures in
+    type-of-none _ _ (s .pre .0) _ (s .pre .1) (no-input-here (c .before .before .before .before)) _ place _ says (c .enum-told3 .given .1)
 
 pub type-right-spec : {M : Type 1} → statement M
 type-right-spec =

@@ -1,6 +1,6 @@
 -- `tree::type_of`, `tree::type_if` and `tree::type_all` meet their contracts: a tree's type from its children's. Assumes nothing.
 use Prim.Native.Nat.{ℕ, _+_, _*_, _-_, _<_, _≤_}
-use mathlib.Core.Path.{_≡_, refl, sym, ap, _∙_}
+use mathlib.Core.Path.{sym, ap, _∙_}
 use native.Mathlib.Omega.{arith}
 use lib.ListN.{length, getD}
 use borrow.Author.Needs.{needs}
@@ -12,7 +12,8 @@ use Rattle.tree.proofs.Noding.{code-there, second-there, arity-three-is
 use Rattle.tree.proofs.Heading.{prepared-sections}
 use Rattle.tree.proofs.Fitting.{variable-known}
 use Rattle.tree.proofs.Standings.{standing-noded, standing-some, standing-there, standing-children, children-few, first-standing, rest-standing}
-use Rattle.tree.proofs.Sorting.{type-variable, type-integer, type-boolean, type-if, type-other, integer-first, boolean-first, types-last, types-integer, types-boolean, types-none, if-boolean, if-integer, if-mistyped}
+use Rattle.tree.proofs.Sorting.{type-variable, type-integer, type-boolean, type-if, type-other, integer-first, boolean-first}
+use Rattle.tree.proofs.Sorting.{types-last, types-integer, types-boolean, types-none, if-boolean, if-integer, if-mistyped}
 use borrow.Fn.Kinds.{In}
 use borrow.Fn.PlainCycle.{Measures, is, falls, and}
 use Rattle.tree.proofs.typing.type_all.Reads as type-all
@@ -63,13 +64,37 @@ abbrev type-of-below : ℕ → In 2 type-of-kinds.ps
 type-of-below t = and 2 type-of-kinds.ps (falls 2 type-of-kinds.ps _<_ μ-type-of t) type-of.Pre
 
 abbrev type-all-uses : ℕ → type-all-lts.Claims
-type-all-uses t = (type-of-below t, type-of.Post, type-all-below t, type-all.Post, as-integer-reads.Asked, as-integer-reads.Learnt, as-boolean-reads.Asked, as-boolean-reads.Learnt)
+type-all-uses t = (
+  type-of-below t,
+  type-of.Post,
+  type-all-below t,
+  type-all.Post,
+  as-integer-reads.Asked,
+  as-integer-reads.Learnt,
+  as-boolean-reads.Asked,
+  as-boolean-reads.Learnt,
+)
 
 abbrev type-if-uses : ℕ → type-if-lts.Claims
 type-if-uses t = (type-of-below t, type-of.Post, type-all-below t, type-all.Post)
 
 abbrev type-of-uses : ℕ → type-of-lts.Claims
-type-of-uses t = (natural-reads.Asked, natural-reads.Learnt, node-len-reads.Asked, node-len-reads.Learnt, variable-type-reads.Asked, variable-type-reads.Learnt, type-if-below t, type-if.Post, children-reads.Asked, children-reads.Learnt, type-all-below t, type-all.Post, node-type-reads.Asked, node-type-reads.Learnt)
+type-of-uses t = (
+  natural-reads.Asked,
+  natural-reads.Learnt,
+  node-len-reads.Asked,
+  node-len-reads.Learnt,
+  variable-type-reads.Asked,
+  variable-type-reads.Learnt,
+  type-if-below t,
+  type-if.Post,
+  children-reads.Asked,
+  children-reads.Learnt,
+  type-all-below t,
+  type-all.Post,
+  node-type-reads.Asked,
+  node-type-reads.Learnt,
+)
 
 type-all-type-of-requires : (t : ℕ) → type-all-lts.Need-type-of-requires (type-all-uses t) (type-all-at t) type-all.Post
 type-all-type-of-requires t c κs =
@@ -178,7 +203,8 @@ type-of-add-next : (t : ℕ) → type-of-lts.Need-add-next (type-of-uses t) (typ
 type-of-add-next t c = omega (arith, standing-there _ _ _ _ (c .before .before .before .pre .1 .1), c .node-len .ensures)
 
 -- a variable's number is there
-number-there : (t : ℕ) (c : type-of-lts.Then1 (type-of-uses t) (type-of-at t) type-of.Post) → c .before .before .before .before .args .at + 16 ≤ length (c .before .before .before .before .args .s .now)
+number-there : (t : ℕ) (c : type-of-lts.Then1 (type-of-uses t) (type-of-at t) type-of.Post) →
+    c .before .before .before .before .args .at + 16 ≤ length (c .before .before .before .before .args .s .now)
 number-there t c =
     let is = c .before .before .natural .ensures in
     second-there _ _ _ (standing-noded _ _ _ _ (c .before .before .before .before .pre .1 .1)) (λ e. omega (arith, c .if1 .taken))

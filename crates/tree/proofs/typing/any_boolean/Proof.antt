@@ -1,5 +1,5 @@
 -- `tree::any_boolean` meets its contract: each case as it is. Assumes nothing.
-use mathlib.Core.Path.{_≡_, sym, ap}
+use mathlib.Core.Path.{sym, ap}
 use borrow.Author.Needs.{needs}
 use Rattle.tree.specs.Sorted.{anyBoolean}
 use Rattle.tree.proofs.typing.any_boolean.Statement.{statement}

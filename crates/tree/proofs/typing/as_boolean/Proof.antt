@@ -1,7 +1,7 @@
 -- `tree::as_boolean` meets its contract: each case as it is. Assumes nothing.
-use mathlib.Core.Path.{_≡_, sym, ap}
+use mathlib.Core.Path.{sym, ap}
 use borrow.Author.Needs.{needs}
-use Rattle.tree.specs.Sorted.{asInteger, asBoolean, anyBoolean}
+use Rattle.tree.specs.Sorted.{asBoolean}
 use Rattle.tree.proofs.typing.as_boolean.Statement.{statement}
 use Rattle.tree.proofs.typing.as_boolean.Tie as tie
 

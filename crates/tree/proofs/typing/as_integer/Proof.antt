@@ -1,7 +1,7 @@
 -- `tree::as_integer` meets its contract: each case as it is. Assumes nothing.
-use mathlib.Core.Path.{_≡_, sym, ap}
+use mathlib.Core.Path.{sym, ap}
 use borrow.Author.Needs.{needs}
-use Rattle.tree.specs.Sorted.{asInteger, asBoolean, anyBoolean}
+use Rattle.tree.specs.Sorted.{asInteger}
 use Rattle.tree.proofs.typing.as_integer.Statement.{statement}
 use Rattle.tree.proofs.typing.as_integer.Tie as tie
 

@@ -1,5 +1,5 @@
 -- `tree::binary_type` meets its contract, group by group. Assumes nothing.
-use mathlib.Core.Path.{_≡_, ap, _∙_}
+use mathlib.Core.Path.{ap, _∙_}
 use borrow.Author.Needs.{needs}
 use Rattle.tree.specs.Sorted.{anyBoolean}
 use Rattle.tree.proofs.Sorting.{binary-integer, binary-any, binary-order, binary-boolean, integers-at, booleans-at, any-at, order-at}

@@ -1,9 +1,8 @@
 -- `tree::node_type` meets its contract: an operator's own rule, and of any other node the type as it is. Assumes nothing.
-use mathlib.Core.Path.{_≡_, sym, ap, _∙_}
-use Prim.Native.Nat.{ℕ, _+_, _≤_}
+use mathlib.Core.Path.{sym, ap, _∙_}
+use Prim.Native.Nat.{_+_, _≤_}
 use native.Mathlib.Omega.{arith}
 use lib.ListN.{length}
-use borrow.Author.Needs.{needs}
 use Rattle.alpha.specs.Read.{unaryOf, binaryOf}
 use Rattle.alpha.specs.Typing.{unarySort, binarySort}
 use Rattle.tree.specs.Sorted.{typedAt}

@@ -1,5 +1,5 @@
 -- `tree::unary_type` meets its contract, operator by operator. Assumes nothing.
-use mathlib.Core.Path.{_≡_, _∙_}
+use mathlib.Core.Path.{_∙_}
 use borrow.Author.Needs.{needs}
 use Rattle.tree.proofs.Sorting.{unary-integer, unary-boolean, integers-at, booleans-at}
 use Rattle.tree.proofs.typing.unary_type.Statement.{statement}

@@ -1,8 +1,6 @@
 -- `tree::dimension_of` meets its contract: the field says the dimension. Assumes nothing.
-use mathlib.Core.Path.{_≡_, sym, ap, _∙_}
-use Prim.Native.Nat.{ℕ, _≤_}
+use mathlib.Core.Path.{_∙_}
 use native.Mathlib.Omega.{arith}
-use borrow.Author.Needs.{needs}
 use Rattle.tree.proofs.Heading.{prepared-record}
 use Rattle.tree.proofs.variable.dimension_of.Statement.{statement}
 use Rattle.tree.proofs.variable.dimension_of.Tie as tie

@@ -1,9 +1,8 @@
 -- `tree::record_field` meets its contract: the variable's record stands where the table says. Assumes nothing.
-use mathlib.Core.Path.{_≡_, ap, _∙_}
-use Prim.Native.Nat.{ℕ, _+_, _<_}
+use mathlib.Core.Path.{ap, _∙_}
+use Prim.Native.Nat.{_+_}
 use native.Mathlib.Omega.{arith}
 use lib.IntN.{natAbs}
-use borrow.Author.Needs.{needs}
 use Rattle.alpha.specs.Field.{field}
 use Rattle.tree.proofs.Heading.{prepared-record, prepared-few}
 use Rattle.tree.proofs.variable.record_field.Statement.{statement}

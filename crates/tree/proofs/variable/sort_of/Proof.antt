@@ -1,8 +1,6 @@
 -- `tree::sort_of` meets its contract: the field says the type. Assumes nothing.
-use mathlib.Core.Path.{_≡_, sym, ap, _∙_}
-use Prim.Native.Nat.{ℕ, _≤_}
+use mathlib.Core.Path.{sym, ap, _∙_}
 use native.Mathlib.Omega.{arith}
-use borrow.Author.Needs.{needs}
 use Rattle.alpha.specs.Read.{sortOf}
 use Rattle.tree.proofs.Heading.{prepared-record}
 use Rattle.tree.proofs.variable.sort_of.Statement.{statement}
