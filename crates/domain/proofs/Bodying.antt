@@ -12,6 +12,7 @@ use Rattle.alpha.specs.Pick.{ifb}
 use Rattle.alpha.specs.Sheet.{Range, Sheet, Point}
 use Rattle.alpha.specs.Affine.{meetsAll}
 use Rattle.alpha.specs.Box.{size, inBox, index, pointAt}
+use Rattle.alpha.specs.Read.{dimension}
 use Rattle.alpha.specs.Holds.{variable, isInput, inDomain}
 use Rattle.alpha.specs.Reach.{topReach}
 use Rattle.alpha.specs.Ask.{before, numberOf}
@@ -31,7 +32,7 @@ use Rattle.domain.specs.Inside.{Inside, bit}
 use Rattle.domain.specs.Element.{bodyStanding}
 use Rattle.domain.proofs.Records.{VariableLaid, laid-variable}
 
-near-each : (r : ℕ) (z : Point) → ((i : ℕ) → natAbs (getD z i (pos 0)) ≤ r) → Near r z
+pub near-each : (r : ℕ) (z : Point) → ((i : ℕ) → natAbs (getD z i (pos 0)) ≤ r) → Near r z
 near-each r [] h = tt
 near-each r (x ∷ z) h = (h 0, near-each r z (λ i. h (suc i)))
 
@@ -44,6 +45,13 @@ module _ (bs tab : List ℕ) (v i : ℕ) (h : VariableLaid bs tab v) (low : i < 
 
   in-box : inBox box point ≡ true
   in-box = pointAt-inBox box i (readBox-ordered box (h .box-read)) low
+
+  -- the code's point is the i-th of the box
+  pub point-at : (z : List Int) → PointAt bs (getD tab v 0) i z → pointOf (dimension (headsOf bs) v) z ≡ point
+  point-at z at = ap (λ n. pointOf n z) (sym (h .dims-are)) ∙ at .is ∙ ap (λ b. pointAt b i) (h .box-is)
+
+  pub point-inside : (z : List Int) → PointAt bs (getD tab v 0) i z → inBox box (pointOf (dimension (headsOf bs) v) z) ≡ true
+  point-inside z at = ap (inBox box) (point-at z at) ∙ in-box
 
   pub number-low : getD tab (32 + v) 0 + i < 4096
   number-low = omega (arith, h .first-is, h .few)

@@ -8,3 +8,4 @@ pub mod Ways
 pub mod Choices
 pub mod Checking
 pub mod Bodying
+pub mod Filled

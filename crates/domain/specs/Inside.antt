@@ -16,5 +16,6 @@ bit false = 0
 
 -- 1 where the declared constraints hold, 0 where they do not
 pub record Inside (s : Sheet) (inside : List ℕ) : Type 0 where
+  pub sized : length inside ≡ 4096
   pub says : (v : ℕ) (z : Point) → v < length s → inBox (variable s v .head .box) z ≡ true →
       getD inside (numberOf s v z) 0 ≡ bit (meetsAll (variable s v .declared) z)

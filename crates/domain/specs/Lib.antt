@@ -5,3 +5,4 @@ pub mod Inside
 pub mod Constraints
 pub mod Holding
 pub mod Element
+pub mod Filling

@@ -2,6 +2,7 @@
 pub mod constraint;
 pub mod faults;
 pub mod holding;
+pub mod inside;
 mod join;
 pub mod leaf;
 pub mod stand;
