@@ -83,7 +83,8 @@ module _ (bs tab : List ℕ) (v i : ℕ) (h : VariableLaid bs tab v) (low : i < 
 
   -- ---- its walk
 
-  module _ (f : Formed bs tab) (lt : v < varsOf bs) (input : isInput (variable (sheetOf bs) v) ≡ false) (z : List Int) (at : PointAt bs (getD tab v 0) i z) (place : ℕ) (place-is : place ≡ getD tab (69 + v) 0) where
+  module _ (f : Formed bs tab) (lt : v < varsOf bs) (input : isInput (variable (sheetOf bs) v) ≡ false) (z : List Int)
+      (at : PointAt bs (getD tab v 0) i z) (place : ℕ) (place-is : place ≡ getD tab (69 + v) 0) where
     dims : dimensionAt bs (getD tab v 0) ≡ length box
     dims = h .dims-are ∙ ap (λ x. length (x .box)) (sym (h .head-is))
 

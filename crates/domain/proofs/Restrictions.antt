@@ -32,8 +32,9 @@ use Rattle.affine.specs.Reading.{rowFields}
 use Rattle.affine.proofs.Meaning.{row-same}
 use Rattle.affine.proofs.Several.{length-several, getD-several, rowSize-neat}
 use Rattle.affine.proofs.Bounds.{rowSize-near}
+use Rattle.tree.specs.Standing.{Wide}
 use Rattle.domain.specs.Walk.{Walk}
-use Rattle.domain.specs.Constraints.{constraintFields, constraintsFields, Testable, AllTestable}
+use Rattle.domain.specs.Constraints.{constraintFields, constraintsFields, Testable, AllTestable, RestrictionTestable}
 use Rattle.domain.proofs.Walks.{code-field}
 
 -- ---- what the fields say
@@ -152,11 +153,16 @@ module _ (bs : List ℕ) (p : ℕ) where
     count-here = ap nodeCount (here .is)
 
     -- its constraints can be tested
-    pub restriction-testable : AllTestable (natAbs (field bs (p + 16))) bs (p + 24) (natAbs (field bs (p + 8))) (pointOf (natAbs (field bs (p + 8))) z)
-    restriction-testable =
-        rw (← counted-is (here .fields .many), ← counted-is (here .fields .dim))
-        (constraints-testable (here .dim) bs (here .fields .dim .high) (h .bound) (pointOf (here .dim) z) (rw dims-are (h .point .near))
-        (here .given) (p + 24) (λ i lt c. restr-constraint (here .fields) i lt c) (&&-left (allReach (h .bound) (here .given)) (reach (here .child) (h .bound)) reach-here))
+    pub restriction-testable : Wide bs p → RestrictionTestable bs p z
+    restriction-testable w = record {
+      there = w .there;
+      few = w .dim;
+      all =
+          rw (← counted-is (here .fields .many), ← counted-is (here .fields .dim))
+          (constraints-testable (here .dim) bs (here .fields .dim .high) (h .bound) (pointOf (here .dim) z) (rw dims-are (h .point .near))
+          (here .given) (p + 24) (λ i lt c. restr-constraint (here .fields) i lt c)
+          (&&-left (allReach (h .bound) (here .given)) (reach (here .child) (h .bound)) reach-here));
+    }
 
     -- and its child may be walked at the same point
     pub restriction-walk : Walk bs (p + nodeLen bs p) (left - 1) z

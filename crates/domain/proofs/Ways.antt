@@ -34,7 +34,7 @@ use Rattle.domain.specs.declared.Standing.{Standing}
 use Rattle.domain.specs.declared.Standing.the-variants.{Not, Holds, Clash}
 use Rattle.domain.specs.declared.Stood.{Stood}
 use Rattle.domain.specs.Standing.{rated, standing, joined, alone, together, StandsAt, StandTogether}
-use Rattle.domain.specs.Constraints.{constraintsFields}
+use Rattle.domain.specs.Constraints.{restrictionMet}
 use Rattle.domain.proofs.Standings.{joined-alone, joined-assoc, alone-joined, operands-stand, branches-stand, restriction-stands, restriction-not, dependence-stands}
 use Rattle.domain.proofs.Walks.{tree-code, code-field, children-fit}
 use Rattle.domain.proofs.Restrictions.{restriction-says}
@@ -139,8 +139,7 @@ module _ (bs : List ℕ) (p k : ℕ) (z : List Int) (long : k ≡ nodeLen bs p) 
       fit-below c b g = (eqb-true c n (&&-left (eqb c n) b g), &&-right (eqb c n) b g)
 
   -- a restriction, whose constraints hold or not
-  module _ (code : natAbs (field bs p) ≡ 7) (met : Bool)
-      (is : met ≡ meetsAll (constraintsFields (natAbs (field bs (p + 16))) (natAbs (field bs (p + 8))) bs (p + 24)) (pointOf (natAbs (field bs (p + 8))) z)) where
+  module _ (code : natAbs (field bs p) ≡ 7) (met : Bool) (is : met ≡ restrictionMet bs p z) where
     module _ (e : Expr) (q n : ℕ) (h : At e (varsOf bs) bs p q) (f : fits e (headsOf bs) n ≡ true) where
       here : RestrAt e (varsOf bs) bs p q
       here = at-restr (varsOf bs) bs e p q h (code-field bs p e q 7 h code)

@@ -2,13 +2,10 @@
 use alpha::Int;
 use tree::node::natural;
 ghost use mathlib.Core.Path.{_≡_};
-ghost use Prim.Native.Nat.{ℕ, _+_, _*_, _≤_};
-ghost use lib.ListN.{length};
-ghost use lib.IntN.{natAbs};
-ghost use Rattle.alpha.specs.Field.{field};
+ghost use Prim.Native.Nat.{_≤_};
 ghost use Rattle.alpha.specs.Affine as Affine;
 ghost use Rattle.affine.specs.Value.{pointOf};
-ghost use Rattle.domain.specs.Constraints.{constraintFields, constraintsFields, Testable, AllTestable};
+ghost use Rattle.domain.specs.Constraints.{constraintFields, constraintsFields, restrictionMet, Testable, AllTestable, RestrictionTestable};
 
 // Whether the constraint of n coefficients at `at` holds at z.
 pub fn meets(s: &[u8], at: usize, n: usize, z: [Int; 4]) -> bool
@@ -39,8 +36,8 @@ pub fn meets_all(s: &[u8], at: usize, count: usize, n: usize, z: [Int; 4]) -> bo
 
 // Whether the constraints of the restriction at `at` hold at z.
 pub fn restriction_meets(s: &[u8], at: usize, z: [Int; 4]) -> bool
-    requires { ⌜ (at + 24 ≤ length (now s)) × (natAbs (field (now s) (at + 8)) ≤ 4) × AllTestable (natAbs (field (now s) (at + 16))) (now s) (at + 24) (natAbs (field (now s) (at + 8))) (pointOf (natAbs (field (now s) (at + 8))) z) ⌝ }
-    ensures { λ r. ⌜ r ≡ Affine.meetsAll (constraintsFields (natAbs (field (now (s .entry)) (at + 16))) (natAbs (field (now (s .entry)) (at + 8))) (now (s .entry)) (at + 24)) (pointOf (natAbs (field (now (s .entry)) (at + 8))) z) ⌝ }
+    requires { ⌜ RestrictionTestable (now s) at z ⌝ }
+    ensures { λ r. ⌜ r ≡ restrictionMet (now (s .entry)) at z ⌝ }
 {
     let n = natural(s, at + 8);
     let count = natural(s, at + 16);

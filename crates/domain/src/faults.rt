@@ -20,7 +20,7 @@ ghost use Rattle.laws.specs.Sheets.{varsOf, sheetOf};
 ghost use Rattle.tree.specs.Ruled.{ruled};
 ghost use Rattle.tree.specs.Formed.{Formed};
 ghost use Rattle.domain.specs.Inside.{Inside};
-ghost use Rattle.domain.specs.Element.{isClear, faultOf, bodyStanding, elementsOf};
+ghost use Rattle.domain.specs.Element.{isClear, faultOf, bodyStanding, elementsOf, BodyPoint};
 
 fn is_clear(how: Standing) -> bool
     ensures { λ r. ⌜ r ≡ isClear how ⌝ }
@@ -52,7 +52,7 @@ fn body_stands(
     size: usize,
     i: usize,
 ) -> Standing
-    requires { ⌜ Formed (now s) (now tab) × Inside (sheetOf (now s)) (now inside) × (v < varsOf (now s)) × (isInput (variable (sheetOf (now s)) v) ≡ false) × (size ≡ Box.size (variable (sheetOf (now s)) v .head .box)) × (i < size) ⌝ }
+    requires { ⌜ Formed (now s) (now tab) × Inside (sheetOf (now s)) (now inside) × BodyPoint (now s) v size i ⌝ }
     ensures { λ r. ⌜ r ≡ bodyStanding (sheetOf (now (s .entry))) v (Box.pointAt (variable (sheetOf (now (s .entry))) v .head .box) i) ⌝ }
 {
     let n = first_element(tab, v) + i;

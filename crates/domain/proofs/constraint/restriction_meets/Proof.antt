@@ -23,7 +23,7 @@ add-meets-all c = search needs
 meets-all-requires : tie.Need-meets-all-requires
 meets-all-requires c κs =
     let s = c .before .before .before in
-    rw (c .natural2 .ensures, c .before .natural .ensures) (s .pre .1, s .pre .2)
+    rw (c .natural2 .ensures, c .before .natural .ensures) (s .pre .few, s .pre .all)
 
 returns : tie.Need-returns
 returns c = c .meets-all .ensures ∙ rw (c .before .natural2 .ensures, c .before .before .natural .ensures)

@@ -14,11 +14,11 @@ use Rattle.domain.proofs.faults.body_stands.Tie as tie
 
 -- the variable
 laid : (c : tie.Start) → VariableLaid (c .args .s .now) (c .args .tab .now) (c .args .v)
-laid c = laid-variable _ _ (c .pre .0 .placed) _ (c .pre .2)
+laid c = laid-variable _ _ (c .pre .0 .placed) _ (c .pre .2 .known)
 
 -- the point is one of its box
 low : (c : tie.Start) → c .args .i < size (variable (sheetOf (c .args .s .now)) (c .args .v) .head .box)
-low c = omega (arith, c .pre .4, c .pre .5)
+low c = omega (arith, c .pre .2 .many, c .pre .2 .low)
 
 first-element-requires : tie.Need-first-element-requires
 first-element-requires c κs = omega (arith, laid (c .before) .low)
@@ -36,7 +36,7 @@ point-requires : tie.Need-point-requires
 point-requires c κs =
     let s = c .before .before .before .before .before in
     let l = laid s in
-    rw (c .record-place .ensures) (l .recorded, rw (l .box-is) (s .pre .4), omega (arith, l .few, s .pre .4), s .pre .5)
+    rw (c .record-place .ensures) (l .recorded, rw (l .box-is) (s .pre .2 .many), omega (arith, l .few, s .pre .2 .many), s .pre .2 .low)
 
 body-place-requires : tie.Need-body-place-requires
 body-place-requires c κs = omega (arith, laid (c .before .before .before .before .before .before) .low)
@@ -45,14 +45,14 @@ stand-requires : tie.Need-stand-requires
 stand-requires c κs =
     let s = c .before .before .before .before .before .before .before in
     let at = rw (c .before .before .record-place .ensures) at (c .before .point .ensures) in
-    (s .pre .0 .placed, s .pre .1, body-walk _ _ _ _ (laid s) (low s) (s .pre .0) (s .pre .2) (s .pre .3) _ at _ (c .body-place .ensures), omega arith)
+    (s .pre .0 .placed, s .pre .1, body-walk _ _ _ _ (laid s) (low s) (s .pre .0) (s .pre .2 .known) (s .pre .2 .no-input) _ at _ (c .body-place .ensures), omega arith)
 
 returns : tie.Need-returns
 returns c =
     let s = c .before .before .before .before .before .before .before .before in
     let at = rw (c .before .before .before .record-place .ensures) at (c .before .before .point .ensures) in
     let one = rw (c .before .before .before .before .before .before .first-element .ensures) at (c .before .before .before .before .if1 .taken) in
-    body-way _ _ _ _ (laid s) (low s) (s .pre .0) (s .pre .2) (s .pre .3) _ at _ (c .before .body-place .ensures) _ (c .stand .ensures)
+    body-way _ _ _ _ (laid s) (low s) (s .pre .0) (s .pre .2 .known) (s .pre .2 .no-input) _ at _ (c .before .body-place .ensures) _ (c .stand .ensures)
     ∙ byte-asks _ _ _ _ (laid s) (low s) _ (s .pre .1) one
 
 returns-2 : tie.Need-returns-2

@@ -93,7 +93,8 @@ loop-again c =
     let at = rw (in-loop .before .before .record-place .ensures) at (c .before .before .before .point .ensures) in
     let is = point-at _ _ _ _ (laid s) (low in-loop) _ at in
     let met = c .before .before .all-declared-meet .ensures ∙ ap (meetsAll (variable (sheetOf (s .args .s .now)) (s .args .v) .declared)) is in
-    fill-one _ _ _ _ _ _ _ (laid s .known) (in-loop .before .loop .inv) (ap (λ n. n + in-loop .before .loop .i) (first-is (in-loop .before .before .before .before))) (number-low in-loop) met (c .keep .ensures)
+    let number = ap (λ n. n + in-loop .before .loop .i) (first-is (in-loop .before .before .before .before)) in
+    fill-one _ _ _ _ _ _ _ (laid s .known) (in-loop .before .loop .inv) number (number-low in-loop) met (c .keep .ensures)
 
 returns : tie.Need-returns Inv-loop μ-loop
 returns c = fill-all _ _ _ _ (omega (arith, size-is (c .before .before .before), c .loop-test .left)) (c .before .loop .inv)

@@ -56,7 +56,30 @@ stand-all-below t =
     and 3 stand-all-kinds.ps (falls 3 stand-all-kinds.ps _<_ μ-stand-all t) stand-all.Pre
 
 abbrev stand-uses : ℕ → stand-lts.Claims
-stand-uses t = (natural-reads.Asked, natural-reads.Learnt, node-len-reads.Asked, node-len-reads.Learnt, leaf-stands-reads.Asked, leaf-stands-reads.Learnt, children-reads.Asked, children-reads.Learnt, alone-reads.Asked, alone-reads.Learnt, stand-all-below t, stand-all.Post, map-read-reads.Asked, map-read-reads.Learnt, apply-reads.Asked, apply-reads.Learnt, stand-below t, stand.Post, restriction-meets-reads.Asked, restriction-meets-reads.Learnt, skip-reads.Asked, skip-reads.Learnt)
+stand-uses t = (
+  natural-reads.Asked,
+  natural-reads.Learnt,
+  node-len-reads.Asked,
+  node-len-reads.Learnt,
+  leaf-stands-reads.Asked,
+  leaf-stands-reads.Learnt,
+  children-reads.Asked,
+  children-reads.Learnt,
+  alone-reads.Asked,
+  alone-reads.Learnt,
+  stand-all-below t,
+  stand-all.Post,
+  map-read-reads.Asked,
+  map-read-reads.Learnt,
+  apply-reads.Asked,
+  apply-reads.Learnt,
+  stand-below t,
+  stand.Post,
+  restriction-meets-reads.Asked,
+  restriction-meets-reads.Learnt,
+  skip-reads.Asked,
+  skip-reads.Learnt,
+)
 
 abbrev stand-all-uses : ℕ → stand-all-lts.Claims
 stand-all-uses t = (stand-below t, stand.Post, joined-reads.Asked, joined-reads.Learnt, stand-all-below t, stand-all.Post)
@@ -134,7 +157,9 @@ stand-returns-3 t c =
     let s = c .before .before .before .before .before .before .before .before .before in
     let long = c .before .before .before .before .before .before .node-len .ensures in
     let many = c .before .before .children .ensures in
-    children-way _ _ _ (s .args .z) long _ _ many (c .before .before .before .before .before .before .before .natural .ensures) (omega (arith, c .before .before .before .before .if2 .left)) (c .before .before .before .if3 .taken) _ _ (c .before .alone .ensures) (c .stand-all .ensures)
+    let code = c .before .before .before .before .before .before .before .natural .ensures in
+    let low = c .before .before .before .before .if2 .left in
+    children-way _ _ _ (s .args .z) long _ _ many code (omega arith) (c .before .before .before .if3 .taken) _ _ (c .before .alone .ensures) (c .stand-all .ensures)
 
 stand-add-map-read : (t : ℕ) → stand-lts.Need-add-map-read (stand-uses t) (stand-at t) stand.Post
 stand-add-map-read t c = omega (arith, code-there _ _ _ (noded t (c .before .before .before .before .before .before .before)))
@@ -160,16 +185,21 @@ stand-stand-requires t c κs =
     let left = some t s in
     let is = s .pre .0 in
     let y = c .apply .ensures in
-    (omega arith, (s .pre .1 .0, s .pre .1 .1, rw (c .before .before .before .before .before .before .node-len .ensures) (walk-image _ _ _ _ (s .pre .1 .2) code _ read _ (y .0) (y .1)), omega (arith, s .pre .1 .3)))
+    let long = c .before .before .before .before .before .before .node-len .ensures in
+    let walk = walk-image _ _ _ _ (s .pre .1 .2) code _ read _ (y .0) (y .1) in
+    (omega arith, (s .pre .1 .0, s .pre .1 .1, rw long walk, omega (arith, s .pre .1 .3)))
 
 stand-returns-4 : (t : ℕ) → stand-lts.Need-returns-4 (stand-uses t) (stand-at t) stand.Post
 stand-returns-4 t c =
     let s = c .before .before .before .before .before .before .before .before .before .before in
     let code = sym (c .before .before .before .before .before .before .before .before .natural .ensures) ∙ c .before .before .before .if4 .taken in
-    image-way _ _ _ (s .args .z) (c .before .before .before .before .before .before .before .node-len .ensures) _ (c .before .apply .result) _ code (c .before .before .map-read .ensures) (c .before .apply .ensures .0) (c .stand .ensures)
+    let long = c .before .before .before .before .before .before .before .node-len .ensures in
+    let image = c .before .apply in
+    image-way _ _ _ (s .args .z) long _ (image .result) _ code (c .before .before .map-read .ensures) (image .ensures .0) (c .stand .ensures)
 
 -- a restriction's code
-seven : (t : ℕ) (c : stand-lts.Else4 (stand-uses t) (stand-at t) stand.Post) → natAbs (field (c .before .before .before .before .before .before .before .args .s .now) (c .before .before .before .before .before .before .before .args .at)) ≡ 7
+seven : (t : ℕ) (c : stand-lts.Else4 (stand-uses t) (stand-at t) stand.Post) →
+    natAbs (field (c .before .before .before .before .before .before .before .args .s .now) (c .before .before .before .before .before .before .before .args .at)) ≡ 7
 seven t c =
     let code = c .before .before .before .before .before .natural .ensures in
     let low = c .before .if3 .left in
@@ -179,8 +209,7 @@ stand-restriction-meets-requires : (t : ℕ) → stand-lts.Need-restriction-meet
 stand-restriction-meets-requires t c κs =
     let s = c .before .before .before .before .before .before .before in
     let code = seven t (c) in
-    let wide = wide-fields _ _ _ (noded t s) (omega arith) in
-    (wide .there, wide .dim, restriction-testable _ _ _ _ (s .pre .1 .2) code)
+    restriction-testable _ _ _ _ (s .pre .1 .2) code (wide-fields _ _ _ (noded t s) (omega arith))
 
 stand-sub-stand-2 : (t : ℕ) → stand-lts.Need-sub-stand-2 (stand-uses t) (stand-at t) stand.Post
 stand-sub-stand-2 t c = omega (arith, some t (c .before .before .before .before .before .before .before .before .before))
@@ -190,7 +219,9 @@ stand-stand-requires-2 t c κs =
     let s = c .before .before .before .before .before .before .before .before .before in
     let left = some t s in
     let is = s .pre .0 in
-    (omega arith, (s .pre .1 .0, s .pre .1 .1, rw (c .before .before .before .before .before .before .node-len .ensures) (restriction-walk _ _ _ _ (s .pre .1 .2) (seven t (c .before .before))), omega (arith, s .pre .1 .3)))
+    let long = c .before .before .before .before .before .before .node-len .ensures in
+    let walk = restriction-walk _ _ _ _ (s .pre .1 .2) (seven t (c .before .before)) in
+    (omega arith, (s .pre .1 .0, s .pre .1 .1, rw long walk, omega (arith, s .pre .1 .3)))
 
 stand-skip-requires : (t : ℕ) → stand-lts.Need-skip-requires (stand-uses t) (stand-at t) stand.Post
 stand-skip-requires t c κs =
@@ -200,12 +231,16 @@ stand-skip-requires t c κs =
 stand-returns-5 : (t : ℕ) → stand-lts.Need-returns-5 (stand-uses t) (stand-at t) stand.Post
 stand-returns-5 t c =
     let s = c .before .before .before .before .before .before .before .before .before .before in
-    restriction-way _ _ _ (s .args .z) (c .before .before .before .before .before .before .before .node-len .ensures) (seven t (c .before .before .before)) _ (c .before .before .restriction-meets .ensures) _ (c .before .if5 .taken) (c .stand2 .ensures)
+    let long = c .before .before .before .before .before .before .before .node-len .ensures in
+    let met = c .before .before .restriction-meets .ensures in
+    restriction-way _ _ _ (s .args .z) long (seven t (c .before .before .before)) _ met _ (c .before .if5 .taken) (c .stand2 .ensures)
 
 stand-returns-6 : (t : ℕ) → stand-lts.Need-returns-6 (stand-uses t) (stand-at t) stand.Post
 stand-returns-6 t c =
     let s = c .before .before .before .before .before .before .before .before .before .before in
-    restriction-off-way _ _ _ (s .args .z) (c .before .before .before .before .before .before .before .node-len .ensures) (seven t (c .before .before .before)) _ (c .before .before .restriction-meets .ensures) _ (c .before .if5 .left) (c .skip .ensures)
+    let long = c .before .before .before .before .before .before .before .node-len .ensures in
+    let met = c .before .before .restriction-meets .ensures in
+    restriction-off-way _ _ _ (s .args .z) long (seven t (c .before .before .before)) _ met _ (c .before .if5 .left) (c .skip .ensures)
 
 stand-all-returns : (t : ℕ) → stand-all-lts.Need-returns (stand-all-uses t) (stand-all-at t) stand-all.Post
 stand-all-returns t c =
@@ -232,7 +267,8 @@ stand-all-stand-all-requires t c κs =
 stand-all-returns-2 : (t : ℕ) → stand-all-lts.Need-returns-2 (stand-all-uses t) (stand-all-at t) stand-all.Post
 stand-all-returns-2 t c =
     let s = c .before .before .before .before .before in
-    more-way _ _ _ (s .args .z) (s .args .branches) (s .args .sofar) (c .before .before .before .if1 .left) _ _ (c .before .before .stand .ensures) (rw (c .before .joined .ensures) at (c .stand-all .ensures))
+    let rest = rw (c .before .joined .ensures) at (c .stand-all .ensures) in
+    more-way _ _ _ (s .args .z) (s .args .branches) (s .args .sofar) (c .before .before .before .if1 .left) _ _ (c .before .before .stand .ensures) rest
 
 pub +stand+stand-all-spec : {M : Type 1} → statement M
 +stand+stand-all-spec = close μ-stand μ-stand-all (λ t. stand-lts.spec (stand-uses t) (stand-at t)
