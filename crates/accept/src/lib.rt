@@ -21,8 +21,7 @@ pub fn admit(s: &[u8], tab: &mut [usize; 102], inside: &mut [u8; 4096]) -> Verdi
     if let Ruling::Refused(why) = f {
         return Verdict::Refused(why);
     }
-    domain::inside::fill(s, tab, inside);
-    let g = domain::faults::faults(s, tab, inside);
+    let g = domain::domains(s, tab, inside);
     if let Ruling::Refused(why) = g {
         return Verdict::Refused(why);
     }

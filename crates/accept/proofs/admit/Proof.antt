@@ -5,8 +5,7 @@ use Rattle.accept.proofs.admit.Statement.{statement}
 use Rattle.accept.proofs.admit.Tie as tie
 use Rattle.accept.proofs.admit.Reads as reads
 use Rattle.accept.proofs.admit.Lts as lts
-use Rattle.domain.proofs.faults.faults.Reads as faults-reads
-use Rattle.domain.proofs.inside.fill.Reads as fill-reads
+use Rattle.domain.proofs.domains.Reads as domains-reads
 use Rattle.sheet.proofs.read.Reads as read-reads
 use Rattle.tree.proofs.forms.Reads as forms-reads
 
@@ -43,27 +42,21 @@ returns-2 c =
 enum-told-2 : tie.Need-enum-told-2
 enum-told-2 c = search needs
 
--- src/lib.rt:24:5
-fill-requires : tie.Need-fill-requires
-fill-requires c κs =
+-- src/lib.rt:24:9
+domains-requires : tie.Need-domains-requires
+domains-requires c κs =
     let formed = c .before .before .before .before .forms .ensures .formed (c .before .before .enum-told2 .given .1) in
     (formed, c .before .before .before .before .before .before .before .before .before .before .before .before .pre)
 
--- src/lib.rt:25:9
-faults-requires : tie.Need-faults-requires
-faults-requires c κs =
-    let formed = c .before .before .before .before .before .before .before .forms .ensures .formed (c .before .before .before .before .before .enum-told2 .given .1) in
-    (formed, c .before .before .fill .ensures)
-
--- src/lib.rt:26:28
+-- src/lib.rt:25:28
 enum-known-g : tie.Need-enum-known-g
 enum-known-g c = search needs
 
--- src/lib.rt:27:9
+-- src/lib.rt:26:9
 returns-3 : tie.Need-returns-3
 returns-3 c =
-    let formed = c .before .before .before .before .before .before .before .before .before .before .before .forms .ensures .formed (c .before .before .before .before .before .before .before .before .before .enum-told2 .given .1) in
-    faults-admit _ _ _ _ _ formed (c .before .g .given .1) (c .before .before .before .faults .ensures)
+    let formed = c .before .before .before .before .before .before .before .before .forms .ensures .formed (c .before .before .before .before .before .before .enum-told2 .given .1) in
+    faults-admit _ _ _ _ _ formed (c .before .g .given .1) (c .before .before .before .domains .ensures .1)
 
 enum-told-3 : tie.Need-enum-told-3
 enum-told-3 c = search needs
@@ -71,8 +64,10 @@ enum-told-3 c = search needs
 -- src/lib.rt:12:1
 returns-4 : tie.Need-returns-4
 returns-4 c =
-    let formed = c .before .before .before .before .before .before .before .before .before .before .forms .ensures .formed (c .before .before .before .before .before .before .before .before .enum-told2 .given .1) in
-    all-admit _ _ _ _ _ _ formed (c .before .before .before .before .before .fill .ensures) (c .before .before .before .before .before .before .before .before .before .before .before .before .before .r .given .1) (c .before .before .before .before .before .before .before .before .before .before .before .before .before .before .before .read .ensures .answer) (c .enum-told3 .given .1) (c .before .before .faults .ensures)
+    let formed = c .before .before .before .before .before .before .before .forms .ensures .formed (c .before .before .before .before .before .enum-told2 .given .1) in
+    let read = c .before .before .before .before .before .before .before .before .before .before .before .before .read .ensures .answer in
+    let walked = c .before .before .domains .ensures in
+    all-admit _ _ _ _ _ _ formed (walked .0) (c .before .before .before .before .before .before .before .before .before .before .r .given .1) read (c .enum-told3 .given .1) (walked .1)
 
 pub admit-spec : {M : Type 1} → statement M
 admit-spec =
@@ -86,8 +81,7 @@ admit-spec =
     enum-known-f
     returns-2
     enum-told-2
-    fill-requires
-    faults-requires
+    domains-requires
     enum-known-g
     returns-3
     enum-told-3
