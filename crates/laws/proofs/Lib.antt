@@ -13,6 +13,7 @@ pub mod Ring
 pub mod Sizes
 pub mod Composed
 pub mod NormalForm
+pub mod Children
 pub mod Heads
 pub mod Bodies
 pub mod Checked

@@ -1,0 +1,88 @@
+-- `accept::admit` meets its contract, step by step. Assumes nothing.
+use Rattle.accept.proofs.Steps.{read-admits, forms-admit, faults-admit, all-admit, prepared-after}
+use borrow.Author.Needs.{needs}
+use Rattle.accept.proofs.admit.Statement.{statement}
+use Rattle.accept.proofs.admit.Tie as tie
+use Rattle.accept.proofs.admit.Reads as reads
+use Rattle.accept.proofs.admit.Lts as lts
+use Rattle.domain.proofs.domains.Reads as domains-reads
+use Rattle.sheet.proofs.read.Reads as read-reads
+use Rattle.tree.proofs.forms.Reads as forms-reads
+
+-- src/lib.rt:16:9
+read-requires : tie.Need-read-requires
+read-requires c κs = search needs
+
+-- src/lib.rt:17:27
+enum-known-r : tie.Need-enum-known-r
+enum-known-r c = search needs
+
+-- src/lib.rt:18:9
+enum-told : tie.Need-enum-told
+enum-told c = search needs
+
+-- src/lib.rt:18:9
+returns : tie.Need-returns
+returns c = read-admits _ _ _ _ _ (c .enum-told .given .1) (c .before .before .read .ensures .answer)
+
+-- src/lib.rt:20:9
+forms-requires : tie.Need-forms-requires
+forms-requires c κs = prepared-after _ _ _ _ (c .before .before .r .given .1) (c .before .before .before .before .read .ensures)
+
+-- src/lib.rt:21:28
+enum-known-f : tie.Need-enum-known-f
+enum-known-f c = search needs
+
+-- src/lib.rt:22:9
+returns-2 : tie.Need-returns-2
+returns-2 c =
+    let prepared = prepared-after _ _ _ _ (c .before .before .before .before .before .before .r .given .1) (c .before .before .before .before .before .before .before .before .read .ensures) in
+    forms-admit _ _ _ _ _ _ prepared (c .before .f .given .1) (c .before .before .before .forms .ensures .answer)
+
+enum-told-2 : tie.Need-enum-told-2
+enum-told-2 c = search needs
+
+-- src/lib.rt:24:9
+domains-requires : tie.Need-domains-requires
+domains-requires c κs =
+    let formed = c .before .before .before .before .forms .ensures .formed (c .before .before .enum-told2 .given .1) in
+    (formed, c .before .before .before .before .before .before .before .before .before .before .before .before .pre)
+
+-- src/lib.rt:25:28
+enum-known-g : tie.Need-enum-known-g
+enum-known-g c = search needs
+
+-- src/lib.rt:26:9
+returns-3 : tie.Need-returns-3
+returns-3 c =
+    let formed = c .before .before .before .before .before .before .before .before .forms .ensures .formed (c .before .before .before .before .before .before .enum-told2 .given .1) in
+    faults-admit _ _ _ _ _ formed (c .before .g .given .1) (c .before .before .before .domains .ensures .1)
+
+enum-told-3 : tie.Need-enum-told-3
+enum-told-3 c = search needs
+
+-- src/lib.rt:12:1
+returns-4 : tie.Need-returns-4
+returns-4 c =
+    let formed = c .before .before .before .before .before .before .before .forms .ensures .formed (c .before .before .before .before .before .enum-told2 .given .1) in
+    let read = c .before .before .before .before .before .before .before .before .before .before .before .before .read .ensures .answer in
+    let walked = c .before .before .domains .ensures in
+    all-admit _ _ _ _ _ _ formed (walked .0) (c .before .before .before .before .before .before .before .before .before .before .r .given .1) read (c .enum-told3 .given .1) (walked .1)
+
+pub admit-spec : {M : Type 1} → statement M
+admit-spec =
+    tie.close
+    (tie.spec
+    read-requires
+    enum-known-r
+    enum-told
+    returns
+    forms-requires
+    enum-known-f
+    returns-2
+    enum-told-2
+    domains-requires
+    enum-known-g
+    returns-3
+    enum-told-3
+    returns-4)

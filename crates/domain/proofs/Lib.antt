@@ -1,0 +1,11 @@
+-- Laws that the proofs of the walkers cite.
+pub mod Standings
+pub mod Walks
+pub mod Restrictions
+pub mod Records
+pub mod Leaves
+pub mod Ways
+pub mod Choices
+pub mod Checking
+pub mod Bodying
+pub mod Filled

@@ -1,0 +1,201 @@
+-- What a walk at a point knows at a node, and that it may go on at the children: at the same point, or at the image below a dependence;
+-- and that no sum of a constraint or of an image leaves an i64. Assumes nothing.
+use mathlib.Core.Path.{_≡_, refl, sym, ap, _∙_}
+use Prim.Native.Nat.{ℕ, suc, _+_, _-_, _*_, _^_, _≤_, _<_}
+use native.Mathlib.Omega.{arith}
+use mathlib.Core.Bool.{Bool, true, false, _&&_}
+use mathlib.Core.List.{List, [], _∷_}
+use lib.ListN.{length, getD}
+use lib.IntN.{ℤ, pos, natAbs}
+use lib.Dec.{leb, eqb}
+use borrow.Author.Tests.{leb-true, eqb-true}
+use Rattle.alpha.specs.declared.Int.{Int}
+use Rattle.alpha.specs.Field.{field}
+use Rattle.alpha.specs.Sheet.{Node, Expr, Exprs, Point}
+use Rattle.alpha.specs.Sheet.{Expr.var, Expr.int, Expr.boo, Expr.un, Expr.bin, Expr.ite, Expr.kase, Expr.restr, Expr.dep, Exprs.none, Exprs.more}
+use Rattle.alpha.specs.Affine.{image}
+use Rattle.alpha.specs.Read.{got, node}
+use Rattle.alpha.specs.Shape.{fits, allFit}
+use Rattle.alpha.specs.Reach.{limit, mapReach, allReach, reach, reachAll}
+use Rattle.alpha.specs.Written.{branchCount, nodeCount, nodeCounts}
+use Rattle.laws.specs.At.{nodeOf, codeNumber, nodeLen, At, AllAt}
+use Rattle.laws.specs.Children.{childrenOf, arity, fitsHere, wanted, reachHere, reachBelow}
+use Rattle.laws.specs.Sheets.{headsOf, varsOf}
+use Rattle.laws.proofs.Tests.{&&-left, &&-right}
+use Rattle.laws.proofs.Shapes.{code-high, at-code, at-dep, at-restr, DepAt, RestrAt, MoreAt}
+use Rattle.laws.proofs.Children.{children-count, fits-children, reach-children}
+use Rattle.affine.specs.declared.Map.{Map}
+use Rattle.affine.specs.Value.{pointOf, mapOf, Padded}
+use Rattle.affine.specs.Size.{Near, Fit}
+use Rattle.affine.specs.Reading.{MapRead}
+use Rattle.affine.proofs.Meaning.{height-length, width-cols}
+use Rattle.affine.proofs.Bounds.{image-near, mapReach-one, map-fits}
+use Rattle.tree.specs.Standing.{Standing, StandingAll}
+use Rattle.tree.proofs.Standings.{children-at, children-counted, one-more}
+use Rattle.domain.specs.Walk.{Bounded, Walk, WalkAll}
+
+-- only a dependence changes the point for its children
+same-below : (e : Expr) (n r : ℕ) → (codeNumber e ≡ 8 → ⊥) → (wanted (nodeOf e) n ≡ n) × (reachBelow (nodeOf e) r ≡ r)
+same-below (var v) n r h = (refl, refl)
+same-below (int c) n r h = (refl, refl)
+same-below (boo b) n r h = (refl, refl)
+same-below (un o a) n r h = (refl, refl)
+same-below (bin o a b) n r h = (refl, refl)
+same-below (ite a b c) n r h = (refl, refl)
+same-below (kase es) n r h = (refl, refl)
+same-below (restr d cs a) n r h = (refl, refl)
+same-below (dep f a) n r h = absurd (h refl)
+
+module _ (bs : List ℕ) where
+  -- the code of any tree at p
+  pub tree-code : (p : ℕ) (e : Expr) (q : ℕ) → At e (varsOf bs) bs p q → natAbs (field bs p) ≡ codeNumber e
+  tree-code p e q h = ap natAbs (at-code (varsOf bs) bs e p q h)
+
+  pub code-field : (p : ℕ) (e : Expr) (q code : ℕ) → At e (varsOf bs) bs p q → natAbs (field bs p) ≡ code → field bs p ≡ pos code
+  code-field p e q code h c = at-code (varsOf bs) bs e p q h ∙ ap pos (sym (tree-code p e q h) ∙ c)
+
+  -- below any tree at p that is no dependence the same dimension is wanted of the children
+  pub children-fit : (p : ℕ) (e : Expr) (q n : ℕ) → At e (varsOf bs) bs p q → (natAbs (field bs p) ≡ 8 → ⊥) → fits e (headsOf bs) n ≡ true →
+      allFit (childrenOf e) (headsOf bs) n ≡ true
+  children-fit p e q n h c f =
+      rw (same-below e n 0 (λ x. c (tree-code p e q h ∙ x)) .0) at
+      (&&-right (fitsHere (nodeOf e) (headsOf bs) n) (allFit (childrenOf e) (headsOf bs) (wanted (nodeOf e) n)) (sym (fits-children (headsOf bs) n e) ∙ f))
+
+  module _ (p left : ℕ) (z : List Int) (h : Walk bs p left z) where
+    pub walk-standing : Standing (varsOf bs) bs p left
+    walk-standing = record { tree = h .tree; end = h .end; at = h .at; few = h .few }
+
+    -- a code past those of the operators and the case, and no dependence's, is a restriction's
+    pub walk-seven : 7 ≤ natAbs (field bs p) → (natAbs (field bs p) ≡ 8 → ⊥) → natAbs (field bs p) ≡ 7
+    walk-seven low other = omega (arith, tree-code p (h .tree) (h .end) (h .at), code-high (h .tree))
+
+    -- ---- the children, where the code says that there are n and that the node has k bytes
+
+    module _ (k n : ℕ) (long : k ≡ nodeLen bs p) (many : (nd : Node) (q : ℕ) → node (varsOf bs) bs p ≡ got nd q → n ≡ arity nd) where
+      -- at the same point
+      pub walk-children : (natAbs (field bs p) ≡ 8 → ⊥) → WalkAll bs (p + k) (left - 1) n z
+      walk-children c =
+          let e = h .tree in
+          let same = same-below e (h .dims) (h .bound) (λ x. c (tree-code p e (h .end) (h .at) ∙ x)) in
+          record {
+            trees = childrenOf e;
+            end = h .end;
+            dims = h .dims;
+            bound = h .bound;
+            at = children-at (varsOf bs) bs p k n long many e (h .end) (h .at);
+            few = omega (arith, h .few, children-count e);
+            many = children-counted (varsOf bs) bs p k n long many e (h .end) (h .at);
+            fitting = children-fit p e (h .end) (h .dims) (h .at) c (h .fitting);
+            reaches = rw (same .1) at
+                (&&-right (reachHere (nodeOf e) (h .bound)) (reachAll (childrenOf e) (reachBelow (nodeOf e) (h .bound))) (sym (reach-children e (h .bound)) ∙ h .reaches));
+            point = h .point;
+          }
+
+    -- ---- a dependence
+
+    module _ (code : natAbs (field bs p) ≡ 8) where
+      below : DepAt (h .tree) (varsOf bs) bs p (h .end)
+      below = at-dep (varsOf bs) bs (h .tree) p (h .end) (h .at) (code-field p (h .tree) (h .end) 8 (h .at) code)
+
+      fit-below : eqb (below .by .cols) (h .dims) && fits (below .child) (headsOf bs) (length (below .by .rows)) ≡ true
+      unfolding fits
+      fit-below = rw (below .is) at (h .fitting)
+
+      reach-below : leb (mapReach (h .bound) (below .by .rows)) limit && reach (below .child) (mapReach (h .bound) (below .by .rows)) ≡ true
+      unfolding reach
+      reach-below = rw (below .is) at (h .reaches)
+
+      count-below : nodeCount (h .tree) ≡ suc (nodeCount (below .child))
+      unfolding nodeCount
+      count-below = ap nodeCount (below .is)
+
+      within-limit : mapReach (h .bound) (below .by .rows) ≤ limit
+      within-limit =
+          leb-true _ _ (&&-left (leb (mapReach (h .bound) (below .by .rows)) limit) (reach (below .child) (mapReach (h .bound) (below .by .rows))) reach-below)
+
+      -- where its map is m
+      module _ (m : Map) (r : MapRead bs (p + 8) m) where
+        map-is : mapOf m ≡ below .by
+        map-is = r .is (below .by) (p + nodeLen bs p) (below .fields .read)
+
+        rows-are : mapOf m .rows ≡ below .by .rows
+        rows-are = ap (λ f. f .rows) map-is
+
+        dims-are : m .width ≡ h .dims
+        dims-are =
+            width-cols m map-is
+            ∙ eqb-true (below .by .cols) (h .dims) (&&-left (eqb (below .by .cols) (h .dims)) (fits (below .child) (headsOf bs) (length (below .by .rows))) fit-below)
+
+        -- the image can be computed
+        pub image-fits : Fit m z
+        image-fits = map-fits (h .bound) m z (r .neat) (rw dims-are (h .point .near)) (rw rows-are within-limit)
+
+        -- and the child may be walked there
+        pub walk-image : (y : List Int) → pointOf (m .height) y ≡ image (mapOf m .rows) (pointOf (m .width) z) → Padded (m .height) y →
+            Walk bs (p + nodeLen bs p) (left - 1) y
+        walk-image y is rest = record {
+          tree = below .child;
+          end = h .end;
+          dims = m .height;
+          bound = mapReach (h .bound) (below .by .rows);
+          at = below .below;
+          few = omega (arith, h .few, count-below);
+          fitting = rw (height-length m map-is)
+              (&&-right (eqb (below .by .cols) (h .dims)) (fits (below .child) (headsOf bs) (length (below .by .rows))) fit-below);
+          reaches = &&-right (leb (mapReach (h .bound) (below .by .rows)) limit) (reach (below .child) (mapReach (h .bound) (below .by .rows))) reach-below;
+          point = record {
+            padded = rest;
+            near = rw (is, rows-are, dims-are) (image-near (h .bound) (below .by .rows) (pointOf (h .dims) z) (h .point .near));
+            low = mapReach-one (h .bound) (below .by .rows);
+            high = within-limit;
+          };
+        }
+
+  -- ---- so many trees
+
+  module _ (p left n : ℕ) (z : List Int) (some : 1 ≤ n) (h : WalkAll bs p left n z) where
+    split : MoreAt (h .trees) (varsOf bs) bs p (h .end) (n - 1)
+    split = one-more (varsOf bs) bs (h .trees) p (h .end) n some (h .at) (h .many)
+
+    count-all : nodeCounts (h .trees) ≡ nodeCount (split .first) + nodeCounts (split .rest)
+    unfolding nodeCounts
+    count-all = ap nodeCounts (split .is)
+
+    fit-all : fits (split .first) (headsOf bs) (h .dims) && allFit (split .rest) (headsOf bs) (h .dims) ≡ true
+    unfolding allFit
+    fit-all = rw (split .is) at (h .fitting)
+
+    reach-all : reach (split .first) (h .bound) && reachAll (split .rest) (h .bound) ≡ true
+    unfolding reachAll
+    reach-all = rw (split .is) at (h .reaches)
+
+    fit-first : fits (split .first) (headsOf bs) (h .dims) ≡ true
+    fit-first = &&-left (fits (split .first) (headsOf bs) (h .dims)) (allFit (split .rest) (headsOf bs) (h .dims)) fit-all
+
+    pub walk-first : Walk bs p left z
+    walk-first = record {
+      tree = split .first;
+      end = split .middle;
+      dims = h .dims;
+      bound = h .bound;
+      at = split .before;
+      few = omega (arith, count-all, h .few);
+      fitting = fit-first;
+      reaches = &&-left (reach (split .first) (h .bound)) (reachAll (split .rest) (h .bound)) reach-all;
+      point = h .point;
+    }
+
+    -- the others, from where the first ends
+    pub walk-rest : (r : ℕ) → ((e : Expr) (q d : ℕ) → At e (varsOf bs) bs p q → fits e (headsOf bs) d ≡ true → r ≡ q) → WalkAll bs r left (n - 1) z
+    walk-rest r ends = record {
+      trees = split .rest;
+      end = h .end;
+      dims = h .dims;
+      bound = h .bound;
+      at = rw (ends (split .first) (split .middle) (h .dims) (split .before) fit-first) (split .after);
+      few = omega (arith, count-all, h .few);
+      many = split .many;
+      fitting = &&-right (fits (split .first) (headsOf bs) (h .dims)) (allFit (split .rest) (headsOf bs) (h .dims)) fit-all;
+      reaches = &&-right (reach (split .first) (h .bound)) (reachAll (split .rest) (h .bound)) reach-all;
+      point = h .point;
+    }

@@ -1,0 +1,198 @@
+-- The ways through the walk that says how a tree stands: for each, what the code answers from what it has found. Assumes nothing.
+use mathlib.Core.Path.{_≡_, refl, sym, ap, _∙_, subst}
+use Prim.Native.Nat.{ℕ, suc, _+_, _-_, _≤_, _<_}
+use native.Mathlib.Omega.{arith}
+use mathlib.Core.Bool.{Bool, true, false, _&&_}
+use mathlib.Core.List.{List}
+use lib.ListN.{length}
+use lib.IntN.{pos, natAbs}
+use lib.Dec.{eqb}
+use borrow.Author.Tests.{eqb-true}
+use Rattle.alpha.specs.declared.Int.{Int}
+use Rattle.alpha.specs.Field.{field}
+use Rattle.alpha.specs.Sheet.{Node, Expr, Exprs, Sheet, Point, Head}
+use Rattle.alpha.specs.Sheet.{Node.nVar, Node.nInt, Node.nBool}
+use Rattle.alpha.specs.Sheet.{Expr.var, Expr.int, Expr.boo, Expr.un, Expr.bin, Expr.ite, Expr.kase, Expr.restr, Expr.dep, Exprs.none, Exprs.more}
+use Rattle.alpha.specs.Affine.{meetsAll, image}
+use Rattle.alpha.specs.Read.{got, node, dimension}
+use Rattle.alpha.specs.Shape.{fits, allFit}
+use Rattle.alpha.specs.Holds.{holds, clashes}
+use Rattle.alpha.specs.Written.{branchCount}
+use Rattle.laws.specs.At.{codeNumber, nodeLen, At, AllAt}
+use Rattle.laws.specs.Children.{childrenOf, arity}
+use Rattle.laws.specs.Sheets.{headsOf, varsOf, sheetOf}
+use Rattle.laws.proofs.Tests.{&&-left, &&-right}
+use Rattle.laws.proofs.Readers.{counted-is}
+use Rattle.laws.proofs.Nodes.{node-next}
+use Rattle.laws.proofs.Shapes.{VarAt, DepAt, RestrAt, at-var, at-dep, at-restr, allAt-none, MoreAt}
+use Rattle.affine.specs.declared.Map.{Map}
+use Rattle.affine.specs.Value.{pointOf, mapOf}
+use Rattle.affine.specs.Reading.{MapRead}
+use Rattle.affine.proofs.Meaning.{height-length, width-cols}
+use Rattle.tree.proofs.Standings.{children-at, children-counted, one-more}
+use Rattle.domain.specs.declared.Standing.{Standing}
+use Rattle.domain.specs.declared.Standing.the-variants.{Not, Holds, Clash}
+use Rattle.domain.specs.declared.Stood.{Stood}
+use Rattle.domain.specs.Standing.{rated, standing, joined, alone, together, StandsAt, StandTogether}
+use Rattle.domain.specs.Constraints.{restrictionMet}
+use Rattle.domain.proofs.Standings.{joined-alone, joined-assoc, alone-joined, operands-stand, branches-stand, restriction-stands, restriction-not, dependence-stands}
+use Rattle.domain.proofs.Walks.{tree-code, code-field, children-fit}
+use Rattle.domain.proofs.Restrictions.{restriction-says}
+
+-- ---- leaves
+
+leaf-end : (vars : ℕ) (bs : List ℕ) (e : Expr) (p q : ℕ) → At e vars bs p q → codeNumber e ≤ 2 → p + nodeLen bs p ≡ q
+unfolding At
+leaf-end vars bs (var v) p q h l = sym (node-next vars bs p (nVar v) q h)
+leaf-end vars bs (int c) p q h l = sym (node-next vars bs p (nInt c) q h)
+leaf-end vars bs (boo b) p q h l = sym (node-next vars bs p (nBool b) q h)
+leaf-end vars bs (un o a) p q h l = absurd (omega arith)
+leaf-end vars bs (bin o a b) p q h l = absurd (omega arith)
+leaf-end vars bs (ite a b c) p q h l = absurd (omega arith)
+leaf-end vars bs (kase es) p q h l = absurd (omega arith)
+leaf-end vars bs (restr d cs a) p q h l = absurd (omega arith)
+leaf-end vars bs (dep f a) p q h l = absurd (omega arith)
+
+-- a constant holds at the one point of dimension 0
+constant-stands : (s : Sheet) (hs : List Head) (z : List Int) (e : Expr) (n : ℕ) → 1 ≤ codeNumber e → codeNumber e ≤ 2 → fits e hs n ≡ true → Holds ≡ standing e s (pointOf n z)
+unfolding fits holds clashes
+constant-stands s hs z (var v) n l h f = absurd (omega arith)
+constant-stands s hs z (int c) n l h f = rw (← eqb-true 0 n f) refl
+constant-stands s hs z (boo b) n l h f = rw (← eqb-true 0 n f) refl
+constant-stands s hs z (un o a) n l h f = absurd (omega arith)
+constant-stands s hs z (bin o a b) n l h f = absurd (omega arith)
+constant-stands s hs z (ite a b c) n l h f = absurd (omega arith)
+constant-stands s hs z (kase es) n l h f = absurd (omega arith)
+constant-stands s hs z (restr d cs a) n l h f = absurd (omega arith)
+constant-stands s hs z (dep g a) n l h f = absurd (omega arith)
+
+-- ---- a node whose children stand together
+
+children-stand : (s : Sheet) (z : Point) (e : Expr) → 3 ≤ codeNumber e → codeNumber e ≤ 6 → together (eqb (codeNumber e) 6) (childrenOf e) s z ≡ standing e s z
+children-stand s z (var v) l h = absurd (omega arith)
+children-stand s z (int c) l h = absurd (omega arith)
+children-stand s z (boo b) l h = absurd (omega arith)
+children-stand s z (un o a) l h = sym (operands-stand s z (un o a) l (omega arith))
+children-stand s z (bin o a b) l h = sym (operands-stand s z (bin o a b) l (omega arith))
+children-stand s z (ite a b c) l h = sym (operands-stand s z (ite a b c) l (omega arith))
+children-stand s z (kase es) l h = sym (branches-stand s z es)
+children-stand s z (restr d cs a) l h = absurd (omega arith)
+children-stand s z (dep f a) l h = absurd (omega arith)
+
+module _ (bs : List ℕ) (p k : ℕ) (z : List Int) (long : k ≡ nodeLen bs p) where
+  ends : (e : Expr) (q : ℕ) → At e (varsOf bs) bs p q → natAbs (field bs p) ≤ 2 → p + k ≡ q
+  ends e q h l = rw long (leaf-end (varsOf bs) bs e p q h (omega (arith, tree-code bs p e q h)))
+
+  pub variable-way : (v : ℕ) (how : Standing) → natAbs (field bs p) < 1 → v ≡ natAbs (field bs (p + 8)) →
+      how ≡ standing (var v) (sheetOf bs) (pointOf (dimension (headsOf bs) v) z) → StandsAt bs p z (record { how = how; next = p + k })
+  variable-way v how code number is e q n h f =
+      let x = at-var (varsOf bs) bs e p q h (code-field bs p e q 0 h (omega arith)) in
+      let same : v ≡ x .number = number ∙ sym (counted-is (x .stands)) in (
+        ends e q h (omega arith),
+        is ∙ ap (λ i. standing (var i) (sheetOf bs) (pointOf (dimension (headsOf bs) i) z)) same
+            ∙ ap (λ d. standing (var (x .number)) (sheetOf bs) (pointOf d z)) (wide (x .number) (rw (x .is) at f))
+            ∙ ap (λ t. standing t (sheetOf bs) (pointOf n z)) (sym (x .is)),
+      )
+    where
+      wide : (v : ℕ) → fits (var v) (headsOf bs) n ≡ true → dimension (headsOf bs) v ≡ n
+      wide v g = unfold fits in eqb-true (dimension (headsOf bs) v) n g
+
+  pub constant-way : 1 ≤ natAbs (field bs p) → natAbs (field bs p) < 3 → StandsAt bs p z (record { how = Holds; next = p + k })
+  constant-way l h e q n at f =
+      let c = tree-code bs p e q at in
+      (ends e q at (omega arith), constant-stands (sheetOf bs) (headsOf bs) z e n (omega arith) (omega arith) f)
+
+  -- operands and branches
+  pub children-way : (n code : ℕ) → ((nd : Node) (q : ℕ) → node (varsOf bs) bs p ≡ got nd q → n ≡ arity nd) → code ≡ natAbs (field bs p) → 3 ≤ code → code < 7 →
+      (sofar : Standing) (r : Stood) → sofar ≡ alone (eqb code 6) → StandTogether bs (p + k) n z (eqb code 6) sofar r → StandsAt bs p z r
+  children-way n code many is low high sofar r start t e q d h f =
+      let c = is ∙ tree-code bs p e q h in
+      let a = t (childrenOf e) q d (children-at (varsOf bs) bs p k n long many e q h) (children-counted (varsOf bs) bs p k n long many e q h)
+      (children-fit bs p e q d h (λ x. absurd (omega arith)) f) in (
+        a .0,
+        a .1 ∙ ap (λ x. joined (eqb code 6) x (together (eqb code 6) (childrenOf e) (sheetOf bs) (pointOf d z))) start
+            ∙ alone-joined (eqb code 6) (together (eqb code 6) (childrenOf e) (sheetOf bs) (pointOf d z))
+            ∙ ap (λ i. together (eqb i 6) (childrenOf e) (sheetOf bs) (pointOf d z)) c
+            ∙ children-stand (sheetOf bs) (pointOf d z) e (omega arith) (omega arith),
+      )
+
+  -- a dependence, whose map is m and whose image is y
+  pub image-way : (m : Map) (y : List Int) (r : Stood) → natAbs (field bs p) ≡ 8 → MapRead bs (p + 8) m → pointOf (m .height) y ≡ image (mapOf m .rows) (pointOf (m .width) z) →
+      StandsAt bs (p + k) y r → StandsAt bs p z r
+  image-way m y r code read is t e q n h f =
+      let x = at-dep (varsOf bs) bs e p q h (code-field bs p e q 8 h code) in
+      let map-is = read .is (x .by) (p + nodeLen bs p) (x .fields .read) in
+      let g = fit-below (x .by .cols) (fits (x .child) (headsOf bs) (length (x .by .rows))) (parts x) in
+      let a = t (x .child) q (length (x .by .rows)) (rw long (x .below)) (g .1) in
+      let point : pointOf (length (x .by .rows)) y ≡ image (x .by .rows) (pointOf n z) =
+      rw (height-length m map-is, width-cols m map-is, g .0) at (is ∙ ap (λ w. image (w .rows) (pointOf (m .width) z)) map-is) in (
+        a .0,
+        a .1 ∙ ap (standing (x .child) (sheetOf bs)) point
+            ∙ sym (dependence-stands (sheetOf bs) (pointOf n z) (x .by) (x .child))
+            ∙ ap (λ t. standing t (sheetOf bs) (pointOf n z)) (sym (x .is)),
+      )
+    where
+      parts : (x : DepAt e (varsOf bs) bs p q) → eqb (x .by .cols) n && fits (x .child) (headsOf bs) (length (x .by .rows)) ≡ true
+      parts x = unfold fits in rw (x .is) at f
+
+      fit-below : (c : ℕ) (b : Bool) → eqb c n && b ≡ true → (c ≡ n) × (b ≡ true)
+      fit-below c b g = (eqb-true c n (&&-left (eqb c n) b g), &&-right (eqb c n) b g)
+
+  -- a restriction, whose constraints hold or not
+  module _ (code : natAbs (field bs p) ≡ 7) (met : Bool) (is : met ≡ restrictionMet bs p z) where
+    module _ (e : Expr) (q n : ℕ) (h : At e (varsOf bs) bs p q) (f : fits e (headsOf bs) n ≡ true) where
+      here : RestrAt e (varsOf bs) bs p q
+      here = at-restr (varsOf bs) bs e p q h (code-field bs p e q 7 h code)
+
+      parts : eqb (here .dim) n && fits (here .child) (headsOf bs) n ≡ true
+      unfolding fits
+      parts = rw (here .is) at f
+
+      dims : natAbs (field bs (p + 8)) ≡ n
+      dims = sym (counted-is (here .fields .dim)) ∙ eqb-true (here .dim) n (&&-left (eqb (here .dim) n) (fits (here .child) (headsOf bs) n) parts)
+
+      met-is : met ≡ meetsAll (here .given) (pointOf n z)
+      met-is = is ∙ ap (λ l. meetsAll l (pointOf (natAbs (field bs (p + 8))) z)) (sym (restriction-says bs p (here .dim) (here .given) (here .fields)))
+          ∙ ap (λ d. meetsAll (here .given) (pointOf d z)) dims
+
+      back : standing (restr (here .dim) (here .given) (here .child)) (sheetOf bs) (pointOf n z) ≡ standing e (sheetOf bs) (pointOf n z)
+      back = ap (λ t. standing t (sheetOf bs) (pointOf n z)) (sym (here .is))
+
+    pub restriction-way : (r : Stood) → met ≡ true → StandsAt bs (p + k) z r → StandsAt bs p z r
+    restriction-way r held t e q n h f =
+        let x = here e q n h f in
+        let g = &&-right (eqb (x .dim) n) (fits (x .child) (headsOf bs) n) (parts e q n h f) in
+        let a = t (x .child) q n (subst (λ i. At (x .child) (varsOf bs) bs (p + i) q) (sym long) (x .below)) g in
+        (a .0, a .1 ∙ sym (restriction-stands (sheetOf bs) (pointOf n z) (x .dim) (x .given) (x .child) (sym (met-is e q n h f) ∙ held)) ∙ back e q n h f)
+
+    pub restriction-off-way : (next : ℕ) → met ≡ false → ((e : Expr) (q : ℕ) → At e (varsOf bs) bs p q → next ≡ q) → StandsAt bs p z (record { how = Not; next = next })
+    restriction-off-way next fails skipped e q n h f =
+        let x = here e q n h f in
+        (skipped e q h, sym (restriction-not (sheetOf bs) (pointOf n z) (x .dim) (x .given) (x .child) (sym (met-is e q n h f) ∙ fails)) ∙ back e q n h f)
+
+-- ---- so many trees
+
+module _ (bs : List ℕ) (p count : ℕ) (z : List Int) (branches : Bool) (sofar : Standing) where
+  pub none-way : count < 1 → StandTogether bs p count z branches sofar (record { how = sofar; next = p })
+  unfolding together
+  none-way l es q n h m f =
+      let x = allAt-none (varsOf bs) bs es p q h (omega arith) in
+      (x .end, sym (joined-alone branches sofar) ∙ ap (λ t. joined branches sofar (together branches t (sheetOf bs) (pointOf n z))) (sym (x .is)))
+
+  -- the first, and then the others from where it ends
+  pub more-way : 1 ≤ count → (first r : Stood) → StandsAt bs p z first → StandTogether bs (first .next) (count - 1) z branches (joined branches sofar (first .how)) r →
+      StandTogether bs p count z branches sofar r
+  unfolding together
+  more-way some first r t rest es q n h m f =
+      let x = one-more (varsOf bs) bs es p q count some h m in
+      let g = parts x in
+      let a = t (x .first) (x .middle) n (x .before) (&&-left (fits (x .first) (headsOf bs) n) (allFit (x .rest) (headsOf bs) n) g) in
+      let b = rest (x .rest) q n (rw (a .0) (x .after)) (x .many) (&&-right (fits (x .first) (headsOf bs) n) (allFit (x .rest) (headsOf bs) n) g) in (
+        b .0,
+        b .1 ∙ joined-assoc branches sofar (first .how) (together branches (x .rest) (sheetOf bs) (pointOf n z))
+            ∙ ap (λ w. joined branches sofar (joined branches w (together branches (x .rest) (sheetOf bs) (pointOf n z)))) (a .1)
+            ∙ ap (λ l. joined branches sofar (together branches l (sheetOf bs) (pointOf n z))) (sym (x .is)),
+      )
+    where
+      parts : (x : MoreAt es (varsOf bs) bs p q (count - 1)) → fits (x .first) (headsOf bs) n && allFit (x .rest) (headsOf bs) n ≡ true
+      parts x = unfold fits in rw (x .is) at f

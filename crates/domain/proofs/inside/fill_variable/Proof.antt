@@ -1,0 +1,121 @@
+-- `domain::fill_variable` meets its contract. The loop's invariant: the bytes of the variables before v and of v's first i elements are
+-- as they must be. The measure is how many elements are left. Assumes nothing.
+use mathlib.Core.Path.{_≡_, sym, ap, _∙_}
+use Prim.Native.Nat.{ℕ, _+_, _-_, _≤_, _<_}
+use native.Mathlib.Omega.{arith}
+use borrow.Author.Needs.{needs}
+use Rattle.alpha.specs.Affine.{meetsAll}
+use Rattle.alpha.specs.Box as Box
+use Rattle.alpha.specs.Holds.{variable}
+use Rattle.alpha.specs.Ask.{before}
+use Rattle.laws.specs.Sheets.{sheetOf}
+use Rattle.domain.proofs.Records.{VariableLaid, laid-variable}
+use Rattle.domain.proofs.Bodying.{point-at, point-inside}
+use Rattle.domain.proofs.Filled.{FilledTo, fill-none, fill-one, fill-all}
+use Rattle.domain.proofs.inside.fill_variable.Statement.{statement}
+use Rattle.domain.proofs.inside.fill_variable.Tie as tie
+
+abbrev Inv-loop : tie.InvT-loop
+Inv-loop s tab inside₀ v first size place i₀ inside i = FilledTo (sheetOf s) v i inside
+
+abbrev μ-loop : tie.MeasureT-loop
+μ-loop s tab inside₀ v first size place i₀ inside i = size - i
+
+-- the variable
+laid : (c : tie.Start Inv-loop μ-loop) → VariableLaid (c .args .s .now) (c .args .tab .now) (c .args .v)
+laid c = laid-variable _ _ (c .pre .0 .placed) _ (c .pre .1)
+
+-- its first element
+first-is : (c : tie.After-first-element Inv-loop μ-loop) → c .first-element .result ≡ before (sheetOf (c .before .before .args .s .now)) (c .before .before .args .v)
+first-is c = c .first-element .ensures ∙ laid (c .before .before) .first-is
+
+-- how many it has
+size-is : (c : tie.After-first-element2 Inv-loop μ-loop) →
+    c .first-element2 .result - c .before .first-element .result ≡ Box.size (variable (sheetOf (c .before .before .before .args .s .now)) (c .before .before .before .args .v) .head .box)
+size-is c = let l = laid (c .before .before .before) .last-is in omega (arith, first-is (c .before), c .first-element2 .ensures)
+
+-- the element is one of them
+low : (c : tie.In-loop Inv-loop μ-loop) →
+    c .before .loop .i
+    < Box.size (variable (sheetOf (c .before .before .before .before .before .before .args .s .now)) (c .before .before .before .before .before .before .args .v) .head .box)
+low c = omega (arith, size-is (c .before .before .before), c .loop-test .taken)
+
+-- and its number has a byte
+number-low : (c : tie.In-loop Inv-loop μ-loop) → c .before .before .before .before .first-element .result + c .before .loop .i < 4096
+number-low c = omega (arith, first-is (c .before .before .before .before), low c, laid (c .before .before .before .before .before .before) .few)
+
+first-element-requires : tie.Need-first-element-requires Inv-loop μ-loop
+first-element-requires c κs = omega (arith, laid (c .before) .low)
+
+add-first-element : tie.Need-add-first-element Inv-loop μ-loop
+add-first-element c = omega (arith, laid (c .before .before) .low)
+
+first-element-requires-2 : tie.Need-first-element-requires-2 Inv-loop μ-loop
+first-element-requires-2 c κs = omega (arith, laid (c .before .before) .low)
+
+sub-size : tie.Need-sub-size Inv-loop μ-loop
+sub-size c = let l = laid (c .before .before .before) .last-is in omega (arith, first-is (c .before), c .first-element2 .ensures)
+
+record-place-requires : tie.Need-record-place-requires Inv-loop μ-loop
+record-place-requires c κs = laid (c .before .before .before) .low
+
+loop-holds : tie.Need-loop-holds Inv-loop μ-loop
+loop-holds c = fill-none _ _ _ (c .before .before .before .before .pre .2)
+
+point-requires : tie.Need-point-requires Inv-loop μ-loop
+point-requires c κs =
+    let l = laid (c .before .before .before .before .before .before) in
+    let many = size-is (c .before .before .before) in
+    rw (c .before .before .record-place .ensures) (l .recorded, rw (l .box-is) many, omega (arith, l .few), c .loop-test .taken)
+
+add-n : tie.Need-add-n Inv-loop μ-loop
+add-n c = omega (arith, number-low (c .before))
+
+all-declared-meet-requires : tie.Need-all-declared-meet-requires Inv-loop μ-loop
+all-declared-meet-requires c κs =
+    let s = c .before .before .before .before .before .before .before in
+    let at = rw (c .before .before .before .record-place .ensures) at (c .point .ensures) in
+    (s .pre .0, s .pre .1, point-inside _ _ _ _ (laid s) (low (c .before)) _ at)
+
+keep-requires : tie.Need-keep-requires Inv-loop μ-loop
+keep-requires c κs = number-low (c .before .before .before)
+
+add-i : tie.Need-add-i Inv-loop μ-loop
+add-i c = omega (arith, number-low (c .before .before .before .before))
+
+loop-less : tie.Need-loop-less Inv-loop μ-loop
+loop-less c = omega (arith, c .before .before .before .before .loop-test .taken)
+
+loop-again : tie.Need-loop-again Inv-loop μ-loop
+loop-again c =
+    let in-loop = c .before .before .before .before in
+    let s = in-loop .before .before .before .before .before .before in
+    let at = rw (in-loop .before .before .record-place .ensures) at (c .before .before .before .point .ensures) in
+    let is = point-at _ _ _ _ (laid s) (low in-loop) _ at in
+    let met = c .before .before .all-declared-meet .ensures ∙ ap (meetsAll (variable (sheetOf (s .args .s .now)) (s .args .v) .declared)) is in
+    let number = ap (λ n. n + in-loop .before .loop .i) (first-is (in-loop .before .before .before .before)) in
+    fill-one _ _ _ _ _ _ _ (laid s .known) (in-loop .before .loop .inv) number (number-low in-loop) met (c .keep .ensures)
+
+returns : tie.Need-returns Inv-loop μ-loop
+returns c = fill-all _ _ _ _ (omega (arith, size-is (c .before .before .before), c .loop-test .left)) (c .before .loop .inv)
+
+pub fill-variable-spec : {M : Type 1} → statement M
+fill-variable-spec =
+    tie.close
+    (tie.spec
+    Inv-loop
+    μ-loop
+    first-element-requires
+    add-first-element
+    first-element-requires-2
+    sub-size
+    record-place-requires
+    loop-holds
+    point-requires
+    add-n
+    all-declared-meet-requires
+    keep-requires
+    add-i
+    loop-less
+    loop-again
+    returns)

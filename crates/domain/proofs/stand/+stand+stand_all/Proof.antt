@@ -1,0 +1,307 @@
+-- `domain::stand` and `domain::stand_all` meet their contracts: a tree stands as its node says of its children. Assumes nothing.
+use borrow.Fn.Kinds.{In}
+use borrow.Fn.PlainCycle.{Measures, is, falls, and}
+use Rattle.domain.proofs.stand.stand.Reads as stand
+use Rattle.domain.proofs.stand.stand.Kinds as stand-kinds
+use Rattle.domain.proofs.stand.+stand+stand_all.Lts-stand as stand-lts
+use Rattle.domain.proofs.stand.stand_all.Reads as stand-all
+use Rattle.domain.proofs.stand.stand_all.Kinds as stand-all-kinds
+use Rattle.domain.proofs.stand.+stand+stand_all.Lts-stand_all as stand-all-lts
+use Rattle.affine.proofs.apply.Reads as apply-reads
+use Rattle.affine.proofs.map_read.Reads as map-read-reads
+use Rattle.domain.proofs.constraint.restriction_meets.Reads as restriction-meets-reads
+use Rattle.domain.proofs.join.alone.Reads as alone-reads
+use Rattle.domain.proofs.join.joined.Reads as joined-reads
+use Rattle.domain.proofs.leaf.leaf_stands.Reads as leaf-stands-reads
+use Rattle.tree.proofs.node.children.Reads as children-reads
+use Rattle.tree.proofs.node.natural.Reads as natural-reads
+use Rattle.tree.proofs.node.node_len.Reads as node-len-reads
+use Rattle.tree.proofs.skip.skip.Reads as skip-reads
+use Rattle.domain.proofs.stand.+stand+stand_all.{statement}
+use Rattle.domain.proofs.stand.+stand+stand_all.Tie.{close}
+use Prim.Native.Nat.{ℕ, _+_, _*_, _-_, _<_, _≤_}
+use mathlib.Core.Path.{_≡_, refl, sym, ap, _∙_}
+use native.Mathlib.Omega.{arith}
+use borrow.Author.Needs.{needs}
+use lib.IntN.{natAbs}
+use Rattle.alpha.specs.Field.{field}
+use Rattle.laws.specs.Sheets.{varsOf}
+use Rattle.tree.specs.Standing.{Noded}
+use Rattle.tree.proofs.Noding.{code-there, second-there, wide-fields}
+use Rattle.tree.proofs.Fitting.{variable-known}
+use Rattle.tree.proofs.Heading.{prepared-sections}
+use Rattle.tree.proofs.Standings.{standing-noded, standing-some, standing-there, children-few}
+use Rattle.domain.specs.Walk.{Walk}
+use Rattle.domain.proofs.Walks.{walk-standing, walk-seven, walk-children, image-fits, walk-image, walk-first, walk-rest}
+use Rattle.domain.proofs.Restrictions.{restriction-testable, restriction-walk}
+use Rattle.domain.proofs.Ways.{variable-way, constant-way, children-way, image-way, restriction-way, restriction-off-way, none-way, more-way}
+
+abbrev μ-stand : Measures 3 stand-kinds.ps ℕ
+μ-stand κs a = 70 * a .1 .1 .1 .1 .0
+
+abbrev μ-stand-all : Measures 3 stand-all-kinds.ps ℕ
+μ-stand-all κs a = 70 * a .1 .1 .1 .1 .0 + (a .1 .1 .1 .1 .1 .1 .0 + 1)
+
+abbrev stand-at : ℕ → In 3 stand-kinds.ps
+stand-at t = and 3 stand-kinds.ps (is 3 stand-kinds.ps μ-stand t) stand.Pre
+
+abbrev stand-below : ℕ → In 3 stand-kinds.ps
+stand-below t = and 3 stand-kinds.ps (falls 3 stand-kinds.ps _<_ μ-stand t) stand.Pre
+
+abbrev stand-all-at : ℕ → In 3 stand-all-kinds.ps
+stand-all-at t = and 3 stand-all-kinds.ps (is 3 stand-all-kinds.ps μ-stand-all t) stand-all.Pre
+
+abbrev stand-all-below : ℕ → In 3 stand-all-kinds.ps
+stand-all-below t =
+    and 3 stand-all-kinds.ps (falls 3 stand-all-kinds.ps _<_ μ-stand-all t) stand-all.Pre
+
+abbrev stand-uses : ℕ → stand-lts.Claims
+stand-uses t = (
+  natural-reads.Asked,
+  natural-reads.Learnt,
+  node-len-reads.Asked,
+  node-len-reads.Learnt,
+  leaf-stands-reads.Asked,
+  leaf-stands-reads.Learnt,
+  children-reads.Asked,
+  children-reads.Learnt,
+  alone-reads.Asked,
+  alone-reads.Learnt,
+  stand-all-below t,
+  stand-all.Post,
+  map-read-reads.Asked,
+  map-read-reads.Learnt,
+  apply-reads.Asked,
+  apply-reads.Learnt,
+  stand-below t,
+  stand.Post,
+  restriction-meets-reads.Asked,
+  restriction-meets-reads.Learnt,
+  skip-reads.Asked,
+  skip-reads.Learnt,
+)
+
+abbrev stand-all-uses : ℕ → stand-all-lts.Claims
+stand-all-uses t = (stand-below t, stand.Post, joined-reads.Asked, joined-reads.Learnt, stand-all-below t, stand-all.Post)
+
+-- the node
+noded : (t : ℕ) (c : stand-lts.Start (stand-uses t) (stand-at t) stand.Post) → Noded (varsOf (c .args .s .now)) (c .args .s .now) (c .args .at)
+noded t c = standing-noded _ _ _ _ (walk-standing _ _ _ _ (c .pre .1 .2))
+
+-- there is a node left
+some : (t : ℕ) (c : stand-lts.Start (stand-uses t) (stand-at t) stand.Post) → 1 ≤ c .args .left
+some t c = standing-some _ _ _ _ (walk-standing _ _ _ _ (c .pre .1 .2))
+
+stand-natural-requires : (t : ℕ) → stand-lts.Need-natural-requires (stand-uses t) (stand-at t) stand.Post
+stand-natural-requires t c κs = code-there _ _ _ (noded t (c .before))
+
+stand-node-len-requires : (t : ℕ) → stand-lts.Need-node-len-requires (stand-uses t) (stand-at t) stand.Post
+stand-node-len-requires t c κs = noded t (c .before .before)
+
+stand-add-next : (t : ℕ) → stand-lts.Need-add-next (stand-uses t) (stand-at t) stand.Post
+stand-add-next t c = omega (arith, standing-there _ _ _ _ (walk-standing _ _ _ _ (c .before .before .before .pre .1 .2)), c .node-len .ensures)
+
+stand-add-natural : (t : ℕ) → stand-lts.Need-add-natural (stand-uses t) (stand-at t) stand.Post
+stand-add-natural t c = omega (arith, code-there _ _ _ (noded t (c .before .before .before .before)))
+
+stand-natural-requires-2 : (t : ℕ) → stand-lts.Need-natural-requires-2 (stand-uses t) (stand-at t) stand.Post
+stand-natural-requires-2 t c κs =
+    let code = c .before .before .natural .ensures in
+    omega (arith, second-there _ _ _ (noded t (c .before .before .before .before)) (λ e. omega (arith, c .if1 .taken)))
+
+stand-leaf-stands-requires : (t : ℕ) → stand-lts.Need-leaf-stands-requires (stand-uses t) (stand-at t) stand.Post
+stand-leaf-stands-requires t c κs =
+    let s = c .before .before .before .before .before in
+    let code = c .before .before .before .natural .ensures in
+    let vars = prepared-sections _ _ (s .pre .1 .0 .prepared) .some in
+    let low = c .before .if1 .taken in
+    (s .pre .1 .0, s .pre .1 .1, rw (c .natural2 .ensures) (variable-known _ _ _ (noded t s) (omega arith) vars))
+
+stand-returns : (t : ℕ) → stand-lts.Need-returns (stand-uses t) (stand-at t) stand.Post
+stand-returns t c =
+    let s = c .before .before .before .before .before .before in
+    let code = c .before .before .before .before .natural .ensures in
+    let low = c .before .before .if1 .taken in
+    variable-way _ _ _ (s .args .z) (c .before .before .before .node-len .ensures) _ _ (omega arith) (c .before .natural2 .ensures) (c .leaf-stands .ensures)
+
+stand-returns-2 : (t : ℕ) → stand-lts.Need-returns-2 (stand-uses t) (stand-at t) stand.Post
+stand-returns-2 t c =
+    let s = c .before .before .before .before .before in
+    let code = c .before .before .before .natural .ensures in
+    constant-way _ _ _ (s .args .z) (c .before .before .node-len .ensures) (omega (arith, c .before .if1 .left)) (omega (arith, c .if2 .taken))
+
+stand-sub-stand-all : (t : ℕ) → stand-lts.Need-sub-stand-all (stand-uses t) (stand-at t) stand.Post
+stand-sub-stand-all t c = omega (arith, some t (c .before .before .before .before .before .before))
+
+stand-children-requires : (t : ℕ) → stand-lts.Need-children-requires (stand-uses t) (stand-at t) stand.Post
+stand-children-requires t c κs = noded t (c .before .before .before .before .before .before)
+
+stand-alone-requires : (t : ℕ) → stand-lts.Need-alone-requires (stand-uses t) (stand-at t) stand.Post
+stand-alone-requires t c κs = search needs
+
+stand-stand-all-requires : (t : ℕ) → stand-lts.Need-stand-all-requires (stand-uses t) (stand-at t) stand.Post
+stand-stand-all-requires t c κs =
+    let s = c .before .before .before .before .before .before .before .before in
+    let w = s .pre .1 .2 in
+    let long = c .before .before .before .before .before .node-len .ensures in
+    let many = c .before .children .ensures in
+    let code = c .before .before .before .before .before .before .natural .ensures in
+    let high = c .before .before .if3 .taken in
+    let left = some t s in
+    let few = children-few _ _ _ _ (walk-standing _ _ _ _ w) _ _ long many in
+    let is = s .pre .0 in
+    (omega arith, (s .pre .1 .0, s .pre .1 .1, walk-children _ _ _ _ w _ _ long many (λ e. omega arith), omega (arith, s .pre .1 .3), few))
+
+stand-returns-3 : (t : ℕ) → stand-lts.Need-returns-3 (stand-uses t) (stand-at t) stand.Post
+stand-returns-3 t c =
+    let s = c .before .before .before .before .before .before .before .before .before in
+    let long = c .before .before .before .before .before .before .node-len .ensures in
+    let many = c .before .before .children .ensures in
+    let code = c .before .before .before .before .before .before .before .natural .ensures in
+    let low = c .before .before .before .before .if2 .left in
+    children-way _ _ _ (s .args .z) long _ _ many code (omega arith) (c .before .before .before .if3 .taken) _ _ (c .before .alone .ensures) (c .stand-all .ensures)
+
+stand-add-map-read : (t : ℕ) → stand-lts.Need-add-map-read (stand-uses t) (stand-at t) stand.Post
+stand-add-map-read t c = omega (arith, code-there _ _ _ (noded t (c .before .before .before .before .before .before .before)))
+
+stand-map-read-requires : (t : ℕ) → stand-lts.Need-map-read-requires (stand-uses t) (stand-at t) stand.Post
+stand-map-read-requires t c κs = search needs
+
+stand-apply-requires : (t : ℕ) → stand-lts.Need-apply-requires (stand-uses t) (stand-at t) stand.Post
+stand-apply-requires t c κs =
+    let s = c .before .before .before .before .before .before .before .before in
+    let code = sym (c .before .before .before .before .before .before .natural .ensures) ∙ c .before .if4 .taken in
+    let read = c .map-read .ensures in
+    (read .neat, image-fits _ _ _ _ (s .pre .1 .2) code _ read)
+
+stand-sub-stand : (t : ℕ) → stand-lts.Need-sub-stand (stand-uses t) (stand-at t) stand.Post
+stand-sub-stand t c = omega (arith, some t (c .before .before .before .before .before .before .before .before .before))
+
+stand-stand-requires : (t : ℕ) → stand-lts.Need-stand-requires (stand-uses t) (stand-at t) stand.Post
+stand-stand-requires t c κs =
+    let s = c .before .before .before .before .before .before .before .before .before in
+    let code = sym (c .before .before .before .before .before .before .before .natural .ensures) ∙ c .before .before .if4 .taken in
+    let read = c .before .map-read .ensures in
+    let left = some t s in
+    let is = s .pre .0 in
+    let y = c .apply .ensures in
+    let long = c .before .before .before .before .before .before .node-len .ensures in
+    let walk = walk-image _ _ _ _ (s .pre .1 .2) code _ read _ (y .0) (y .1) in
+    (omega arith, (s .pre .1 .0, s .pre .1 .1, rw long walk, omega (arith, s .pre .1 .3)))
+
+stand-returns-4 : (t : ℕ) → stand-lts.Need-returns-4 (stand-uses t) (stand-at t) stand.Post
+stand-returns-4 t c =
+    let s = c .before .before .before .before .before .before .before .before .before .before in
+    let code = sym (c .before .before .before .before .before .before .before .before .natural .ensures) ∙ c .before .before .before .if4 .taken in
+    let long = c .before .before .before .before .before .before .before .node-len .ensures in
+    let image = c .before .apply in
+    image-way _ _ _ (s .args .z) long _ (image .result) _ code (c .before .before .map-read .ensures) (image .ensures .0) (c .stand .ensures)
+
+-- a restriction's code
+seven : (t : ℕ) (c : stand-lts.Else4 (stand-uses t) (stand-at t) stand.Post) →
+    natAbs (field (c .before .before .before .before .before .before .before .args .s .now) (c .before .before .before .before .before .before .before .args .at)) ≡ 7
+seven t c =
+    let code = c .before .before .before .before .before .natural .ensures in
+    let low = c .before .if3 .left in
+    walk-seven _ _ _ _ (c .before .before .before .before .before .before .before .pre .1 .2) (omega arith) (λ e. c .if4 .left (code ∙ e))
+
+stand-restriction-meets-requires : (t : ℕ) → stand-lts.Need-restriction-meets-requires (stand-uses t) (stand-at t) stand.Post
+stand-restriction-meets-requires t c κs =
+    let s = c .before .before .before .before .before .before .before in
+    let code = seven t (c) in
+    restriction-testable _ _ _ _ (s .pre .1 .2) code (wide-fields _ _ _ (noded t s) (omega arith))
+
+stand-sub-stand-2 : (t : ℕ) → stand-lts.Need-sub-stand-2 (stand-uses t) (stand-at t) stand.Post
+stand-sub-stand-2 t c = omega (arith, some t (c .before .before .before .before .before .before .before .before .before))
+
+stand-stand-requires-2 : (t : ℕ) → stand-lts.Need-stand-requires-2 (stand-uses t) (stand-at t) stand.Post
+stand-stand-requires-2 t c κs =
+    let s = c .before .before .before .before .before .before .before .before .before in
+    let left = some t s in
+    let is = s .pre .0 in
+    let long = c .before .before .before .before .before .before .node-len .ensures in
+    let walk = restriction-walk _ _ _ _ (s .pre .1 .2) (seven t (c .before .before)) in
+    (omega arith, (s .pre .1 .0, s .pre .1 .1, rw long walk, omega (arith, s .pre .1 .3)))
+
+stand-skip-requires : (t : ℕ) → stand-lts.Need-skip-requires (stand-uses t) (stand-at t) stand.Post
+stand-skip-requires t c κs =
+    let s = c .before .before .before .before .before .before .before .before .before in
+    (walk-standing _ _ _ _ (s .pre .1 .2), s .pre .1 .3)
+
+stand-returns-5 : (t : ℕ) → stand-lts.Need-returns-5 (stand-uses t) (stand-at t) stand.Post
+stand-returns-5 t c =
+    let s = c .before .before .before .before .before .before .before .before .before .before in
+    let long = c .before .before .before .before .before .before .before .node-len .ensures in
+    let met = c .before .before .restriction-meets .ensures in
+    restriction-way _ _ _ (s .args .z) long (seven t (c .before .before .before)) _ met _ (c .before .if5 .taken) (c .stand2 .ensures)
+
+stand-returns-6 : (t : ℕ) → stand-lts.Need-returns-6 (stand-uses t) (stand-at t) stand.Post
+stand-returns-6 t c =
+    let s = c .before .before .before .before .before .before .before .before .before .before in
+    let long = c .before .before .before .before .before .before .before .node-len .ensures in
+    let met = c .before .before .restriction-meets .ensures in
+    restriction-off-way _ _ _ (s .args .z) long (seven t (c .before .before .before)) _ met _ (c .before .if5 .left) (c .skip .ensures)
+
+stand-all-returns : (t : ℕ) → stand-all-lts.Need-returns (stand-all-uses t) (stand-all-at t) stand-all.Post
+stand-all-returns t c =
+    let s = c .before .before in
+    none-way _ _ _ (s .args .z) (s .args .branches) (s .args .sofar) (c .if1 .taken)
+
+stand-all-stand-requires : (t : ℕ) → stand-all-lts.Need-stand-requires (stand-all-uses t) (stand-all-at t) stand-all.Post
+stand-all-stand-requires t c κs =
+    let s = c .before .before in
+    let is = s .pre .0 in
+    (omega arith, (s .pre .1 .0, s .pre .1 .1, walk-first _ _ _ _ _ (c .if1 .left) (s .pre .1 .2), s .pre .1 .3))
+
+stand-all-joined-requires : (t : ℕ) → stand-all-lts.Need-joined-requires (stand-all-uses t) (stand-all-at t) stand-all.Post
+stand-all-joined-requires t c κs = search needs
+
+stand-all-stand-all-requires : (t : ℕ) → stand-all-lts.Need-stand-all-requires (stand-all-uses t) (stand-all-at t) stand-all.Post
+stand-all-stand-all-requires t c κs =
+    let s = c .before .before .before .before in
+    let more = c .before .before .if1 .left in
+    let is = s .pre .0 in
+    let first = c .before .stand .ensures in
+    (omega arith, (s .pre .1 .0, s .pre .1 .1, walk-rest _ _ _ _ _ more (s .pre .1 .2) _ (λ e q d h f. first e q d h f .0), s .pre .1 .3, omega (arith, s .pre .1 .4)))
+
+stand-all-returns-2 : (t : ℕ) → stand-all-lts.Need-returns-2 (stand-all-uses t) (stand-all-at t) stand-all.Post
+stand-all-returns-2 t c =
+    let s = c .before .before .before .before .before in
+    let rest = rw (c .before .joined .ensures) at (c .stand-all .ensures) in
+    more-way _ _ _ (s .args .z) (s .args .branches) (s .args .sofar) (c .before .before .before .if1 .left) _ _ (c .before .before .stand .ensures) rest
+
+pub +stand+stand-all-spec : {M : Type 1} → statement M
++stand+stand-all-spec = close μ-stand μ-stand-all (λ t. stand-lts.spec (stand-uses t) (stand-at t)
+    stand.Post
+    (stand-natural-requires t)
+    (stand-node-len-requires t)
+    (stand-add-next t)
+    (stand-add-natural t)
+    (stand-natural-requires-2 t)
+    (stand-leaf-stands-requires t)
+    (stand-returns t)
+    (stand-returns-2 t)
+    (stand-sub-stand-all t)
+    (stand-children-requires t)
+    (stand-alone-requires t)
+    (stand-stand-all-requires t)
+    (stand-returns-3 t)
+    (stand-add-map-read t)
+    (stand-map-read-requires t)
+    (stand-apply-requires t)
+    (stand-sub-stand t)
+    (stand-stand-requires t)
+    (stand-returns-4 t)
+    (stand-restriction-meets-requires t)
+    (stand-sub-stand-2 t)
+    (stand-stand-requires-2 t)
+    (stand-skip-requires t)
+    (stand-returns-5 t)
+    (stand-returns-6 t))
+    λ t. stand-all-lts.spec (stand-all-uses t) (stand-all-at t)
+    stand-all.Post
+    (stand-all-returns t)
+    (stand-all-stand-requires t)
+    (stand-all-joined-requires t)
+    (stand-all-stand-all-requires t)
+    (stand-all-returns-2 t)

@@ -1,0 +1,44 @@
+-- The elements of a variable, how its body stands at one, and what GAP and CLASH say of that. Assumes nothing.
+use mathlib.Core.Path.{_≡_}
+use Prim.Native.Nat.{ℕ, _<_}
+use mathlib.Core.Bool.{Bool, true, false}
+use mathlib.Core.List.{List, map}
+use Rattle.alpha.specs.Pick.{ifb}
+use Rattle.alpha.specs.Answer.{Answer, accepted, refused, GAP, CLASH}
+use Rattle.alpha.specs.Sheet.{Sheet, Point}
+use Rattle.alpha.specs.Box.{size}
+use Rattle.alpha.specs.Holds.{variable, isInput, inDomain}
+use Rattle.alpha.specs.Check.{Element, points}
+use Rattle.laws.specs.Sheets.{varsOf, sheetOf}
+use Rattle.domain.specs.declared.Standing.{Standing}
+use Rattle.domain.specs.declared.Standing.the-variants.{Not, Holds, Clash}
+use Rattle.domain.specs.Standing.{standing}
+
+-- the points zs as elements of variable v
+abbrev pub elementsAt : ℕ → List Point → List Element
+elementsAt v zs = map {B = Element} (λ z. record { who = v; at = z }) zs
+
+abbrev pub elementsOf : Sheet → ℕ → List Element
+elementsOf s v = elementsAt v (points (variable s v .head .box))
+
+abbrev pub isClear : Standing → Bool
+isClear Not = false
+isClear Holds = true
+isClear Clash = false
+
+-- what is said of the element numbered n
+abbrev pub faultOf : Standing → ℕ → Answer (Unit {0})
+faultOf Not n = refused GAP n
+faultOf Holds n = accepted tt
+faultOf Clash n = refused CLASH n
+
+-- how the body of variable v stands at z; outside the declared domain it is not asked
+abbrev pub bodyStanding : Sheet → ℕ → Point → Standing
+bodyStanding s v z = ifb (inDomain (variable s v) z) (λ _. standing (variable s v .body) s z) (λ _. Holds)
+
+-- i is the number of a point in the box of variable v, no input, which has n points
+pub record BodyPoint (bs : List ℕ) (v n i : ℕ) : Type 0 where
+  pub known : v < varsOf bs
+  pub no-input : isInput (variable (sheetOf bs) v) ≡ false
+  pub many : n ≡ size (variable (sheetOf bs) v .head .box)
+  pub low : i < n

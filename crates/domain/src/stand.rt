@@ -1,0 +1,107 @@
+// How a tree stands at a point: each node alike, and then its children one after another. Assumes nothing.
+use super::Standing;
+use super::Stood;
+use super::constraint::restriction_meets;
+use super::join::alone;
+use super::join::joined;
+use super::leaf::leaf_stands;
+use alpha::Int;
+use tree::node::children;
+use tree::node::natural;
+use tree::node::node_len;
+ghost use mathlib.Core.Path.{_≡_};
+ghost use Prim.Native.Nat.{ℕ, _≤_};
+ghost use Rattle.laws.specs.Sheets.{sheetOf};
+ghost use Rattle.tree.specs.Formed.{BodiesPlaced};
+ghost use Rattle.domain.specs.Inside.{Inside};
+ghost use Rattle.domain.specs.Walk.{Walk, WalkAll};
+ghost use Rattle.domain.specs.Standing.{StandsAt, StandTogether};
+
+// How the tree at `at`, of at most `left` nodes, stands at z. A restriction that does not hold there is passed over.
+pub fn stand(
+    s: &[u8],
+    tab: &[usize; 102],
+    inside: &[u8; 4096],
+    at: usize,
+    left: usize,
+    z: [Int; 4],
+) -> Stood
+    requires { ⌜ BodiesPlaced (now s) (now tab) × Inside (sheetOf (now s)) (now inside) × Walk (now s) at left z × (left ≤ 2048) ⌝ }
+    ensures { λ r. ⌜ StandsAt (now (s .entry)) at z r ⌝ }
+{
+    let code = natural(s, at);
+    let next = at + node_len(s, at);
+    if code < 1 {
+        let how = leaf_stands(s, tab, inside, natural(s, at + 8), z);
+        return Stood { how, next };
+    }
+    if code < 3 {
+        return Stood {
+            how: Standing::Holds,
+            next,
+        };
+    }
+    if code < 7 {
+        let branches = code == 6;
+        return stand_all(
+            s,
+            tab,
+            inside,
+            next,
+            left - 1,
+            z,
+            children(s, at),
+            branches,
+            alone(branches),
+        );
+    }
+    if code == 8 {
+        let y = affine::apply(affine::map_read(s, at + 8), z);
+        return stand(s, tab, inside, next, left - 1, y);
+    }
+    if restriction_meets(s, at, z) {
+        stand(s, tab, inside, next, left - 1, z)
+    } else {
+        Stood {
+            how: Standing::Not,
+            next: tree::skip::skip(s, at, left),
+        }
+    }
+}
+
+// How `count` trees, the branches of a case or operands, stand together at z, after others that stand as `sofar`.
+fn stand_all(
+    s: &[u8],
+    tab: &[usize; 102],
+    inside: &[u8; 4096],
+    at: usize,
+    left: usize,
+    z: [Int; 4],
+    count: usize,
+    branches: bool,
+    sofar: Standing,
+) -> Stood
+    requires { ⌜ BodiesPlaced (now s) (now tab) × Inside (sheetOf (now s)) (now inside) × WalkAll (now s) at left count z × (left ≤ 2048) × (count ≤ 64) ⌝ }
+    ensures { λ r. ⌜ StandTogether (now (s .entry)) at count z branches sofar r ⌝ }
+{
+    if count < 1 {
+        return Stood {
+            how: sofar,
+            next: at,
+        };
+    }
+    let first = stand(s, tab, inside, at, left, z);
+    let next = first.next;
+    let how = first.how;
+    stand_all(
+        s,
+        tab,
+        inside,
+        next,
+        left,
+        z,
+        count - 1,
+        branches,
+        joined(branches, sofar, how),
+    )
+}

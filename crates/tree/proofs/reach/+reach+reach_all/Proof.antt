@@ -1,0 +1,154 @@
+-- `tree::reach` and `tree::reach_all` meet their contracts: a tree by its node and then by its children. Assumes nothing.
+use Prim.Native.Nat.{ℕ, _+_, _*_, _-_, _<_}
+use native.Mathlib.Omega.{arith}
+use borrow.Author.Needs.{needs}
+use Rattle.tree.proofs.Standings.{standing-noded, standing-some, standing-there, standing-children, children-few, first-standing, rest-standing}
+use Rattle.tree.proofs.Reaching.{reach-some, reach-past, reach-goes, trees-none-bounded, first-ends, trees-beyond, trees-bounded}
+use borrow.Fn.Kinds.{In}
+use borrow.Fn.PlainCycle.{Measures, is, falls, and}
+use Rattle.tree.proofs.reach.reach.Reads as reach
+use Rattle.tree.proofs.reach.reach.Kinds as reach-kinds
+use Rattle.tree.proofs.reach.+reach+reach_all.Lts-reach as reach-lts
+use Rattle.tree.proofs.reach.reach_all.Reads as reach-all
+use Rattle.tree.proofs.reach.reach_all.Kinds as reach-all-kinds
+use Rattle.tree.proofs.reach.+reach+reach_all.Lts-reach_all as reach-all-lts
+use Rattle.tree.proofs.node.children.Reads as children-reads
+use Rattle.tree.proofs.node.node_len.Reads as node-len-reads
+use Rattle.tree.proofs.reach.reach_below.Reads as reach-below-reads
+use Rattle.tree.proofs.reach.+reach+reach_all.{statement}
+use Rattle.tree.proofs.reach.+reach+reach_all.Tie.{close}
+
+abbrev μ-reach : Measures 1 reach-kinds.ps ℕ
+μ-reach κs a = 70 * a .1 .1 .0
+
+abbrev μ-reach-all : Measures 1 reach-all-kinds.ps ℕ
+μ-reach-all κs a = 70 * a .1 .1 .0 + (a .1 .1 .1 .0 + 1)
+
+abbrev reach-at : ℕ → In 1 reach-kinds.ps
+reach-at t = and 1 reach-kinds.ps (is 1 reach-kinds.ps μ-reach t) reach.Pre
+
+abbrev reach-below : ℕ → In 1 reach-kinds.ps
+reach-below t = and 1 reach-kinds.ps (falls 1 reach-kinds.ps _<_ μ-reach t) reach.Pre
+
+abbrev reach-all-at : ℕ → In 1 reach-all-kinds.ps
+reach-all-at t = and 1 reach-all-kinds.ps (is 1 reach-all-kinds.ps μ-reach-all t) reach-all.Pre
+
+abbrev reach-all-below : ℕ → In 1 reach-all-kinds.ps
+reach-all-below t =
+    and 1 reach-all-kinds.ps (falls 1 reach-all-kinds.ps _<_ μ-reach-all t) reach-all.Pre
+
+abbrev reach-uses : ℕ → reach-lts.Claims
+reach-uses t = (
+  reach-below-reads.Asked,
+  reach-below-reads.Learnt,
+  node-len-reads.Asked,
+  node-len-reads.Learnt,
+  children-reads.Asked,
+  children-reads.Learnt,
+  reach-all-below t,
+  reach-all.Post,
+)
+
+abbrev reach-all-uses : ℕ → reach-all-lts.Claims
+reach-all-uses t = (reach-below t, reach.Post, reach-all-below t, reach-all.Post)
+
+reach-reach-below-requires : (t : ℕ) → reach-lts.Need-reach-below-requires (reach-uses t) (reach-at t) reach.Post
+reach-reach-below-requires t c κs = (standing-noded _ _ _ _ (c .before .pre .1 .0), c .before .pre .1 .2)
+
+reach-enum-known-r : (t : ℕ) → reach-lts.Need-enum-known-r (reach-uses t) (reach-at t) reach.Post
+reach-enum-known-r t c = search needs
+
+reach-enum-told : (t : ℕ) → reach-lts.Need-enum-told (reach-uses t) (reach-at t) reach.Post
+reach-enum-told t c = search needs
+
+reach-returns : (t : ℕ) → reach-lts.Need-returns (reach-uses t) (reach-at t) reach.Post
+reach-returns t c = reach-past _ _ _ _ (c .before .before .reach-below .ensures) (c .enum-told .given .1)
+
+reach-node-len-requires : (t : ℕ) → reach-lts.Need-node-len-requires (reach-uses t) (reach-at t) reach.Post
+reach-node-len-requires t c κs = standing-noded _ _ _ _ (c .before .before .before .before .before .pre .1 .0)
+
+reach-add-reach-all : (t : ℕ) → reach-lts.Need-add-reach-all (reach-uses t) (reach-at t) reach.Post
+reach-add-reach-all t c = omega (arith, standing-there _ _ _ _ (c .before .before .before .before .before .before .pre .1 .0), c .node-len .ensures)
+
+reach-sub-reach-all : (t : ℕ) → reach-lts.Need-sub-reach-all (reach-uses t) (reach-at t) reach.Post
+reach-sub-reach-all t c = omega (arith, standing-some _ _ _ _ (c .before .before .before .before .before .before .pre .1 .0))
+
+reach-children-requires : (t : ℕ) → reach-lts.Need-children-requires (reach-uses t) (reach-at t) reach.Post
+reach-children-requires t c κs = standing-noded _ _ _ _ (c .before .before .before .before .before .before .pre .1 .0)
+
+reach-reach-all-requires : (t : ℕ) → reach-lts.Need-reach-all-requires (reach-uses t) (reach-at t) reach.Post
+reach-reach-all-requires t c κs =
+    let s = c .before .before .before .before .before .before .before in
+    let is = s .pre .0 in
+    let h = s .pre .1 in
+    let least = standing-some _ _ _ _ (h .0) in
+    let long = c .before .node-len .ensures in
+    let many = c .children .ensures in
+    let few = children-few _ _ _ _ (h .0) _ _ long many in
+    let says = c .before .before .before .before .before .reach-below .ensures in
+    let below = reach-some _ _ _ _ says (h .2) (standing-noded _ _ _ _ (h .0)) _ (c .before .before .before .r .given .1) in
+    (omega arith, (standing-children _ _ _ _ (h .0) _ _ long many, omega arith, few, below))
+
+reach-returns-2 : (t : ℕ) → reach-lts.Need-returns-2 (reach-uses t) (reach-at t) reach.Post
+reach-returns-2 t c =
+    let says = c .before .before .before .before .before .before .reach-below .ensures in
+    let long = c .before .before .node-len .ensures in
+    reach-goes _ _ _ _ says _ (c .before .before .before .before .r .given .1) _ _ long (c .before .children .ensures) _ (c .reach-all .ensures)
+
+reach-all-returns : (t : ℕ) → reach-all-lts.Need-returns (reach-all-uses t) (reach-all-at t) reach-all.Post
+reach-all-returns t c = trees-none-bounded _ _ _ _ (c .if1 .taken)
+
+reach-all-reach-requires : (t : ℕ) → reach-all-lts.Need-reach-requires (reach-all-uses t) (reach-all-at t) reach-all.Post
+reach-all-reach-requires t c κs =
+    let s = c .before .before in
+    let is = s .pre .0 in
+    let h = s .pre .1 in
+    (omega arith, (first-standing _ _ _ _ _ (c .if1 .left) (h .0), h .1, h .3))
+
+reach-all-enum-known-r : (t : ℕ) → reach-all-lts.Need-enum-known-r (reach-all-uses t) (reach-all-at t) reach-all.Post
+reach-all-enum-known-r t c = search needs
+
+reach-all-enum-told : (t : ℕ) → reach-all-lts.Need-enum-told (reach-all-uses t) (reach-all-at t) reach-all.Post
+reach-all-enum-told t c = search needs
+
+reach-all-returns-2 : (t : ℕ) → reach-all-lts.Need-returns-2 (reach-all-uses t) (reach-all-at t) reach-all.Post
+reach-all-returns-2 t c = trees-beyond _ _ _ _ (c .before .before .before .if1 .left) _ (c .before .before .reach .ensures) (c .enum-told .given .1)
+
+reach-all-reach-all-requires : (t : ℕ) → reach-all-lts.Need-reach-all-requires (reach-all-uses t) (reach-all-at t) reach-all.Post
+reach-all-reach-all-requires t c κs =
+    let s = c .before .before .before .before .before .before in
+    let is = s .pre .0 in
+    let h = s .pre .1 in
+    let enough = c .before .before .before .before .if1 .left in
+    let ends = first-ends _ _ _ _ enough _ (c .before .before .before .reach .ensures) _ (c .before .r .given .1) in
+    (omega arith, (rest-standing _ _ _ _ _ enough (h .0) _ ends, h .1, omega (arith, h .2), h .3))
+
+reach-all-returns-3 : (t : ℕ) → reach-all-lts.Need-returns-3 (reach-all-uses t) (reach-all-at t) reach-all.Post
+reach-all-returns-3 t c =
+    let enough = c .before .before .before .before .before .if1 .left in
+    let first = c .before .before .before .before .reach .ensures in
+    trees-bounded _ _ _ _ enough _ first _ (c .before .before .r .given .1) _ (c .reach-all .ensures)
+
+pub +reach+reach-all-spec : {M : Type 1} → statement M
++reach+reach-all-spec = close μ-reach μ-reach-all (λ t. reach-lts.spec (reach-uses t) (reach-at t)
+    reach.Post
+    (reach-reach-below-requires t)
+    (reach-enum-known-r t)
+    (reach-enum-told t)
+    (reach-returns t)
+    (reach-node-len-requires t)
+    (reach-add-reach-all t)
+    (reach-sub-reach-all t)
+    (reach-children-requires t)
+    (reach-reach-all-requires t)
+    (reach-returns-2 t))
+    λ t. reach-all-lts.spec
+    (reach-all-uses t) (reach-all-at t)
+    reach-all.Post
+    (reach-all-returns t)
+    (reach-all-reach-requires t)
+    (reach-all-enum-known-r t)
+    (reach-all-enum-told t)
+    (reach-all-returns-2 t)
+    (reach-all-reach-all-requires t)
+    (reach-all-returns-3 t)

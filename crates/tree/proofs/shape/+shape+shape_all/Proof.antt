@@ -1,0 +1,182 @@
+-- `tree::shape` and `tree::shape_all` meet their contracts: a tree is judged by its node and then by its children. Assumes nothing.
+use Prim.Native.Nat.{ℕ, _+_, _*_, _-_, _<_}
+use mathlib.Core.Path.{sym, _∙_}
+use native.Mathlib.Omega.{arith}
+use borrow.Author.Needs.{needs}
+use borrow.Author.Tests.{not-true, not-false}
+use Rattle.laws.proofs.Nodes.{node-next}
+use Rattle.tree.proofs.Judging.{FirstOf, flat-first, noded-few, tree-no-nodes, tree-no-depth, tree-misfit}
+use Rattle.tree.proofs.Judging.{tree-goes, trees-none, trees-bad, trees-go, bad-judges, fits-judges}
+use borrow.Fn.Kinds.{In}
+use borrow.Fn.PlainCycle.{Measures, is, falls, and}
+use Rattle.tree.proofs.shape.shape.Reads as shape
+use Rattle.tree.proofs.shape.shape.Kinds as shape-kinds
+use Rattle.tree.proofs.shape.+shape+shape_all.Lts-shape as shape-lts
+use Rattle.tree.proofs.shape.shape_all.Reads as shape-all
+use Rattle.tree.proofs.shape.shape_all.Kinds as shape-all-kinds
+use Rattle.tree.proofs.shape.+shape+shape_all.Lts-shape_all as shape-all-lts
+use Rattle.tree.proofs.node.children.Reads as children-reads
+use Rattle.tree.proofs.node.node_len.Reads as node-len-reads
+use Rattle.tree.proofs.shape.fits_here.Reads as fits-here-reads
+use Rattle.tree.proofs.shape.wanted_below.Reads as wanted-below-reads
+use Rattle.tree.proofs.shape.+shape+shape_all.{statement}
+use Rattle.tree.proofs.shape.+shape+shape_all.Tie.{close}
+
+abbrev μ-shape : Measures 2 shape-kinds.ps ℕ
+μ-shape κs a = 70 * a .1 .1 .1 .1 .0
+
+abbrev μ-shape-all : Measures 2 shape-all-kinds.ps ℕ
+μ-shape-all κs a = 70 * a .1 .1 .1 .1 .0 + (a .1 .1 .1 .1 .1 .1 .0 + 1)
+
+abbrev shape-at : ℕ → In 2 shape-kinds.ps
+shape-at t = and 2 shape-kinds.ps (is 2 shape-kinds.ps μ-shape t) shape.Pre
+
+abbrev shape-below : ℕ → In 2 shape-kinds.ps
+shape-below t = and 2 shape-kinds.ps (falls 2 shape-kinds.ps _<_ μ-shape t) shape.Pre
+
+abbrev shape-all-at : ℕ → In 2 shape-all-kinds.ps
+shape-all-at t = and 2 shape-all-kinds.ps (is 2 shape-all-kinds.ps μ-shape-all t) shape-all.Pre
+
+abbrev shape-all-below : ℕ → In 2 shape-all-kinds.ps
+shape-all-below t =
+    and 2 shape-all-kinds.ps (falls 2 shape-all-kinds.ps _<_ μ-shape-all t) shape-all.Pre
+
+abbrev shape-uses : ℕ → shape-lts.Claims
+shape-uses t = (
+  fits-here-reads.Asked,
+  fits-here-reads.Learnt,
+  node-len-reads.Asked,
+  node-len-reads.Learnt,
+  wanted-below-reads.Asked,
+  wanted-below-reads.Learnt,
+  children-reads.Asked,
+  children-reads.Learnt,
+  shape-all-below t,
+  shape-all.Post,
+)
+
+abbrev shape-all-uses : ℕ → shape-all-lts.Claims
+shape-all-uses t = (shape-below t, shape.Post, shape-all-below t, shape-all.Post)
+
+shape-returns : (t : ℕ) → shape-lts.Need-returns (shape-uses t) (shape-at t) shape.Post
+shape-returns t c = bad-judges _ _ (tree-no-nodes _ _ _ _ _ (c .if1 .taken))
+
+shape-returns-2 : (t : ℕ) → shape-lts.Need-returns-2 (shape-uses t) (shape-at t) shape.Post
+shape-returns-2 t c = bad-judges _ _ (tree-no-depth _ _ _ _ _ (c .if2 .taken))
+
+-- the first node, and the others after it
+the-first : (t : ℕ) (c : shape-lts.Else2 (shape-uses t) (shape-at t) shape.Post) →
+    FirstOf (c .before .before .before .args .s .now) (c .before .before .before .args .at) (c .before .before .before .args .left)
+the-first t c = flat-first _ _ _ (c .before .if1 .left) (c .before .before .before .pre .1 .1)
+
+shape-fits-here-requires : (t : ℕ) → shape-lts.Need-fits-here-requires (shape-uses t) (shape-at t) shape.Post
+shape-fits-here-requires t c κs = (c .before .before .before .pre .1 .0, the-first t c .noded)
+
+shape-returns-3 : (t : ℕ) → shape-lts.Need-returns-3 (shape-uses t) (shape-at t) shape.Post
+shape-returns-3 t c =
+    let first = the-first t (c .before .before) in
+    let n = first .noded in
+    let here = c .before .fits-here .ensures (n .what) (n .next) (n .read) in
+    let nodes = c .before .before .before .if1 .left in
+    let depth = c .before .before .if2 .left in
+    bad-judges _ _ (tree-misfit _ _ _ _ _ nodes depth (n .what) (n .next) (n .read) (sym here ∙ not-true _ (c .if3 .taken)))
+
+shape-node-len-requires : (t : ℕ) → shape-lts.Need-node-len-requires (shape-uses t) (shape-at t) shape.Post
+shape-node-len-requires t c κs = the-first t (c .before .before) .noded
+
+shape-add-next : (t : ℕ) → shape-lts.Need-add-next (shape-uses t) (shape-at t) shape.Post
+shape-add-next t c = omega (arith, the-first t (c .before .before .before) .there, c .node-len .ensures)
+
+shape-wanted-below-requires : (t : ℕ) → shape-lts.Need-wanted-below-requires (shape-uses t) (shape-at t) shape.Post
+shape-wanted-below-requires t c κs = (the-first t (c .before .before .before) .noded, c .before .before .before .before .before .before .pre .1 .3)
+
+shape-children-requires : (t : ℕ) → shape-lts.Need-children-requires (shape-uses t) (shape-at t) shape.Post
+shape-children-requires t c κs = the-first t (c .before .before .before .before) .noded
+
+shape-shape-all-requires : (t : ℕ) → shape-lts.Need-shape-all-requires (shape-uses t) (shape-at t) shape.Post
+shape-shape-all-requires t c κs =
+    let s = c .before .before .before .before .before .before .before .before in
+    let first = the-first t (c .before .before .before .before .before) in
+    let few = noded-few _ _ _ _ (first .noded) (c .children .ensures) in
+    let is = s .pre .0 in
+    let some = c .before .before .before .before .before .if2 .left in
+    (omega arith, (s .pre .1 .0, rw (c .before .before .node-len .ensures) (first .rest), omega arith, c .before .wanted-below .ensures .1, few))
+
+shape-returns-4 : (t : ℕ) → shape-lts.Need-returns-4 (shape-uses t) (shape-at t) shape.Post
+shape-returns-4 t c =
+    let n = the-first t (c .before .before .before .before .before .before) .noded in
+    let here = sym (c .before .before .before .before .before .fits-here .ensures (n .what) (n .next) (n .read)) ∙ not-false _ (c .before .before .before .before .if3 .left) in
+    let long = c .before .before .before .node-len .ensures in
+    let below = c .before .before .wanted-below .ensures .0 (n .what) (n .next) (n .read) in
+    let many = c .before .children .ensures (n .what) (n .next) (n .read) in
+    let next = node-next _ _ _ (n .what) (n .next) (n .read) in
+    let nodes = c .before .before .before .before .before .before .before .if1 .left in
+    let depth = c .before .before .before .before .before .before .if2 .left in
+    let all = c .shape-all .ensures in
+    record {
+      is = all .is ∙ rw (long, below, many, ← next) (tree-goes _ _ _ _ _ nodes depth (n .what) (n .next) (n .read) here);
+      flat = all .flat;
+    }
+
+shape-all-returns : (t : ℕ) → shape-all-lts.Need-returns (shape-all-uses t) (shape-all-at t) shape-all.Post
+shape-all-returns t c =
+    let s = c .before .before in
+    fits-judges _ _ _ _ (trees-none _ _ _ _ _ _ (c .if1 .taken)) (s .pre .1 .1)
+
+shape-all-shape-requires : (t : ℕ) → shape-all-lts.Need-shape-requires (shape-all-uses t) (shape-all-at t) shape-all.Post
+shape-all-shape-requires t c κs =
+    let s = c .before .before in
+    let is = s .pre .0 in
+    (omega arith, (s .pre .1 .0, s .pre .1 .1, s .pre .1 .2, s .pre .1 .3))
+
+shape-all-enum-known-r : (t : ℕ) → shape-all-lts.Need-enum-known-r (shape-all-uses t) (shape-all-at t) shape-all.Post
+shape-all-enum-known-r t c = search needs
+
+shape-all-enum-told : (t : ℕ) → shape-all-lts.Need-enum-told (shape-all-uses t) (shape-all-at t) shape-all.Post
+shape-all-enum-told t c = search needs
+
+shape-all-returns-2 : (t : ℕ) → shape-all-lts.Need-returns-2 (shape-all-uses t) (shape-all-at t) shape-all.Post
+shape-all-returns-2 t c =
+    let x = c .before .before .shape .ensures in
+    bad-judges _ _ (trees-bad _ _ _ _ _ _ (c .before .before .before .if1 .left) (sym (c .enum-told .given .1) ∙ x .is))
+
+shape-all-shape-all-requires : (t : ℕ) → shape-all-lts.Need-shape-all-requires (shape-all-uses t) (shape-all-at t) shape-all.Post
+shape-all-shape-all-requires t c κs =
+    let s = c .before .before .before .before .before .before in
+    let is = s .pre .0 in
+    let some = c .before .before .before .before .if1 .left in
+    let x = c .before .before .before .shape .ensures in
+    (omega arith, (s .pre .1 .0, x .flat _ _ (c .before .r .given .1), s .pre .1 .2, s .pre .1 .3, omega (arith, s .pre .1 .4)))
+
+shape-all-returns-3 : (t : ℕ) → shape-all-lts.Need-returns-3 (shape-all-uses t) (shape-all-at t) shape-all.Post
+shape-all-returns-3 t c =
+    let x = c .before .before .before .before .shape .ensures in
+    let y = c .shape-all .ensures in
+    record {
+      is = y .is ∙ trees-go _ _ _ _ _ _ (c .before .before .before .before .before .if1 .left) _ _ (sym (c .before .before .r .given .1) ∙ x .is);
+      flat = y .flat;
+    }
+
+pub +shape+shape-all-spec : {M : Type 1} → statement M
++shape+shape-all-spec = close μ-shape μ-shape-all (λ t. shape-lts.spec (shape-uses t) (shape-at t)
+    shape.Post
+    (shape-returns t)
+    (shape-returns-2 t)
+    (shape-fits-here-requires t)
+    (shape-returns-3 t)
+    (shape-node-len-requires t)
+    (shape-add-next t)
+    (shape-wanted-below-requires t)
+    (shape-children-requires t)
+    (shape-shape-all-requires t)
+    (shape-returns-4 t))
+    λ t. shape-all-lts.spec
+    (shape-all-uses t) (shape-all-at t)
+    shape-all.Post
+    (shape-all-returns t)
+    (shape-all-shape-requires t)
+    (shape-all-enum-known-r t)
+    (shape-all-enum-told t)
+    (shape-all-returns-2 t)
+    (shape-all-shape-all-requires t)
+    (shape-all-returns-3 t)

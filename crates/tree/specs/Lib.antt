@@ -1,0 +1,8 @@
+-- What the walkers over prefix nodes require and answer, by the definitions of crate alpha.
+pub mod Standing
+pub mod Prepared
+pub mod Judged
+pub mod Sorted
+pub mod Bounding
+pub mod Ruled
+pub mod Formed

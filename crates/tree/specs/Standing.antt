@@ -1,0 +1,38 @@
+-- What stands at a place of the bytes: a node, a tree of at most so many nodes, so many trees one after another. Assumes nothing.
+use mathlib.Core.Path.{_≡_}
+use Prim.Native.Nat.{ℕ, _+_, _≤_}
+use mathlib.Core.List.{List}
+use lib.ListN.{length}
+use lib.IntN.{natAbs}
+use Rattle.alpha.specs.Field.{field}
+use Rattle.alpha.specs.Sheet.{Node, Expr, Exprs}
+use Rattle.alpha.specs.Read.{got, node}
+use Rattle.alpha.specs.Written.{branchCount, nodeCount, nodeCounts}
+use Rattle.laws.specs.At.{At, AllAt}
+
+-- a node was read at p
+pub record Noded (vars : ℕ) (bs : List ℕ) (p : ℕ) : Type 0 where
+  pub what : Node
+  pub next : ℕ
+  pub read : node vars bs p ≡ got what next
+
+-- the three number fields of a restriction or a dependence stand at p, and the second and third are within their limits
+pub record Wide (bs : List ℕ) (p : ℕ) : Type 0 where
+  pub there : p + 24 ≤ length bs
+  pub dim : natAbs (field bs (p + 8)) ≤ 4
+  pub many : natAbs (field bs (p + 16)) ≤ 64
+
+-- a tree of at most `left` nodes stands at p
+pub record Standing (vars : ℕ) (bs : List ℕ) (p left : ℕ) : Type 0 where
+  pub tree : Expr
+  pub end : ℕ
+  pub at : At tree vars bs p end
+  pub few : nodeCount tree ≤ left
+
+-- n trees, of at most `left` nodes in all, stand from p on
+pub record StandingAll (vars : ℕ) (bs : List ℕ) (p left n : ℕ) : Type 0 where
+  pub trees : Exprs
+  pub end : ℕ
+  pub at : AllAt trees vars bs p end
+  pub few : nodeCounts trees ≤ left
+  pub many : branchCount trees ≡ n

@@ -1,0 +1,93 @@
+// REACH of a tree: from the top down, where the coordinates reach so far. Assumes nothing.
+use super::Bounded;
+use super::node::children;
+use super::node::natural;
+use super::node::node_len;
+use affine::Reached;
+use affine::map_reach;
+use affine::map_read;
+use affine::row_reach;
+use affine::row_read;
+ghost use mathlib.Core.Path.{_≡_};
+ghost use Prim.Native.Nat.{_+_, _*_, _≤_};
+ghost use lib.ListN.{length};
+ghost use lib.Dec.{leb};
+ghost use Rattle.alpha.specs.Reach.{limit, rowReach};
+ghost use Rattle.affine.specs.Reading.{rowFields};
+ghost use Rattle.laws.specs.Sheets.{varsOf};
+ghost use Rattle.tree.specs.Standing.{Noded, Standing, StandingAll};
+ghost use Rattle.tree.specs.Bounding.{constraintsReach, NodeReached, TreeBounded, TreesBounded};
+
+// The row of n coefficients at `at` passes no limit where the coordinates reach `around`.
+pub fn row_within(s: &[u8], at: usize, n: usize, around: u64) -> bool
+    requires { ⌜ (n ≤ 4) × (at + (8 * n + 8) ≤ length (now s)) × (1 ≤ around) ⌝ }
+    ensures { λ r. ⌜ r ≡ leb (rowReach around (rowFields n (now (s .entry)) at)) limit ⌝ }
+{
+    match row_reach(row_read(s, at, n), around) {
+        Reached::Within(_) => true,
+        Reached::Past => false,
+    }
+}
+
+// So do the rows of `count` constraints of n coefficients.
+fn constraints_within(s: &[u8], at: usize, count: usize, n: usize, around: u64) -> bool
+    requires { ⌜ (n ≤ 4) × (at + count * (16 + 8 * n) ≤ length (now s)) × (1 ≤ around) ⌝ }
+    ensures { λ r. ⌜ r ≡ constraintsReach around n count (now (s .entry)) at ⌝ }
+{
+    let step = 16 + 8 * n;
+    let mut p = at;
+    let mut left = count;
+    while left > 0 {
+        if !row_within(s, p + 8, n, around) {
+            return false;
+        }
+        p += step;
+        left -= 1;
+    }
+    true
+}
+
+// How far the coordinates reach at the children of the node at `at`, or that the node itself passes the limit.
+fn reach_below(s: &[u8], at: usize, around: u64) -> Reached
+    requires { ⌜ Noded (varsOf (now s)) (now s) at × (1 ≤ around) ⌝ }
+    ensures { λ r. ⌜ NodeReached (now (s .entry)) at around r ⌝ }
+{
+    let code = natural(s, at);
+    if code == 8 {
+        return map_reach(map_read(s, at + 8), around);
+    }
+    if code == 7 {
+        if constraints_within(s, at + 24, natural(s, at + 16), natural(s, at + 8), around) {
+            return Reached::Within(around);
+        }
+        return Reached::Past;
+    }
+    Reached::Within(around)
+}
+
+// The tree at `at`, of at most `left` nodes, where the coordinates reach `around`.
+pub fn reach(s: &[u8], at: usize, left: usize, around: u64) -> Bounded
+    requires { ⌜ Standing (varsOf (now s)) (now s) at left × (left ≤ 2048) × (1 ≤ around) ⌝ }
+    ensures { λ r. ⌜ TreeBounded (now (s .entry)) at around r ⌝ }
+{
+    let r = reach_below(s, at, around);
+    let Reached::Within(below) = r else {
+        return Bounded::Beyond;
+    };
+    reach_all(s, at + node_len(s, at), left - 1, children(s, at), below)
+}
+
+// `count` trees one after another.
+fn reach_all(s: &[u8], at: usize, left: usize, count: usize, around: u64) -> Bounded
+    requires { ⌜ StandingAll (varsOf (now s)) (now s) at left count × (left ≤ 2048) × (count ≤ 64) × (1 ≤ around) ⌝ }
+    ensures { λ r. ⌜ TreesBounded (now (s .entry)) at around count r ⌝ }
+{
+    if count < 1 {
+        return Bounded::Next(at);
+    }
+    let r = reach(s, at, left, around);
+    let Bounded::Next(next) = r else {
+        return Bounded::Beyond;
+    };
+    reach_all(s, next, left, count - 1, around)
+}

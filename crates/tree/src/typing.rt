@@ -1,0 +1,152 @@
+// TYPE of a tree: from its children up. Assumes nothing.
+use super::Typed;
+use super::node::children;
+use super::node::natural;
+use super::node::node_len;
+use super::variable::sort_of;
+ghost use mathlib.Core.Path.{_≡_};
+ghost use Prim.Native.Nat.{ℕ, _+_, _≤_, _<_};
+ghost use mathlib.Core.Option.{Option, some};
+ghost use lib.ListN.{getD};
+ghost use Rattle.alpha.specs.Sheet.{Sort};
+ghost use Rattle.alpha.specs.Read.{noHead, unaryOf, binaryOf};
+ghost use Rattle.alpha.specs.Typing.{unarySort, binarySort};
+ghost use Rattle.laws.specs.Sheets.{headsOf, varsOf};
+ghost use Rattle.tree.specs.Standing.{Noded, Standing, StandingAll};
+ghost use Rattle.tree.specs.Prepared.{Prepared};
+ghost use Rattle.tree.specs.Sorted.{typedAt, asInteger, asBoolean, anyBoolean, IfAt, TreeTyped, TreesTyped, NodeTyped};
+
+// The type of variable v, of a node that ends at `next`.
+fn variable_type(s: &[u8], tab: &[usize; 102], v: usize, next: usize) -> Typed
+    requires { ⌜ Prepared (now s) (now tab) × (v < varsOf (now s)) ⌝ }
+    ensures { λ r. ⌜ r ≡ typedAt (some (getD (headsOf (now (s .entry))) v noHead .sort)) next ⌝ }
+{
+    if sort_of(s, tab, v) == 0 {
+        Typed::Integer(next)
+    } else {
+        Typed::Boolean(next)
+    }
+}
+
+fn as_integer(t: Typed) -> Typed
+    ensures { λ r. ⌜ r ≡ asInteger t ⌝ }
+{
+    match t {
+        Typed::Integer(q) => Typed::Integer(q),
+        Typed::Boolean(_) => Typed::Mistyped,
+        Typed::Mistyped => Typed::Mistyped,
+    }
+}
+
+fn as_boolean(t: Typed) -> Typed
+    ensures { λ r. ⌜ r ≡ asBoolean t ⌝ }
+{
+    match t {
+        Typed::Integer(_) => Typed::Mistyped,
+        Typed::Boolean(q) => Typed::Boolean(q),
+        Typed::Mistyped => Typed::Mistyped,
+    }
+}
+
+fn any_boolean(t: Typed) -> Typed
+    ensures { λ r. ⌜ r ≡ anyBoolean t ⌝ }
+{
+    match t {
+        Typed::Integer(q) => Typed::Boolean(q),
+        Typed::Boolean(q) => Typed::Boolean(q),
+        Typed::Mistyped => Typed::Mistyped,
+    }
+}
+
+// What the unary operator `op` gives for an operand of the type t: - takes an integer, not a boolean.
+fn unary_type(op: usize, t: Typed) -> Typed
+    requires { ⌜ op ≤ 1 ⌝ }
+    ensures { λ r. ⌜ ((o : Option Sort) (q : ℕ) → t ≡ typedAt o q → r ≡ typedAt (unarySort (unaryOf op) o) q) ⌝ }
+{
+    if op < 1 { as_integer(t) } else { as_boolean(t) }
+}
+
+// What the binary operator `op` gives for operands of the type t: + to max take integers; = and <> any one type; order relations
+// integers; and, or, xor booleans.
+fn binary_type(op: usize, t: Typed) -> Typed
+    requires { ⌜ op ≤ 15 ⌝ }
+    ensures { λ r. ⌜ ((o : Option Sort) (q : ℕ) → t ≡ typedAt o q → r ≡ typedAt (binarySort (binaryOf op) o) q) ⌝ }
+{
+    if op < 7 {
+        return as_integer(t);
+    }
+    if op < 9 {
+        return any_boolean(t);
+    }
+    if op < 13 {
+        return any_boolean(as_integer(t));
+    }
+    as_boolean(t)
+}
+
+// What the node at `at`, no if, gives for children of the type t.
+fn node_type(s: &[u8], at: usize, t: Typed) -> Typed
+    requires { ⌜ Noded (varsOf (now s)) (now s) at ⌝ }
+    ensures { λ r. ⌜ NodeTyped (now (s .entry)) at t r ⌝ }
+{
+    let code = natural(s, at);
+    if code == 3 {
+        return unary_type(natural(s, at + 8), t);
+    }
+    if code == 4 {
+        return binary_type(natural(s, at + 8), t);
+    }
+    t
+}
+
+// The type of the tree at `at`, of at most `left` nodes.
+pub fn type_of(s: &[u8], tab: &[usize; 102], at: usize, left: usize) -> Typed
+    requires { ⌜ Prepared (now s) (now tab) × Standing (varsOf (now s)) (now s) at left × (left ≤ 2048) ⌝ }
+    ensures { λ r. ⌜ TreeTyped (now (s .entry)) at r ⌝ }
+{
+    let code = natural(s, at);
+    let next = at + node_len(s, at);
+    if code < 1 {
+        return variable_type(s, tab, natural(s, at + 8), next);
+    }
+    if code < 2 {
+        return Typed::Integer(next);
+    }
+    if code < 3 {
+        return Typed::Boolean(next);
+    }
+    if code == 5 {
+        return type_if(s, tab, next, left - 1);
+    }
+    let t = type_all(s, tab, next, left - 1, children(s, at));
+    node_type(s, at, t)
+}
+
+// The type of an if whose three parts stand from `at` on.
+fn type_if(s: &[u8], tab: &[usize; 102], at: usize, left: usize) -> Typed
+    requires { ⌜ Prepared (now s) (now tab) × StandingAll (varsOf (now s)) (now s) at left 3 × (left ≤ 2048) ⌝ }
+    ensures { λ r. ⌜ IfAt (now (s .entry)) at r ⌝ }
+{
+    let t = type_of(s, tab, at, left);
+    match t {
+        Typed::Integer(_) => Typed::Mistyped,
+        Typed::Boolean(next) => type_all(s, tab, next, left, 2),
+        Typed::Mistyped => Typed::Mistyped,
+    }
+}
+
+// The type that `count` trees have, which stand one after another from `at` on.
+fn type_all(s: &[u8], tab: &[usize; 102], at: usize, left: usize, count: usize) -> Typed
+    requires { ⌜ Prepared (now s) (now tab) × StandingAll (varsOf (now s)) (now s) at left count × (left ≤ 2048) × (1 ≤ count) × (count ≤ 64) ⌝ }
+    ensures { λ r. ⌜ TreesTyped (now (s .entry)) at count r ⌝ }
+{
+    let t = type_of(s, tab, at, left);
+    if count < 2 {
+        return t;
+    }
+    match t {
+        Typed::Integer(next) => as_integer(type_all(s, tab, next, left, count - 1)),
+        Typed::Boolean(next) => as_boolean(type_all(s, tab, next, left, count - 1)),
+        Typed::Mistyped => Typed::Mistyped,
+    }
+}
