@@ -1,0 +1,46 @@
+-- `accept::body` meets its contract. Assumes nothing.
+use mathlib.Core.Path.{_≡_, sym, ap, _∙_}
+use Prim.Native.Nat.{_+_, _-_}
+use native.Mathlib.Omega.{arith}
+use lib.ListN.{take, drop}
+use Rattle.alpha.specs.Ask.{bytesIn}
+use borrow.Author.Needs.{needs}
+use Rattle.accept.proofs.body.Statement.{statement}
+use Rattle.accept.proofs.body.Tie as tie
+use Rattle.accept.proofs.body.Reads as reads
+use Rattle.accept.proofs.body.Lts as lts
+use Rattle.accept.proofs.find_body.Reads as find-body-reads
+
+-- src/lib.rt:97:9
+find-body-requires : tie.Need-find-body-requires
+find-body-requires c κs = search needs
+
+-- src/lib.rt:99:15
+add-end : tie.Need-add-end
+add-end c = search needs
+
+-- src/lib.rt:100:5
+sub-result : tie.Need-sub-result
+sub-result c = search needs
+
+-- src/lib.rt:100:5
+part-result-start : tie.Need-part-result-start
+part-result-start c = search needs
+
+-- src/lib.rt:100:5
+part-result-end : tie.Need-part-result-end
+part-result-end c = search needs
+
+-- src/lib.rt:94:1
+returns : tie.Need-returns
+returns c =
+    let p = c .before .before .find-body .result in
+    let bs = c .before .before .before .before .args .s .now in
+    let found = c .before .before .find-body .ensures in
+    let len : p .start + p .len - p .start ≡ p .len = omega arith in
+    record { answer = ap (λ n. take n (drop (p .start) bs)) len ∙ ap (λ q. bytesIn q bs) (sym (found .is)) }
+
+pub body-spec : {M : Type 1} → statement M
+body-spec =
+    tie.close
+    (tie.spec find-body-requires add-end sub-result part-result-start part-result-end returns)

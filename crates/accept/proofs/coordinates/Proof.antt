@@ -1,0 +1,82 @@
+-- `accept::coordinates` meets its contract: the coordinates so far are copied. Assumes nothing.
+use mathlib.Core.Path.{_≡_, refl, sym, ap, _∙_}
+use Prim.Native.Nat.{_-_, _<_}
+use native.Mathlib.Omega.{arith}
+use borrow.Author.Needs.{needs}
+use borrow.Author.Needs.{sfits-of}
+use mir.Facts.{toZ-ofZ}
+use Rattle.accept.proofs.Asked.{Copied, copied-more, copied-all}
+use Rattle.accept.proofs.coordinates.Statement.{statement}
+use Rattle.accept.proofs.coordinates.Tie as tie
+use Rattle.accept.proofs.coordinates.Reads as reads
+use Rattle.accept.proofs.coordinates.Lts as lts
+use Rattle.integer.proofs.of.Reads as of-reads
+
+abbrev Inv-loop : tie.InvT-loop
+Inv-loop point z₀ n i₀ z i = Copied point z i
+
+abbrev μ-loop : tie.MeasureT-loop
+μ-loop point z₀ n i₀ z i = n - i
+
+-- src/lib.rt:117:18
+of-requires : tie.Need-of-requires Inv-loop μ-loop
+of-requires c κs = search needs
+
+-- src/lib.rt:120:5
+loop-holds : tie.Need-loop-holds Inv-loop μ-loop
+loop-holds c = record { sized = refl; same = λ j h. absurd (omega arith) }
+
+-- src/lib.rt:121:17
+mul-x : tie.Need-mul-x Inv-loop μ-loop
+mul-x c = search needs
+
+-- src/lib.rt:121:17
+shared-slice-copy-out-x : tie.Need-shared-slice-copy-out-x Inv-loop μ-loop
+shared-slice-copy-out-x c = search needs
+
+-- src/lib.rt:122:16
+of-requires-2 : tie.Need-of-requires-2 Inv-loop μ-loop
+of-requires-2 c κs = search needs
+
+-- src/lib.rt:122:9
+mul-z : tie.Need-mul-z Inv-loop μ-loop
+mul-z c = search needs
+
+-- src/lib.rt:122:9
+array-set-from-z : tie.Need-array-set-from-z Inv-loop μ-loop
+array-set-from-z c = omega (arith, c .before .before .loop-test .taken, c .before .before .before .before .before .pre)
+
+-- src/lib.rt:123:9
+add-i : tie.Need-add-i Inv-loop μ-loop
+add-i c = search needs
+
+-- src/lib.rt:120:5
+loop-less : tie.Need-loop-less Inv-loop μ-loop
+loop-less c = search needs
+
+-- src/lib.rt:120:5
+loop-again : tie.Need-loop-again Inv-loop μ-loop
+loop-again c =
+    copied-more _ _ _ _ (omega (arith, c .before .before .loop-test .taken, c .before .before .before .before .before .pre)) (c .before .before .before .loop .inv) (c .of2 .ensures ∙ toZ-ofZ (sfits-of (c .before .x .given)))
+
+-- src/lib.rt:113:1
+returns : tie.Need-returns Inv-loop μ-loop
+returns c = copied-all _ _ _ (omega (arith, c .loop-test .left)) (c .before .loop .inv)
+
+pub coordinates-spec : {M : Type 1} → statement M
+coordinates-spec =
+    tie.close
+    (tie.spec
+    Inv-loop
+    μ-loop
+    of-requires
+    loop-holds
+    mul-x
+    shared-slice-copy-out-x
+    of-requires-2
+    mul-z
+    array-set-from-z
+    add-i
+    loop-less
+    loop-again
+    returns)

@@ -1,0 +1,53 @@
+-- `accept::find_body` meets its contract. Assumes nothing.
+use mathlib.Core.Path.{refl, _∙_}
+use Rattle.accept.proofs.Parts.{no-part, refused-part, accepted-part}
+use borrow.Author.Needs.{needs}
+use Rattle.accept.proofs.find_body.Statement.{statement}
+use Rattle.accept.proofs.find_body.Tie as tie
+use Rattle.accept.proofs.find_body.Reads as reads
+use Rattle.accept.proofs.find_body.Lts as lts
+use Rattle.accept.proofs.admit.Reads as admit-reads
+use Rattle.accept.proofs.nothing.Reads as nothing-reads
+use Rattle.accept.proofs.part_of.Reads as part-of-reads
+
+-- src/lib.rt:86:9
+admit-requires : tie.Need-admit-requires
+admit-requires c κs = search needs
+
+enum-told : tie.Need-enum-told
+enum-told c = search needs
+
+-- src/lib.rt:88:9
+enum-told-2 : tie.Need-enum-told-2
+enum-told-2 c = search needs
+
+-- src/lib.rt:88:9
+nothing-requires : tie.Need-nothing-requires
+nothing-requires c κs = search needs
+
+-- src/lib.rt:88:9
+returns : tie.Need-returns
+returns c = no-part _ _ _ (refused-part _ _ _ _ (c .before .enum-told2 .given .1) (c .before .before .before .admit .ensures .answer)) (c .nothing .ensures)
+
+-- src/lib.rt:90:5
+part-of-requires : tie.Need-part-of-requires
+part-of-requires c κs = c .before .before .before .admit .ensures .admitted _ (c .before .enum-told .given .1) .formed
+
+-- src/lib.rt:81:1
+returns-2 : tie.Need-returns-2
+returns-2 c =
+    let admitted = c .before .before .before .before .admit .ensures .admitted _ (c .before .before .enum-told .given .1) in
+    let p = c .part-of .ensures in
+    record { is = accepted-part _ _ (admitted .sheet-is) ∙ p .is; there = p .there }
+
+pub find-body-spec : {M : Type 1} → statement M
+find-body-spec =
+    tie.close
+    (tie.spec
+    admit-requires
+    enum-told
+    enum-told-2
+    nothing-requires
+    returns
+    part-of-requires
+    returns-2)
