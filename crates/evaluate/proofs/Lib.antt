@@ -1,0 +1,3 @@
+-- Laws of the memo.
+pub mod Answers
+pub mod Stores
