@@ -30,18 +30,18 @@ use Rattle.domain.proofs.Records.{VariableLaid}
 
 module _ (box : List Range) (z : Point) where
   -- the point has a number: it is in the box, and that is its number
-  record Numbered (i : ℕ) : Type 0 where
-    inside : inBox box z ≡ true
-    is : i ≡ index box z
+  pub record Numbered (i : ℕ) : Type 0 where
+    pub inside : inBox box z ≡ true
+    pub is : i ≡ index box z
 
-  at-numbered : (i : ℕ) → At i ≡ numberIn box z → Numbered i
+  pub at-numbered : (i : ℕ) → At i ≡ numberIn box z → Numbered i
   at-numbered i e = go (inBox box z) refl e
     where
       go : (b : Bool) → inBox box z ≡ b → At i ≡ ifb b (λ _. At (index box z)) (λ _. Off) → Numbered i
       go true h f = record { inside = h; is = cc }
       go false h f = let x : _≡_ {A = ℕ} 0 1 = cc in absurd (omega arith)
 
-  off-outside : Off ≡ numberIn box z → inBox box z ≡ false
+  pub off-outside : Off ≡ numberIn box z → inBox box z ≡ false
   off-outside e = go (inBox box z) refl e
     where
       go : (b : Bool) → inBox box z ≡ b → Off ≡ ifb b (λ _. At (index box z)) (λ _. Off) → inBox box z ≡ false
@@ -58,7 +58,7 @@ module _ (bs tab : List ℕ) (v : ℕ) (z : List Int) (h : VariableLaid bs tab v
   point = pointOf (dimension (headsOf bs) v) z
 
   -- the code's number is that of the point in the variable's box
-  number-is : (f : Found) → f ≡ numberIn (boxOf bs (getD tab v 0)) (pointOf (dimensionAt bs (getD tab v 0)) z) → f ≡ numberIn box point
+  pub number-is : (f : Found) → f ≡ numberIn (boxOf bs (getD tab v 0)) (pointOf (dimensionAt bs (getD tab v 0)) z) → f ≡ numberIn box point
   number-is f e = rw (h .box-is, h .dims-are) at e
 
   variable-rated : standing (var v) (sheetOf bs) point ≡ rated (inBox box point && meetsAll (variable (sheetOf bs) v .declared) point) false

@@ -57,7 +57,8 @@ module _ (out : Elements) (f : Thing) (grows : Grows f) (next : ℤ → Thing) w
     at-last : after d ≡ next x d
     at-last = ap (λ o. andThen o (λ y. next y d)) (value-stays f grows c d x h e)
 
-    never : (k : ℕ) → next x k ≡ loop → after k ≡ loop
+    -- where what follows loops, so does all
+    pub never : (k : ℕ) → next x k ≡ loop → after k ≡ loop
     never k l = go (value-or-loop f grows c x e k)
       where
         go : AtDepth f (value x) k → after k ≡ loop

@@ -1,2 +1,3 @@
--- What the evaluator's contracts say of the memo and of an answer.
+-- The definitions that this crate's contracts cite, besides those of the crates below.
 pub mod Memo
+pub mod Working

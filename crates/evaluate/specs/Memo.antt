@@ -7,9 +7,9 @@ use mathlib.Core.Bool.{Bool, true, false}
 use mathlib.Core.List.{List, [], _∷_}
 use lib.ListN.{length, getD, set}
 use lib.IntN.{ℤ, pos}
-use lib.Dec.{leb}
 use Rattle.alpha.specs.Outcome.{Outcome, outside, value, divzero, overflow, loop}
 use Rattle.laws.specs.Under.{Under}
+use Rattle.integer.specs.Range.{In32}
 use Rattle.evaluate.specs.declared.Work.{Work}
 use Rattle.evaluate.specs.declared.Work.the-variants.{Outside, Value, DivZero, Overflow, Loop, Deep}
 
@@ -39,7 +39,7 @@ pub record Memo : Type 0 where
   pub values : List ℤ
 
 abbrev pub codeAt : Memo → ℕ → ℕ
-codeAt memo m = getD (memo .codes) m unknown
+codeAt memo m = getD (memo .codes) m 0
 
 abbrev pub valueAt : Memo → ℕ → ℤ
 valueAt memo m = getD (memo .values) m (pos 0)
@@ -48,28 +48,45 @@ valueAt memo m = getD (memo .values) m (pos 0)
 abbrev pub decoded : ℕ → ℤ → Outcome
 decoded c x = getD (outside ∷ value x ∷ divzero ∷ overflow ∷ []) c loop
 
-abbrev pub one : Bool → ℕ
-one true = 1
-one false = 0
+-- ---- how many entries of a kind there are: each code counts as w says
+unfoldable pub sum : (ℕ → ℕ) → List ℕ → ℕ
+sum w [] = 0
+sum w (c ∷ cs) = w c + sum w cs
 
--- how many entries are settled and no loop
-unfoldable pub count : List ℕ → ℕ
-count [] = 0
-count (c ∷ cs) = one (leb c 3) + count cs
+-- settled, and no loop
+abbrev pub settledOne : ℕ → ℕ
+settledOne c = getD (1 ∷ 1 ∷ 1 ∷ 1 ∷ []) c 0
 
--- every entry of the n elements is right: a settled one has its outcome at a depth of as many as are settled, and a loop is one at every depth
-pub record Right (out : Elements) (n : ℕ) (memo : Memo) : Type 0 where
+-- in progress
+abbrev pub busyOne : ℕ → ℕ
+busyOne c = getD (0 ∷ 0 ∷ 0 ∷ 0 ∷ 0 ∷ 1 ∷ []) c 0
+
+-- still to be done: an unknown element is marked, and then settled
+abbrev pub toDo : ℕ → ℕ
+toDo c = getD (0 ∷ 0 ∷ 0 ∷ 0 ∷ 0 ∷ 1 ∷ 2 ∷ []) c 0
+
+abbrev pub count : Memo → ℕ
+count memo = sum settledOne (memo .codes)
+
+-- ---- what is true of a memo
+
+-- it has an entry for each of n elements
+pub record Sized (n : ℕ) (memo : Memo) : Type 0 where
   pub room : n ≤ length (memo .codes)
   pub pairs : length (memo .values) ≡ length (memo .codes)
-  pub settled : (m : ℕ) → m < n → codeAt memo m ≤ 3 → out (count (memo .codes)) m ≡ decoded (codeAt memo m) (valueAt memo m)
+
+-- every entry of the n elements is right: a settled one has its outcome at a depth of as many as are settled, and a loop is one at
+-- every depth
+pub record Right (out : Elements) (n : ℕ) (memo : Memo) : Type 0 where
+  pub settled : (m : ℕ) → m < n → codeAt memo m ≤ 3 → out (count memo) m ≡ decoded (codeAt memo m) (valueAt memo m)
   pub stuck : (m : ℕ) → m < n → codeAt memo m ≡ 4 → (k : ℕ) → out k m ≡ loop
 
 -- every element in progress waits for f: where f loops at a depth, it loops at the next
 pub record Waits (out : Elements) (n : ℕ) (memo : Memo) (f : Thing) : Type 0 where
   pub waits : (m : ℕ) → m < n → codeAt memo m ≡ busy → (k : ℕ) → f k ≡ loop → out (suc k) m ≡ loop
 
--- what an answer says of f, where c entries are settled: an outcome is f's at depth c, a loop is one at every depth, and f loops where
--- the element that has to be worked out first does
+-- ---- what an answer says of f, where c entries are settled: an outcome is f's at depth c, a loop is one at every depth, and f loops
+-- where the element that has to be worked out first does
 unfoldable pub Says : Elements → Thing → ℕ → Work → Type 0
 Says out f c Outside = f c ≡ outside
 Says out f c (Value x) = f c ≡ value (x .v)
@@ -78,12 +95,22 @@ Says out f c Overflow = f c ≡ overflow
 Says out f c Loop = (k : ℕ) → f k ≡ loop
 Says out f c (Deep d) = (k : ℕ) → out k d ≡ loop → f k ≡ loop
 
--- as many entries, no fewer settled, and the same elements in progress
+pub record Said (out : Elements) (n : ℕ) (last : Memo) (f : Thing) (r : Work) : Type 0 where
+  pub right : Right out n last
+  pub says : Says out f (count last) r
+
+-- ---- what working something out changes in the memo: as many entries, no fewer settled, the same elements in progress, no entry
+-- unsettled that was settled, no code past the last, and no more to do
 pub record Kept (memo last : Memo) : Type 0 where
   pub long : length (last .codes) ≡ length (memo .codes)
-  pub more : count (memo .codes) ≤ count (last .codes)
+  pub paired : length (last .values) ≡ length (memo .values)
+  pub more : count memo ≤ count last
   pub still : (m : ℕ) → codeAt memo m ≡ busy → codeAt last m ≡ busy
   pub idle : (m : ℕ) → codeAt last m ≡ busy → codeAt memo m ≡ busy
+  pub opened : (m : ℕ) → 4 < codeAt last m → 4 < codeAt memo m
+  pub low : ((m : ℕ) → codeAt memo m ≤ unknown) → (m : ℕ) → codeAt last m ≤ unknown
+  pub marks : sum busyOne (last .codes) ≡ sum busyOne (memo .codes)
+  pub less : sum toDo (last .codes) ≤ sum toDo (memo .codes)
 
 -- an element that is to be worked out first is one of the n, and unknown
 abbrev pub Wanted : ℕ → Memo → Work → Type 0
@@ -94,12 +121,14 @@ Wanted n memo Overflow = Unit {0}
 Wanted n memo Loop = Unit {0}
 Wanted n memo (Deep d) = (d < n) × (codeAt memo d ≡ unknown)
 
--- f was worked out, from one memo to the next, with an answer
-pub record Done (out : Elements) (n : ℕ) (memo last : Memo) (f : Thing) (r : Work) : Type 0 where
-  pub right : Right out n last
-  pub kept : Kept memo last
-  pub says : Says out f (count (last .codes)) r
-  pub wanted : Wanted n last r
+-- a value is in the 32-bit range
+abbrev pub Small : Work → Type 0
+Small Outside = Unit {0}
+Small (Value x) = In32 (x .v)
+Small DivZero = Unit {0}
+Small Overflow = Unit {0}
+Small Loop = Unit {0}
+Small (Deep d) = Unit {0}
 
 -- ---- stores
 

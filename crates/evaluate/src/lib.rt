@@ -1,5 +1,9 @@
-// What working an element or an expression out answers. Assumes nothing.
+// The outcomes of elements, each worked out once. An element is worked out by its body, an expression by its operands and by the
+// elements that it names; the memo has what is settled, and marks what is in progress. Assumes nothing.
 use alpha::Int;
+
+mod expression;
+mod memo;
 
 // An outcome; or that element `Deep` has to be worked out first.
 pub enum Work {
@@ -9,4 +13,10 @@ pub enum Work {
     Overflow,
     Loop,
     Deep(usize),
+}
+
+// What an expression gives and, where that is a value, the place after the expression.
+pub struct Worked {
+    pub out: Work,
+    pub next: usize,
 }

@@ -1,0 +1,117 @@
+-- Things that are worked out one after another, for every input list: nothing to do, another thing first, a thing that is handed back.
+-- Assumes nothing.
+use mathlib.Core.Path.{_≡_, refl, sym, ap, _∙_, subst}
+use Prim.Native.Nat.{ℕ, zero, suc, _+_, _≤_, _<_}
+use native.Mathlib.Omega.{arith}
+use mathlib.Core.List.{List}
+use lib.ListN.{length, getD}
+use lib.IntN.{ℤ}
+use Rattle.alpha.specs.declared.Int.{Int}
+use Rattle.alpha.specs.declared.Outcome as Outcomes
+use Rattle.alpha.specs.declared.Outcome.the-variants as Declared
+use Rattle.alpha.specs.Sheet.{Expr, Sheet, Point}
+use Rattle.alpha.specs.Check.{total}
+use Rattle.alpha.specs.Outcome.{Outcome, outside, value, divzero, overflow, loop, andThen}
+use Rattle.alpha.specs.Verdict.{outcomeOf}
+use Rattle.laws.proofs.Growth.{outcome-under, eval-grows}
+use Rattle.integer.specs.Range as Range
+use Rattle.integer.specs.Range.{In32}
+use Rattle.evaluate.specs.declared.Work.{Work}
+use Rattle.evaluate.specs.declared.Work.the-variants.{Outside, Value, DivZero, Overflow, Loop, Deep}
+use Rattle.evaluate.specs.Memo.{Thing, Grows, element, Memo, count, Sized, Right, Waits, Says, Said, Kept, Wanted, Small}
+use Rattle.evaluate.specs.Working.{workOf, elementAt, outcomes, expression, Ready, Done}
+use Rattle.evaluate.proofs.Answers.{says-same, says-next, says-first, never}
+use Rattle.evaluate.proofs.Stores.{kept-same, kept-two, waits-sub, waits-kept}
+
+module _ (s : Sheet) where
+  pub element-grows : (ins : List ℤ) (m : ℕ) → Grows (element (outcomes s ins) m)
+  element-grows ins m j k h = outcome-under s ins j k (elementAt s m .who) (elementAt s m .at) h
+
+  pub expression-grows : (ins : List ℤ) (e : Expr) (z : Point) → Grows (expression s ins e z)
+  expression-grows ins e z j k h = eval-grows s ins j k e z h
+
+  -- ---- the memo
+
+  pub ready-sized : (memo : Memo) → Ready s memo → Sized (total s) memo
+  ready-sized memo r = record { room = omega (arith, r .few, r .codes-long); pairs = r .values-long ∙ sym (r .codes-long) }
+
+  pub ready-kept : (memo last : Memo) → Ready s memo → Kept memo last → Ready s last
+  ready-kept memo last r K = record {
+    codes-long = K .long ∙ r .codes-long;
+    values-long = K .paired ∙ r .values-long;
+    few = r .few;
+    low = K .low (r .low);
+    opens = λ m h u. r .opens m h (K .opened m u);
+  }
+
+  module _ (ins : List ℤ) where
+    sub : (memo : Memo) (f g : Thing) → Waits (outcomes s ins) (total s) memo f → ((k : ℕ) → g k ≡ loop → f k ≡ loop) → Waits (outcomes s ins) (total s) memo g
+    sub memo f g W h = waits-sub (outcomes s ins) (element-grows ins) (total s) memo f g W h
+
+    later : (memo last : Memo) (f : Thing) → Waits (outcomes s ins) (total s) memo f → Kept memo last → Waits (outcomes s ins) (total s) last f
+    later memo last f W K = waits-kept (outcomes s ins) (element-grows ins) (total s) memo last f W K
+
+  -- ---- one thing that is another
+
+  pub done-same : (memo last : Memo) (f g : List ℤ → Thing) (r : Work) → ((ins : List ℤ) (k : ℕ) → f ins k ≡ g ins k) → Done s memo last g r → Done s memo last f r
+  done-same memo last f g r is D = record {
+    kept = D .kept;
+    wanted = D .wanted;
+    small = D .small;
+    said = λ ins R W.
+        let S = D .said ins R (sub ins memo (f ins) (g ins) W (λ k q. is ins k ∙ q)) in
+        record { right = S .right; says = says-same (outcomes s ins) (f ins) (g ins) (count last) r (is ins) (S .says) };
+  }
+
+  -- ---- nothing to do
+
+  -- a thing that is the same at every depth, and an operator's answer says it
+  pub done-known : (memo : Memo) (o : Outcomes.Outcome) (defined : Outcome) → Range.Says o defined → Done s memo memo (λ ins k. defined) (workOf o)
+  unfolding Says
+  done-known memo Declared.Outside d h = record { kept = kept-same memo; wanted = tt; small = tt; said = λ ins R W. record { right = R; says = sym (h .is) } }
+  done-known memo (Declared.Value x) d h = record { kept = kept-same memo; wanted = tt; small = h .small; said = λ ins R W. record { right = R; says = sym (h .is) } }
+  done-known memo Declared.DivZero d h = record { kept = kept-same memo; wanted = tt; small = tt; said = λ ins R W. record { right = R; says = sym (h .is) } }
+  done-known memo Declared.Overflow d h = record { kept = kept-same memo; wanted = tt; small = tt; said = λ ins R W. record { right = R; says = sym (h .is) } }
+  done-known memo Declared.Loop d h = record { kept = kept-same memo; wanted = tt; small = tt; said = λ ins R W. record { right = R; says = λ k. sym (h .is) } }
+
+  pub done-value : (memo : Memo) (x : Int) → In32 (x .v) → Done s memo memo (λ ins k. value (x .v)) (Value x)
+  done-value memo x h = done-known memo (Declared.Value x) (value (x .v)) (record { is = refl; small = h })
+
+  pub done-outside : (memo : Memo) → Done s memo memo (λ ins k. outside) Outside
+  done-outside memo = done-known memo Declared.Outside outside (record { is = refl; small = tt })
+
+  -- ---- a thing, and then what follows its value
+
+  module _ (f : List ℤ → Thing) (grows : (ins : List ℤ) → Grows (f ins)) (next : ℤ → List ℤ → Thing) where
+    abbrev after : List ℤ → Thing
+    after ins k = andThen (f ins k) (λ x. next x ins k)
+
+    first-loops : (ins : List ℤ) (k : ℕ) → f ins k ≡ loop → after ins k ≡ loop
+    first-loops ins k q = ap (λ o. andThen o (λ x. next x ins k)) q
+
+    -- it has no value: it is handed back
+    pub done-first : (memo last : Memo) (r : Work) → ((x : Int) → r ≡ Value x → ⊥) → Done s memo last f r → Done s memo last after r
+    done-first memo last r none D = record {
+      kept = D .kept;
+      wanted = D .wanted;
+      small = D .small;
+      said = λ ins R W.
+          let S = D .said ins R (sub ins memo (after ins) (f ins) W (first-loops ins)) in
+          record { right = S .right; says = says-first (outcomes s ins) (f ins) (grows ins) (λ x. next x ins) (count last) r none (S .says) };
+    }
+
+    -- it has the value x, and then what follows is worked out
+    pub done-next : (memo mid last : Memo) (x : Int) (r : Work) → Done s memo mid f (Value x) → Done s mid last (next (x .v)) r → Done s memo last after r
+    unfolding Says
+    done-next memo mid last x r D E = record {
+      kept = kept-two (D .kept) (E .kept);
+      wanted = E .wanted;
+      small = E .small;
+      said = λ ins R W.
+          let out = outcomes s ins in
+          let S = D .said ins R (sub ins memo (after ins) (f ins) W (first-loops ins)) in
+          let c = count mid in
+          let W2 = later ins memo mid (after ins) W (D .kept) in
+          let T = E .said ins (S .right) (sub ins mid (after ins) (next (x .v) ins) W2 (never out (f ins) (grows ins) (λ y. next y ins) c c (x .v) (omega arith) (S .says))) in
+          record { right = T .right; says = says-next out (f ins) (grows ins) (λ y. next y ins) c (count last) (x .v) (E .kept .more) (S .says) r (T .says) };
+    }

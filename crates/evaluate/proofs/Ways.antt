@@ -1,0 +1,452 @@
+-- The ways through the evaluator of expressions, one for each kind of node: what is worked out of the tree at a place, from what was
+-- worked out of its operands. Assumes nothing.
+use mathlib.Core.Path.{_≡_, refl, sym, ap, _∙_, subst}
+use Prim.Native.Nat.{ℕ, zero, suc, _+_, _-_, _≤_, _<_}
+use native.Mathlib.Omega.{arith}
+use mathlib.Core.Bool.{Bool, true, false, _&&_}
+use mathlib.Core.List.{List, [], _∷_}
+use mathlib.Core.Option.{Option, some}
+use mathlib.Core.Option as Option
+use lib.ListN.{length, getD}
+use lib.IntN.{ℤ, pos, natAbs}
+use lib.Dec.{eqb}
+use borrow.Author.Tests.{eqb-true}
+use Rattle.alpha.specs.declared.Int.{Int}
+use Rattle.alpha.specs.declared.Outcome as Outcomes
+use Rattle.alpha.specs.Field.{field}
+use Rattle.alpha.specs.Pick.{ifb}
+use Rattle.alpha.specs.Sheet.{Head, Expr, Exprs, Exprs.none, Exprs.more, Sheet, Point, Unary, Binary}
+use Rattle.alpha.specs.Sheet.{Expr.var, Expr.int, Expr.boo, Expr.un, Expr.bin, Expr.ite, Expr.kase, Expr.restr, Expr.dep}
+use Rattle.alpha.specs.Affine.{image}
+use Rattle.alpha.specs.Read.{dimension, unaryOf, binaryOf}
+use Rattle.alpha.specs.Shape.{fits, allFit}
+use Rattle.alpha.specs.Holds.{holds}
+use Rattle.alpha.specs.Outcome.{Outcome, outside, value, andThen, unary, binary, choose, isTrue, eval, outcome}
+use Rattle.laws.specs.At.{nodeLen, At, AllAt}
+use Rattle.laws.specs.Sheets.{headsOf, varsOf, sheetOf}
+use Rattle.laws.proofs.Tests.{&&-left, &&-right}
+use Rattle.laws.proofs.Readers.{counted-is}
+use Rattle.laws.proofs.Shapes.{IntAt, BooAt, UnAt, BinAt, IteAt, KaseAt, RestrAt, DepAt, at-int, at-boo, at-un, at-bin, at-ite, at-kase, at-restr, at-dep}
+use Rattle.integer.specs.Range.{In32}
+use Rattle.integer.specs.Range as Range
+use Rattle.integer.proofs.Order.{within-32}
+use Rattle.affine.specs.declared.Map.{Map}
+use Rattle.affine.specs.Value.{pointOf, mapOf}
+use Rattle.affine.specs.Reading.{MapRead}
+use Rattle.affine.proofs.Meaning.{height-length, width-cols}
+use Rattle.domain.specs.declared.Branch.{Branch}
+use Rattle.domain.specs.declared.Branch.the-variants as Branch
+use Rattle.domain.specs.declared.Choice.{Choice}
+use Rattle.domain.specs.Holding.{firstHolding, Takes, Chooses}
+use Rattle.domain.proofs.Walks.{code-field}
+use Rattle.domain.proofs.Choices.{outcomeOf, first-outcome}
+use Rattle.evaluate.specs.declared.Work.{Work}
+use Rattle.evaluate.specs.declared.Work.the-variants.{Outside, Value, DivZero, Overflow, Loop, Deep}
+use Rattle.evaluate.specs.declared.Worked.{Worked}
+use Rattle.evaluate.specs.Memo.{Thing, Memo, Kept}
+use Rattle.evaluate.specs.Working.{workOf, expression, Done, ConstantRead, Evaluated, EvaluatesAt}
+use Rattle.evaluate.proofs.Doing.{expression-grows, done-same, done-known, done-value, done-outside, done-first, done-next}
+
+-- ---- what an expression's outcome is, by its operands'
+
+module _ (s : Sheet) (ins : List ℤ) (z : Point) (k : ℕ) where
+  one-is : (o : Unary) (a : Expr) → expression s ins (un o a) z k ≡ andThen (expression s ins a z k) (λ x. unary o x)
+  unfolding eval
+  one-is o a = refl
+
+  two-is : (o : Binary) (a b : Expr) → expression s ins (bin o a b) z k ≡ andThen (expression s ins a z k) (λ x. andThen (expression s ins b z k) (λ y. binary o x y))
+  unfolding eval
+  two-is o a b = refl
+
+  three-is : (a b c : Expr) → expression s ins (ite a b c) z k
+      ≡ andThen (expression s ins a z k) (λ t. andThen (expression s ins b z k) (λ x. andThen (expression s ins c z k) (λ y. choose (isTrue t) x y)))
+  unfolding eval
+  three-is a b c = refl
+
+  case-is : (es : Exprs) → expression s ins (kase es) z k ≡ outcomeOf (firstHolding es s z) s (outcome k s ins) z
+  unfolding eval
+  case-is es = first-outcome es s (outcome k s ins) z
+
+-- a case by the branch that it takes
+taken-is : (s : Sheet) (es : Exprs) (z : Point) (t : Expr) → firstHolding es s z ≡ some t → (ins : List ℤ) (k : ℕ) → expression s ins (kase es) z k ≡ expression s ins t z k
+taken-is s es z t h ins k = case-is s ins z k es ∙ ap (λ o. outcomeOf o s (outcome k s ins) z) h
+
+nowhere-is : (s : Sheet) (es : Exprs) (z : Point) → firstHolding es s z ≡ Option.none → (ins : List ℤ) (k : ℕ) → expression s ins (kase es) z k ≡ outside
+nowhere-is s es z h ins k = case-is s ins z k es ∙ ap (λ o. outcomeOf o s (outcome k s ins) z) h
+
+restricted-is : (s : Sheet) (d : ℕ) (cs : List _) (a : Expr) (z : Point) (ins : List ℤ) (k : ℕ) → expression s ins (restr d cs a) z k ≡ expression s ins a z k
+unfolding eval
+restricted-is s d cs a z ins k = refl
+
+imaged-is : (s : Sheet) (f : _) (a : Expr) (z : Point) (ins : List ℤ) (k : ℕ) → expression s ins (dep f a) z k ≡ expression s ins a (image (f .rows) z) k
+unfolding eval
+imaged-is s f a z ins k = refl
+
+-- the branch that is taken fits
+first-fits : (hs : List Head) (es : Exprs) (s : Sheet) (n : ℕ) (z : Point) (t : Expr) → firstHolding es s z ≡ some t → allFit es hs n ≡ true → fits t hs n ≡ true
+unfolding firstHolding fits
+first-fits hs none s n z t h g = absurd (none-not-some h)
+  where
+    none-not-some : {A : Type 0} {a : A} → _≡_ {A = Option A} Option.none (some a) → ⊥
+    none-not-some e = let x : _≡_ {A = ℕ} 0 1 = cc in omega arith
+first-fits hs (more e es) s n z t h g = go (holds e s z) h (&&-left (fits e hs n) (allFit es hs n) g) (first-fits hs es s n z t)
+  where
+    go : (b : Bool) → ifb b (λ _. some e) (λ _. firstHolding es s z) ≡ some t → fits e hs n ≡ true →
+        (firstHolding es s z ≡ some t → allFit es hs n ≡ true → fits t hs n ≡ true) → fits t hs n ≡ true
+    go true q fit rest = let same : e ≡ t = cc in rw (← same) fit
+    go false q fit rest = rest q (&&-right (fits e hs n) (allFit es hs n) g)
+
+-- ---- no value where a value's case is ruled out
+
+abbrev None : Work → Type 0
+None r = (x : Int) → r ≡ Value x → ⊥
+
+module _ (bs : List ℕ) (p : ℕ) (z : List Int) where
+  abbrev sheet : Sheet
+  sheet = sheetOf bs
+
+  -- an expression that is another one, ending at the same place
+  evaluated-same : (e f : Expr) (q : ℕ) (y x : Point) (memo last : Memo) (r : Worked) → ((ins : List ℤ) (k : ℕ) → expression sheet ins e y k ≡ expression sheet ins f x k) →
+      Evaluated bs f q x memo last r → Evaluated bs e q y memo last r
+  evaluated-same e f q y x memo last r is E = record {
+    done = done-same sheet memo last (λ ins. expression sheet ins e y) (λ ins. expression sheet ins f x) (r .out) is (E .done);
+    ends = E .ends;
+  }
+
+  evaluated-tree : (e f : Expr) (q : ℕ) (y : Point) (memo last : Memo) (r : Worked) → e ≡ f → Evaluated bs f q y memo last r → Evaluated bs e q y memo last r
+  evaluated-tree e f q y memo last r is E = subst (λ t. Evaluated bs t q y memo last r) (sym is) E
+
+  -- ---- constants
+
+  pub constant-small : 1 ≤ natAbs (field bs p) → natAbs (field bs p) < 3 → (e : Expr) (q : ℕ) → At e (varsOf bs) bs p q → In32 (field bs (p + 8))
+  constant-small low high e q h = go (natAbs (field bs p)) refl low high
+    where
+      go : (c : ℕ) → natAbs (field bs p) ≡ c → 1 ≤ c → c < 3 → In32 (field bs (p + 8))
+      go zero is l u = absurd (omega arith)
+      go (suc zero) is l u = within-32 (field bs (p + 8)) (at-int (varsOf bs) bs e p q h (code-field bs p e q 1 h is) .stands .fine)
+      go (suc (suc zero)) is l u =
+          let x = at-boo (varsOf bs) bs e p q h (code-field bs p e q 2 h is) in
+          rw (x .stands .field-is) (omega (arith, x .stands .high))
+      go (suc (suc (suc c))) is l u = absurd (omega arith)
+
+  module _ (low : 1 ≤ natAbs (field bs p)) (high : natAbs (field bs p) < 3) where
+    constant-is : (e : Expr) (q : ℕ) (y : Point) → At e (varsOf bs) bs p q → (ins : List ℤ) (k : ℕ) → expression sheet ins e y k ≡ value (field bs (p + 8))
+    unfolding eval
+    constant-is e q y h ins k = go (natAbs (field bs p)) refl low high
+      where
+        go : (c : ℕ) → natAbs (field bs p) ≡ c → 1 ≤ c → c < 3 → expression sheet ins e y k ≡ value (field bs (p + 8))
+        go zero is l u = absurd (omega arith)
+        go (suc zero) is l u =
+            let x = at-int (varsOf bs) bs e p q h (code-field bs p e q 1 h is) in
+            ap (λ t. expression sheet ins t y k) (x .is) ∙ ap value (x .stands .is)
+        go (suc (suc zero)) is l u =
+            let x = at-boo (varsOf bs) bs e p q h (code-field bs p e q 2 h is) in
+            ap (λ t. expression sheet ins t y k) (x .is) ∙ ap value (sym (x .stands .field-is))
+        go (suc (suc (suc c))) is l u = absurd (omega arith)
+
+    constant-ends : (e : Expr) (q : ℕ) → At e (varsOf bs) bs p q → q ≡ p + 16
+    constant-ends e q h = go (natAbs (field bs p)) refl low high
+      where
+        go : (c : ℕ) → natAbs (field bs p) ≡ c → 1 ≤ c → c < 3 → q ≡ p + 16
+        go zero is l u = absurd (omega arith)
+        go (suc zero) is l u = at-int (varsOf bs) bs e p q h (code-field bs p e q 1 h is) .end
+        go (suc (suc zero)) is l u = at-boo (varsOf bs) bs e p q h (code-field bs p e q 2 h is) .end
+        go (suc (suc (suc c))) is l u = absurd (omega arith)
+
+    pub constant-way : (memo : Memo) (r : Worked) → ConstantRead bs p r → EvaluatesAt bs p z memo memo r
+    constant-way memo r c e q n h f =
+        let small : In32 (c .value .v) = rw (c .says) (constant-small low high e q h) in
+        let d = done-value sheet memo (c .value) small in
+        let is : (ins : List ℤ) (k : ℕ) → expression sheet ins e (pointOf n z) k ≡ value (c .value .v) =
+        λ ins k. constant-is e q (pointOf n z) h ins k ∙ ap value (sym (c .says)) in
+        record {
+          done = rw (c .is) (done-same sheet memo memo (λ ins. expression sheet ins e (pointOf n z)) (λ ins k. value (c .value .v)) (Value (c .value)) is d);
+          ends = λ x g. c .next ∙ sym (constant-ends e q h);
+        }
+
+  -- ---- a unary operator
+
+  module _ (code : natAbs (field bs p) ≡ 3) where
+    here-one : (e : Expr) (q : ℕ) → At e (varsOf bs) bs p q → UnAt e (varsOf bs) bs p q
+    here-one e q h = at-un (varsOf bs) bs e p q h (code-field bs p e q 3 h code)
+
+    fit-one : (e : Expr) (q n : ℕ) (h : At e (varsOf bs) bs p q) → fits e (headsOf bs) n ≡ true → fits (here-one e q h .child) (headsOf bs) n ≡ true
+    unfolding fits
+    fit-one e q n h f = rw (here-one e q h .is) at f
+
+    module _ (memo last : Memo) (a : Worked) (A : EvaluatesAt bs (p + 16) z memo last a) where
+      pub one-back : None (a .out) → EvaluatesAt bs p z memo last a
+      one-back lacks e q n h f =
+          let x = here-one e q h in
+          let y = pointOf n z in
+          let E = A (x .child) q n (x .below) (fit-one e q n h f) in
+          let d = done-first sheet (λ ins. expression sheet ins (x .child) y) (λ ins. expression-grows sheet ins (x .child) y) (λ v ins k. unary (x .op) v) memo last (a .out) lacks (E .done) in
+          evaluated-tree e (un (x .op) (x .child)) q y memo last a (x .is) (record {
+            done = done-same sheet memo last _ _ (a .out) (λ ins k. one-is sheet ins y k (x .op) (x .child)) d;
+            ends = λ v g. absurd (lacks v g);
+          })
+
+      pub one-way : (v : Int) (op : ℕ) (o : Outcomes.Outcome) → a .out ≡ Value v → op ≡ natAbs (field bs (p + 8)) → Range.Says o (unary (unaryOf op) (v .v)) →
+          EvaluatesAt bs p z memo last (record { out = workOf o; next = a .next })
+      one-way v op o is number says e q n h f =
+          let x = here-one e q h in
+          let y = pointOf n z in
+          let E = A (x .child) q n (x .below) (fit-one e q n h f) in
+          let same : x .op ≡ unaryOf op = x .chosen .is ∙ ap unaryOf (sym number) in
+          let said : Range.Says o (unary (x .op) (v .v)) = rw same says in
+          let first = rw is at (E .done) in
+          let d = done-next sheet (λ ins. expression sheet ins (x .child) y) (λ ins. expression-grows sheet ins (x .child) y) (λ w ins k. unary (x .op) w) memo last last v (workOf o) first (done-known sheet last o (unary (x .op) (v .v)) said) in
+          evaluated-tree e (un (x .op) (x .child)) q y memo last _ (x .is) (record {
+            done = done-same sheet memo last _ _ (workOf o) (λ ins k. one-is sheet ins y k (x .op) (x .child)) d;
+            ends = λ w g. E .ends v is;
+          })
+
+  -- ---- a binary operator
+
+  module _ (code : natAbs (field bs p) ≡ 4) where
+    here-two : (e : Expr) (q : ℕ) → At e (varsOf bs) bs p q → BinAt e (varsOf bs) bs p q
+    here-two e q h = at-bin (varsOf bs) bs e p q h (code-field bs p e q 4 h code)
+
+    fit-two : (e : Expr) (q n : ℕ) (h : At e (varsOf bs) bs p q) → fits e (headsOf bs) n ≡ true →
+        fits (here-two e q h .left) (headsOf bs) n && fits (here-two e q h .right) (headsOf bs) n ≡ true
+    unfolding fits
+    fit-two e q n h f = rw (here-two e q h .is) at f
+
+    module _ (memo mid : Memo) (a : Worked) (A : EvaluatesAt bs (p + 16) z memo mid a) where
+      -- the left operand of any such tree
+      left-done : (e : Expr) (q n : ℕ) (h : At e (varsOf bs) bs p q) → fits e (headsOf bs) n ≡ true →
+          Evaluated bs (here-two e q h .left) (here-two e q h .middle) (pointOf n z) memo mid a
+      left-done e q n h f =
+          let x = here-two e q h in
+          A (x .left) (x .middle) n (x .before) (&&-left (fits (x .left) (headsOf bs) n) (fits (x .right) (headsOf bs) n) (fit-two e q n h f))
+
+      pub left-back : None (a .out) → EvaluatesAt bs p z memo mid a
+      left-back lacks e q n h f =
+          let x = here-two e q h in
+          let y = pointOf n z in
+          let d = done-first sheet (λ ins. expression sheet ins (x .left) y) (λ ins. expression-grows sheet ins (x .left) y)
+          (λ v ins k. andThen (expression sheet ins (x .right) y k) (λ w. binary (x .op) v w)) memo mid (a .out) lacks (left-done e q n h f .done) in
+          evaluated-tree e (bin (x .op) (x .left) (x .right)) q y memo mid a (x .is) (record {
+            done = done-same sheet memo mid _ _ (a .out) (λ ins k. two-is sheet ins y k (x .op) (x .left) (x .right)) d;
+            ends = λ v g. absurd (lacks v g);
+          })
+
+      module _ (v : Int) (is : a .out ≡ Value v) (last : Memo) (b : Worked) (B : EvaluatesAt bs (a .next) z mid last b) where
+        right-done : (e : Expr) (q n : ℕ) (h : At e (varsOf bs) bs p q) → fits e (headsOf bs) n ≡ true → Evaluated bs (here-two e q h .right) q (pointOf n z) mid last b
+        right-done e q n h f =
+            let x = here-two e q h in
+            let at : At (x .right) (varsOf bs) bs (a .next) q = rw (left-done e q n h f .ends v is) (x .after) in
+            B (x .right) q n at (&&-right (fits (x .left) (headsOf bs) n) (fits (x .right) (headsOf bs) n) (fit-two e q n h f))
+
+        -- the tree, from what follows the left operand's value
+        both-done : (e : Expr) (q n : ℕ) (h : At e (varsOf bs) bs p q) (f : fits e (headsOf bs) n ≡ true) (r : Worked) →
+            Done sheet mid last (λ ins k. andThen (expression sheet ins (here-two e q h .right) (pointOf n z) k) (λ w. binary (here-two e q h .op) (v .v) w)) (r .out) →
+            ((w : Int) → r .out ≡ Value w → r .next ≡ q) → Evaluated bs e q (pointOf n z) memo last r
+        both-done e q n h f r d ends =
+            let x = here-two e q h in
+            let y = pointOf n z in
+            let first = rw is at (left-done e q n h f .done) in
+            let g = done-next sheet (λ ins. expression sheet ins (x .left) y) (λ ins. expression-grows sheet ins (x .left) y)
+            (λ u ins k. andThen (expression sheet ins (x .right) y k) (λ w. binary (x .op) u w)) memo mid last v (r .out) first d in
+            evaluated-tree e (bin (x .op) (x .left) (x .right)) q y memo last r (x .is) (record {
+              done = done-same sheet memo last _ _ (r .out) (λ ins k. two-is sheet ins y k (x .op) (x .left) (x .right)) g;
+              ends = ends;
+            })
+
+        pub right-back : None (b .out) → EvaluatesAt bs p z memo last b
+        right-back lacks e q n h f =
+            let x = here-two e q h in
+            let y = pointOf n z in
+            both-done e q n h f b
+            (done-first sheet (λ ins. expression sheet ins (x .right) y) (λ ins. expression-grows sheet ins (x .right) y) (λ w ins k. binary (x .op) (v .v) w) mid last (b .out) lacks
+            (right-done e q n h f .done))
+            (λ w g. absurd (lacks w g))
+
+        pub two-way : (w : Int) (op : ℕ) (o : Outcomes.Outcome) → b .out ≡ Value w → op ≡ natAbs (field bs (p + 8)) → Range.Says o (binary (binaryOf op) (v .v) (w .v)) →
+            EvaluatesAt bs p z memo last (record { out = workOf o; next = b .next })
+        two-way w op o has number says e q n h f =
+            let x = here-two e q h in
+            let y = pointOf n z in
+            let same : x .op ≡ binaryOf op = x .chosen .is ∙ ap binaryOf (sym number) in
+            let said : Range.Says o (binary (x .op) (v .v) (w .v)) = rw same says in
+            let second = rw has at (right-done e q n h f .done) in
+            both-done e q n h f (record { out = workOf o; next = b .next })
+            (done-next sheet (λ ins. expression sheet ins (x .right) y) (λ ins. expression-grows sheet ins (x .right) y) (λ u ins k. binary (x .op) (v .v) u) mid last last w (workOf o) second
+            (done-known sheet last o (binary (x .op) (v .v) (w .v)) said))
+            (λ u g. right-done e q n h f .ends w has)
+
+  -- ---- an if
+
+  module _ (code : natAbs (field bs p) ≡ 5) where
+    here-three : (e : Expr) (q : ℕ) → At e (varsOf bs) bs p q → IteAt e (varsOf bs) bs p q
+    here-three e q h = at-ite (varsOf bs) bs e p q h (code-field bs p e q 5 h code)
+
+    fit-three : (e : Expr) (q n : ℕ) (h : At e (varsOf bs) bs p q) → fits e (headsOf bs) n ≡ true →
+        fits (here-three e q h .test) (headsOf bs) n && fits (here-three e q h .left) (headsOf bs) n && fits (here-three e q h .right) (headsOf bs) n ≡ true
+    unfolding fits
+    fit-three e q n h f = rw (here-three e q h .is) at f
+
+    -- what follows the test's value t, and then the first arm's value u
+    abbrev arms : Expr → Expr → Point → ℤ → List ℤ → Thing
+    arms b c y t ins k = andThen (expression sheet ins b y k) (λ x. andThen (expression sheet ins c y k) (λ w. choose (isTrue t) x w))
+
+    abbrev arm : Expr → Point → ℤ → ℤ → List ℤ → Thing
+    arm c y t x ins k = andThen (expression sheet ins c y k) (λ w. choose (isTrue t) x w)
+
+    module _ (memo one : Memo) (a : Worked) (A : EvaluatesAt bs (p + 8) z memo one a) where
+      test-done : (e : Expr) (q n : ℕ) (h : At e (varsOf bs) bs p q) → fits e (headsOf bs) n ≡ true →
+          Evaluated bs (here-three e q h .test) (here-three e q h .middle) (pointOf n z) memo one a
+      test-done e q n h f =
+          let x = here-three e q h in
+          A (x .test) (x .middle) n (x .tested)
+          (&&-left (fits (x .test) (headsOf bs) n) (fits (x .left) (headsOf bs) n)
+          (&&-left (fits (x .test) (headsOf bs) n && fits (x .left) (headsOf bs) n) (fits (x .right) (headsOf bs) n) (fit-three e q n h f)))
+
+      pub test-back : None (a .out) → EvaluatesAt bs p z memo one a
+      test-back lacks e q n h f =
+          let x = here-three e q h in
+          let y = pointOf n z in
+          let d = done-first sheet (λ ins. expression sheet ins (x .test) y) (λ ins. expression-grows sheet ins (x .test) y) (arms (x .left) (x .right) y) memo one (a .out) lacks
+          (test-done e q n h f .done) in
+          evaluated-tree e (ite (x .test) (x .left) (x .right)) q y memo one a (x .is) (record {
+            done = done-same sheet memo one _ _ (a .out) (λ ins k. three-is sheet ins y k (x .test) (x .left) (x .right)) d;
+            ends = λ v g. absurd (lacks v g);
+          })
+
+      module _ (t : Int) (tested : a .out ≡ Value t) (two : Memo) (b : Worked) (B : EvaluatesAt bs (a .next) z one two b) where
+        first-done : (e : Expr) (q n : ℕ) (h : At e (varsOf bs) bs p q) → fits e (headsOf bs) n ≡ true →
+            Evaluated bs (here-three e q h .left) (here-three e q h .last) (pointOf n z) one two b
+        first-done e q n h f =
+            let x = here-three e q h in
+            let at : At (x .left) (varsOf bs) bs (a .next) (x .last) = rw (test-done e q n h f .ends t tested) (x .before) in
+            B (x .left) (x .last) n at
+            (&&-right (fits (x .test) (headsOf bs) n) (fits (x .left) (headsOf bs) n)
+            (&&-left (fits (x .test) (headsOf bs) n && fits (x .left) (headsOf bs) n) (fits (x .right) (headsOf bs) n) (fit-three e q n h f)))
+
+        -- the tree, from what follows the test's value
+        tested-done : (e : Expr) (q n : ℕ) (h : At e (varsOf bs) bs p q) (f : fits e (headsOf bs) n ≡ true) (last : Memo) (r : Worked) →
+            Done sheet one last (arms (here-three e q h .left) (here-three e q h .right) (pointOf n z) (t .v)) (r .out) →
+            ((w : Int) → r .out ≡ Value w → r .next ≡ q) → Evaluated bs e q (pointOf n z) memo last r
+        tested-done e q n h f last r d ends =
+            let x = here-three e q h in
+            let y = pointOf n z in
+            let first = rw tested at (test-done e q n h f .done) in
+            let g = done-next sheet (λ ins. expression sheet ins (x .test) y) (λ ins. expression-grows sheet ins (x .test) y) (arms (x .left) (x .right) y) memo one last t (r .out) first d in
+            evaluated-tree e (ite (x .test) (x .left) (x .right)) q y memo last r (x .is) (record {
+              done = done-same sheet memo last _ _ (r .out) (λ ins k. three-is sheet ins y k (x .test) (x .left) (x .right)) g;
+              ends = ends;
+            })
+
+        pub first-back : None (b .out) → EvaluatesAt bs p z memo two b
+        first-back lacks e q n h f =
+            let x = here-three e q h in
+            let y = pointOf n z in
+            tested-done e q n h f two b
+            (done-first sheet (λ ins. expression sheet ins (x .left) y) (λ ins. expression-grows sheet ins (x .left) y) (arm (x .right) y (t .v)) one two (b .out) lacks (first-done e q n h f .done))
+            (λ w g. absurd (lacks w g))
+
+        module _ (u : Int) (has : b .out ≡ Value u) (last : Memo) (c : Worked) (C : EvaluatesAt bs (b .next) z two last c) where
+          second-done : (e : Expr) (q n : ℕ) (h : At e (varsOf bs) bs p q) → fits e (headsOf bs) n ≡ true → Evaluated bs (here-three e q h .right) q (pointOf n z) two last c
+          second-done e q n h f =
+              let x = here-three e q h in
+              let at : At (x .right) (varsOf bs) bs (b .next) q = rw (first-done e q n h f .ends u has) (x .after) in
+              C (x .right) q n at (&&-right (fits (x .test) (headsOf bs) n && fits (x .left) (headsOf bs) n) (fits (x .right) (headsOf bs) n) (fit-three e q n h f))
+
+          -- the tree, from what follows the first arm's value
+          armed-done : (e : Expr) (q n : ℕ) (h : At e (varsOf bs) bs p q) (f : fits e (headsOf bs) n ≡ true) (r : Worked) →
+              Done sheet two last (arm (here-three e q h .right) (pointOf n z) (t .v) (u .v)) (r .out) →
+              ((w : Int) → r .out ≡ Value w → r .next ≡ q) → Evaluated bs e q (pointOf n z) memo last r
+          armed-done e q n h f r d ends =
+              let x = here-three e q h in
+              let y = pointOf n z in
+              let first = rw has at (first-done e q n h f .done) in
+              tested-done e q n h f last r
+              (done-next sheet (λ ins. expression sheet ins (x .left) y) (λ ins. expression-grows sheet ins (x .left) y) (arm (x .right) y (t .v)) one two last u (r .out) first d) ends
+
+          pub second-back : None (c .out) → EvaluatesAt bs p z memo last c
+          second-back lacks e q n h f =
+              let x = here-three e q h in
+              let y = pointOf n z in
+              armed-done e q n h f c
+              (done-first sheet (λ ins. expression sheet ins (x .right) y) (λ ins. expression-grows sheet ins (x .right) y) (λ w ins k. choose (isTrue (t .v)) (u .v) w) two last (c .out) lacks
+              (second-done e q n h f .done))
+              (λ w g. absurd (lacks w g))
+
+          pub three-way : (w : Int) (o : Outcomes.Outcome) → c .out ≡ Value w → Range.Says o (choose (isTrue (t .v)) (u .v) (w .v)) →
+              EvaluatesAt bs p z memo last (record { out = workOf o; next = c .next })
+          three-way w o got says e q n h f =
+              let x = here-three e q h in
+              let y = pointOf n z in
+              let second = rw got at (second-done e q n h f .done) in
+              armed-done e q n h f (record { out = workOf o; next = c .next })
+              (done-next sheet (λ ins. expression sheet ins (x .right) y) (λ ins. expression-grows sheet ins (x .right) y) (λ v ins k. choose (isTrue (t .v)) (u .v) v) two last last w (workOf o) second
+              (done-known sheet last o (choose (isTrue (t .v)) (u .v) (w .v)) says))
+              (λ v g. second-done e q n h f .ends w got)
+
+  -- ---- a case
+
+  module _ (left : ℕ) (code : natAbs (field bs p) ≡ 6) (choice : Choice) (C : Chooses bs p left z choice) where
+    here-case : (e : Expr) (q : ℕ) → At e (varsOf bs) bs p q → KaseAt e (varsOf bs) bs p q
+    here-case e q h = at-kase (varsOf bs) bs e p q h (code-field bs p e q 6 h code)
+
+    pub nowhere-way : (memo : Memo) → choice .branch ≡ Branch.Nowhere → EvaluatesAt bs p z memo memo (record { out = Outside; next = choice .next })
+    nowhere-way memo is e q n h f =
+        let x = here-case e q h in
+        let y = pointOf n z in
+        let found : Takes bs (x .branches) y Branch.Nowhere = subst (Takes bs (x .branches) y) is (C .says (x .branches) q n (rw (x .is) at h) (rw (x .is) at f)) in
+        evaluated-tree e (kase (x .branches)) q y memo memo _ (x .is) (record {
+          done = done-same sheet memo memo (λ ins. expression sheet ins (kase (x .branches)) y) (λ ins k. outside) Outside (nowhere-is sheet (x .branches) y found) (done-outside sheet memo);
+          ends = λ v g. C .ends e q h;
+        })
+
+    pub branch-way : (memo last : Memo) (at : ℕ) (r : Worked) → choice .branch ≡ Branch.At at → EvaluatesAt bs at z memo last r →
+        EvaluatesAt bs p z memo last (record { out = r .out; next = choice .next })
+    branch-way memo last at r is R e q n h f =
+        let x = here-case e q h in
+        let y = pointOf n z in
+        let taken : Takes bs (x .branches) y (Branch.At at) = subst (Takes bs (x .branches) y) is (C .says (x .branches) q n (rw (x .is) at h) (rw (x .is) at f)) in
+        let E = R (taken .tree) (taken .end) n (taken .at) (taken-fits (x .branches) n (taken .tree) (taken .first) (fit-case x f)) in
+        evaluated-tree e (kase (x .branches)) q y memo last _ (x .is) (record {
+          done = done-same sheet memo last (λ ins. expression sheet ins (kase (x .branches)) y) (λ ins. expression sheet ins (taken .tree) y) (r .out)
+              (taken-is sheet (x .branches) y (taken .tree) (taken .first)) (E .done);
+          ends = λ v g. C .ends e q h;
+        })
+      where
+        fit-case : (x : KaseAt e (varsOf bs) bs p q) → fits e (headsOf bs) n ≡ true → allFit (x .branches) (headsOf bs) n ≡ true
+        fit-case x g = unfold fits in rw (x .is) at g
+
+        taken-fits : (es : Exprs) (n : ℕ) (t : Expr) → firstHolding es sheet (pointOf n z) ≡ some t → allFit es (headsOf bs) n ≡ true → fits t (headsOf bs) n ≡ true
+        taken-fits es n t h g = first-fits (headsOf bs) es sheet n (pointOf n z) t h g
+
+  -- ---- a restriction
+
+  pub restriction-way : (k : ℕ) → natAbs (field bs p) ≡ 7 → k ≡ nodeLen bs p → (memo last : Memo) (r : Worked) → EvaluatesAt bs (p + k) z memo last r → EvaluatesAt bs p z memo last r
+  restriction-way k code long memo last r R e q n h f =
+      let x = at-restr (varsOf bs) bs e p q h (code-field bs p e q 7 h code) in
+      let y = pointOf n z in
+      let E = R (x .child) q n (subst (λ i. At (x .child) (varsOf bs) bs (p + i) q) (sym long) (x .below)) (&&-right (eqb (x .dim) n) (fits (x .child) (headsOf bs) n) (parts x)) in
+      evaluated-tree e (restr (x .dim) (x .given) (x .child)) q y memo last r (x .is)
+      (evaluated-same (restr (x .dim) (x .given) (x .child)) (x .child) q y y memo last r (restricted-is sheet (x .dim) (x .given) (x .child) y) E)
+    where
+      parts : (x : RestrAt e (varsOf bs) bs p q) → eqb (x .dim) n && fits (x .child) (headsOf bs) n ≡ true
+      parts x = unfold fits in rw (x .is) at f
+
+  -- ---- a dependence
+
+  pub image-way : (k : ℕ) (m : Map) (y : List Int) → natAbs (field bs p) ≡ 8 → k ≡ nodeLen bs p → MapRead bs (p + 8) m →
+      pointOf (m .height) y ≡ image (mapOf m .rows) (pointOf (m .width) z) →
+      (memo last : Memo) (r : Worked) → EvaluatesAt bs (p + k) y memo last r → EvaluatesAt bs p z memo last r
+  image-way k m y code long read is memo last r R e q n h f =
+      let x = at-dep (varsOf bs) bs e p q h (code-field bs p e q 8 h code) in
+      let map-is = read .is (x .by) (p + nodeLen bs p) (x .fields .read) in
+      let cols = eqb-true (x .by .cols) n (&&-left (eqb (x .by .cols) n) (fits (x .child) (headsOf bs) (length (x .by .rows))) (parts x)) in
+      let point : pointOf (length (x .by .rows)) y ≡ image (x .by .rows) (pointOf n z) =
+      rw (height-length m map-is, width-cols m map-is, cols) at (is ∙ ap (λ w. image (w .rows) (pointOf (m .width) z)) map-is) in
+      let E = R (x .child) q (length (x .by .rows)) (subst (λ i. At (x .child) (varsOf bs) bs (p + i) q) (sym long) (x .below))
+      (&&-right (eqb (x .by .cols) n) (fits (x .child) (headsOf bs) (length (x .by .rows))) (parts x)) in
+      evaluated-tree e (dep (x .by) (x .child)) q (pointOf n z) memo last r (x .is)
+      (evaluated-same (dep (x .by) (x .child)) (x .child) q (pointOf n z) (image (x .by .rows) (pointOf n z)) memo last r (imaged-is sheet (x .by) (x .child) (pointOf n z))
+      (subst (λ w. Evaluated bs (x .child) q w memo last r) point E))
+    where
+      parts : (x : DepAt e (varsOf bs) bs p q) → eqb (x .by .cols) n && fits (x .child) (headsOf bs) (length (x .by .rows)) ≡ true
+      parts x = unfold fits in rw (x .is) at f

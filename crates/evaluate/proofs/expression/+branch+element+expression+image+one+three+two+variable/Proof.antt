@@ -1,0 +1,923 @@
+use borrow.Fn.Kinds.{In}
+use borrow.Fn.PlainCycle.{Measures, is, falls, and}
+use Rattle.evaluate.proofs.expression.branch.Reads as branch
+use Rattle.evaluate.proofs.expression.branch.Kinds as branch-kinds
+use Rattle.evaluate.proofs.expression.+branch+element+expression+image+one+three+two+variable.Lts-branch as branch-lts
+use Rattle.evaluate.proofs.expression.element.Reads as element
+use Rattle.evaluate.proofs.expression.element.Kinds as element-kinds
+use Rattle.evaluate.proofs.expression.+branch+element+expression+image+one+three+two+variable.Lts-element as element-lts
+use Rattle.evaluate.proofs.expression.expression.Reads as expression
+use Rattle.evaluate.proofs.expression.expression.Kinds as expression-kinds
+use Rattle.evaluate.proofs.expression.+branch+element+expression+image+one+three+two+variable.Lts-expression as expression-lts
+use Rattle.evaluate.proofs.expression.image.Reads as image
+use Rattle.evaluate.proofs.expression.image.Kinds as image-kinds
+use Rattle.evaluate.proofs.expression.+branch+element+expression+image+one+three+two+variable.Lts-image as image-lts
+use Rattle.evaluate.proofs.expression.one.Reads as one
+use Rattle.evaluate.proofs.expression.one.Kinds as one-kinds
+use Rattle.evaluate.proofs.expression.+branch+element+expression+image+one+three+two+variable.Lts-one as one-lts
+use Rattle.evaluate.proofs.expression.three.Reads as three
+use Rattle.evaluate.proofs.expression.three.Kinds as three-kinds
+use Rattle.evaluate.proofs.expression.+branch+element+expression+image+one+three+two+variable.Lts-three as three-lts
+use Rattle.evaluate.proofs.expression.two.Reads as two
+use Rattle.evaluate.proofs.expression.two.Kinds as two-kinds
+use Rattle.evaluate.proofs.expression.+branch+element+expression+image+one+three+two+variable.Lts-two as two-lts
+use Rattle.evaluate.proofs.expression.variable.Reads as variable
+use Rattle.evaluate.proofs.expression.variable.Kinds as variable-kinds
+use Rattle.evaluate.proofs.expression.+branch+element+expression+image+one+three+two+variable.Lts-variable as variable-lts
+use Rattle.affine.proofs.apply.Reads as apply-reads
+use Rattle.affine.proofs.map_read.Reads as map-read-reads
+use Rattle.domain.proofs.holding.holding.Reads as holding-reads
+use Rattle.evaluate.proofs.expression.constant.Reads as constant-reads
+use Rattle.evaluate.proofs.memo.code_of.Reads as code-of-reads
+use Rattle.evaluate.proofs.memo.known.Reads as known-reads
+use Rattle.evaluate.proofs.memo.note.Reads as note-reads
+use Rattle.evaluate.proofs.memo.value_of.Reads as value-of-reads
+use Rattle.evaluate.proofs.memo.work_of.Reads as work-of-reads
+use Rattle.integer.proofs.binary.Reads as binary-reads
+use Rattle.integer.proofs.choose.Reads as choose-reads
+use Rattle.integer.proofs.is_true.Reads as is-true-reads
+use Rattle.integer.proofs.of.Reads as of-reads
+use Rattle.integer.proofs.of32.Reads as of32-reads
+use Rattle.integer.proofs.unary.Reads as unary-reads
+use Rattle.points.proofs.index.Reads as index-reads
+use Rattle.sheet.proofs.table.body_place.Reads as body-place-reads
+use Rattle.sheet.proofs.table.first_element.Reads as first-element-reads
+use Rattle.sheet.proofs.table.record_place.Reads as record-place-reads
+use Rattle.tree.proofs.node.natural.Reads as natural-reads
+use Rattle.tree.proofs.node.node_len.Reads as node-len-reads
+use Rattle.evaluate.proofs.expression.+branch+element+expression+image+one+three+two+variable.{
+  statement,
+}
+use Rattle.evaluate.proofs.expression.+branch+element+expression+image+one+three+two+variable.Tie.{
+  close,
+}
+use Prim.Native.Nat.{ℕ, _+_, _*_, _-_, _<_, _≤_}
+use mathlib.Core.Path.{_≡_, refl, sym, ap, _∙_, subst}
+use native.Mathlib.Omega.{arith}
+use lib.ListN.{length, set}
+use denote.Ref.{now}
+use lib.IntN.{pos}
+use borrow.Author.Needs.{needs, sfits-of}
+use mir.Facts.{toZ-ofZ}
+use Rattle.laws.specs.Sheets.{varsOf, sheetOf}
+use Rattle.tree.proofs.Noding.{code-there, wide-fields}
+use Rattle.tree.proofs.Standings.{standing-there}
+use Rattle.domain.proofs.Walks.{walk-standing, walk-image, image-fits}
+use Rattle.domain.proofs.Records.{VariableLaid, laid-variable}
+use Rattle.domain.proofs.Restrictions.{restriction-walk}
+use Rattle.evaluate.specs.Memo as Memo
+use Rattle.evaluate.specs.Memo.{busy, noted}
+use Rattle.evaluate.specs.Working.{memoOf, outcomes, Ready, Done, EvaluatesAt}
+use Rattle.evaluate.proofs.Entries.{no-value, noted-is}
+use Rattle.evaluate.proofs.Doing.{ready-kept}
+use Rattle.evaluate.proofs.Operands.{not-zero, image-code, some-variable, walk-noded, walk-some, there, one-few, one-walk, two-few, left-walk, right-walk, test-walk, first-walk, second-walk, taken-walk, ready-after, small-value, operand-ends}
+use Rattle.evaluate.proofs.Ways.{constant-way, one-back, one-way, left-back, right-back, two-way, test-back, first-back, second-back, three-way, nowhere-way, branch-way, restriction-way, image-way}
+use Rattle.evaluate.proofs.Elements.{element-low, known-way, deep-way, ready-marked, walk-body, body-done, worked-way, variable-known, off-way, named-element, number-few, variable-way}
+
+abbrev μ-branch : Measures 5 branch-kinds.ps ℕ
+μ-branch κs a = a .1 .1 .1 .1 .1 .1 .1 .1 .0 * 6150 + 3 * a .1 .1 .1 .1 .1 .1 .0 + 1
+
+abbrev μ-element : Measures 5 element-kinds.ps ℕ
+μ-element κs a = a .1 .1 .1 .1 .1 .1 .1 .1 .0 * 6150
+
+abbrev μ-expression : Measures 5 expression-kinds.ps ℕ
+μ-expression κs a = a .1 .1 .1 .1 .1 .1 .1 .1 .0 * 6150 + 3 * a .1 .1 .1 .1 .1 .1 .0 + 2
+
+abbrev μ-image : Measures 5 image-kinds.ps ℕ
+μ-image κs a = a .1 .1 .1 .1 .1 .1 .1 .1 .0 * 6150 + 3 * a .1 .1 .1 .1 .1 .1 .0 + 1
+
+abbrev μ-one : Measures 5 one-kinds.ps ℕ
+μ-one κs a = a .1 .1 .1 .1 .1 .1 .1 .1 .0 * 6150 + 3 * a .1 .1 .1 .1 .1 .1 .0 + 1
+
+abbrev μ-three : Measures 5 three-kinds.ps ℕ
+μ-three κs a = a .1 .1 .1 .1 .1 .1 .1 .1 .0 * 6150 + 3 * a .1 .1 .1 .1 .1 .1 .0 + 1
+
+abbrev μ-two : Measures 5 two-kinds.ps ℕ
+μ-two κs a = a .1 .1 .1 .1 .1 .1 .1 .1 .0 * 6150 + 3 * a .1 .1 .1 .1 .1 .1 .0 + 1
+
+abbrev μ-variable : Measures 5 variable-kinds.ps ℕ
+μ-variable κs a = a .1 .1 .1 .1 .1 .1 .1 .1 .0 * 6150 + 3 * a .1 .1 .1 .1 .1 .1 .0 + 1
+
+abbrev branch-at : ℕ → In 5 branch-kinds.ps
+branch-at t = and 5 branch-kinds.ps (is 5 branch-kinds.ps μ-branch t) branch.Pre
+
+abbrev branch-below : ℕ → In 5 branch-kinds.ps
+branch-below t = and 5 branch-kinds.ps (falls 5 branch-kinds.ps _<_ μ-branch t) branch.Pre
+
+abbrev element-at : ℕ → In 5 element-kinds.ps
+element-at t = and 5 element-kinds.ps (is 5 element-kinds.ps μ-element t) element.Pre
+
+abbrev element-below : ℕ → In 5 element-kinds.ps
+element-below t = and 5 element-kinds.ps (falls 5 element-kinds.ps _<_ μ-element t) element.Pre
+
+abbrev expression-at : ℕ → In 5 expression-kinds.ps
+expression-at t =
+    and 5 expression-kinds.ps (is 5 expression-kinds.ps μ-expression t) expression.Pre
+
+abbrev expression-below : ℕ → In 5 expression-kinds.ps
+expression-below t =
+    and 5 expression-kinds.ps (falls 5 expression-kinds.ps _<_ μ-expression t) expression.Pre
+
+abbrev image-at : ℕ → In 5 image-kinds.ps
+image-at t = and 5 image-kinds.ps (is 5 image-kinds.ps μ-image t) image.Pre
+
+abbrev image-below : ℕ → In 5 image-kinds.ps
+image-below t = and 5 image-kinds.ps (falls 5 image-kinds.ps _<_ μ-image t) image.Pre
+
+abbrev one-at : ℕ → In 5 one-kinds.ps
+one-at t = and 5 one-kinds.ps (is 5 one-kinds.ps μ-one t) one.Pre
+
+abbrev one-below : ℕ → In 5 one-kinds.ps
+one-below t = and 5 one-kinds.ps (falls 5 one-kinds.ps _<_ μ-one t) one.Pre
+
+abbrev three-at : ℕ → In 5 three-kinds.ps
+three-at t = and 5 three-kinds.ps (is 5 three-kinds.ps μ-three t) three.Pre
+
+abbrev three-below : ℕ → In 5 three-kinds.ps
+three-below t = and 5 three-kinds.ps (falls 5 three-kinds.ps _<_ μ-three t) three.Pre
+
+abbrev two-at : ℕ → In 5 two-kinds.ps
+two-at t = and 5 two-kinds.ps (is 5 two-kinds.ps μ-two t) two.Pre
+
+abbrev two-below : ℕ → In 5 two-kinds.ps
+two-below t = and 5 two-kinds.ps (falls 5 two-kinds.ps _<_ μ-two t) two.Pre
+
+abbrev variable-at : ℕ → In 5 variable-kinds.ps
+variable-at t = and 5 variable-kinds.ps (is 5 variable-kinds.ps μ-variable t) variable.Pre
+
+abbrev variable-below : ℕ → In 5 variable-kinds.ps
+variable-below t =
+    and 5 variable-kinds.ps (falls 5 variable-kinds.ps _<_ μ-variable t) variable.Pre
+
+
+abbrev branch-uses : ℕ → branch-lts.Claims
+branch-uses t = (holding-reads.Asked, holding-reads.Learnt, expression-below t, expression.Post)
+
+abbrev element-uses : ℕ → element-lts.Claims
+element-uses t = (of32-reads.Asked, of32-reads.Learnt, known-reads.Asked, known-reads.Learnt, of-reads.Asked, of-reads.Learnt, note-reads.Asked, note-reads.Learnt, body-place-reads.Asked, body-place-reads.Learnt, expression-below t, expression.Post, code-of-reads.Asked, code-of-reads.Learnt, value-of-reads.Asked, value-of-reads.Learnt)
+
+abbrev expression-uses : ℕ → expression-lts.Claims
+expression-uses t = (natural-reads.Asked, natural-reads.Learnt, variable-below t, variable.Post, one-below t, one.Post, two-below t, two.Post, three-below t, three.Post, branch-below t, branch.Post, node-len-reads.Asked, node-len-reads.Learnt, expression-below t, expression.Post, constant-reads.Asked, constant-reads.Learnt, image-below t, image.Post)
+
+abbrev image-uses : ℕ → image-lts.Claims
+image-uses t = (map-read-reads.Asked, map-read-reads.Learnt, apply-reads.Asked, apply-reads.Learnt, node-len-reads.Asked, node-len-reads.Learnt, expression-below t, expression.Post)
+
+abbrev one-uses : ℕ → one-lts.Claims
+one-uses t = (expression-below t, expression.Post, natural-reads.Asked, natural-reads.Learnt, unary-reads.Asked, unary-reads.Learnt, work-of-reads.Asked, work-of-reads.Learnt)
+
+abbrev three-uses : ℕ → three-lts.Claims
+three-uses t = (expression-below t, expression.Post, is-true-reads.Asked, is-true-reads.Learnt, choose-reads.Asked, choose-reads.Learnt, work-of-reads.Asked, work-of-reads.Learnt)
+
+abbrev two-uses : ℕ → two-lts.Claims
+two-uses t = (expression-below t, expression.Post, natural-reads.Asked, natural-reads.Learnt, binary-reads.Asked, binary-reads.Learnt, work-of-reads.Asked, work-of-reads.Learnt)
+
+abbrev variable-uses : ℕ → variable-lts.Claims
+variable-uses t = (natural-reads.Asked, natural-reads.Learnt, record-place-reads.Asked, record-place-reads.Learnt, index-reads.Asked, index-reads.Learnt, first-element-reads.Asked, first-element-reads.Learnt, element-below t, element.Post)
+
+branch-holding-requires : (t : ℕ) → branch-lts.Need-holding-requires (branch-uses t) (branch-at t) branch.Post
+branch-holding-requires t c κs =
+    let p = c .before .pre .1 in
+    (p .0 .placed, p .1, p .3, p .4, p .5)
+
+branch-enum-known-taken : (t : ℕ) → branch-lts.Need-enum-known-taken (branch-uses t) (branch-at t) branch.Post
+branch-enum-known-taken t c = search needs
+
+branch-enum-told : (t : ℕ) → branch-lts.Need-enum-told (branch-uses t) (branch-at t) branch.Post
+branch-enum-told t c = search needs
+
+branch-returns : (t : ℕ) → branch-lts.Need-returns (branch-uses t) (branch-at t) branch.Post
+branch-returns t c =
+    let p = c .before .before .before .before .pre .1 in
+    nowhere-way _ _ (c .before .before .before .before .args .z) _ (p .5) _ (c .before .before .holding .ensures) _ (c .enum-told .given .1)
+
+branch-sub-expression : (t : ℕ) → branch-lts.Need-sub-expression (branch-uses t) (branch-at t) branch.Post
+branch-sub-expression t c =     omega (arith, walk-some _ _ _ _ (c .before .before .before .before .before .before .before .pre .1 .3))
+
+branch-expression-requires : (t : ℕ) → branch-lts.Need-expression-requires (branch-uses t) (branch-at t) branch.Post
+branch-expression-requires t c κs =
+    let s = c .before .before .before .before .before .before .before in
+    let p = s .pre .1 in
+    let is = s .pre .0 in
+    let some = walk-some _ _ _ _ (p .3) in
+    let walk = taken-walk _ _ _ _ _ (c .before .before .before .taken .given .1) (c .before .before .before .before .before .holding .ensures .walk) in
+    (omega arith, (p .0, p .1, p .2, walk, omega (arith, p .4)))
+
+branch-returns-2 : (t : ℕ) → branch-lts.Need-returns-2 (branch-uses t) (branch-at t) branch.Post
+branch-returns-2 t c =
+    let p = c .before .before .before .before .before .before .before .before .pre .1 in
+    branch-way _ _ (c .before .before .before .before .before .before .before .before .args .z) _ (p .5) _ (c .before .before .before .before .before .before .holding .ensures) _ _ _ _ (c .before .before .before .before .taken .given .1) (c .expression .ensures)
+
+element-element-copy-out-code : (t : ℕ) → element-lts.Need-element-copy-out-code (element-uses t) (element-at t) element.Post
+element-element-copy-out-code t c =
+    let s = c .before in
+    let p = s .pre .1 in
+    omega (arith, element-low _ _ (p .0) _ _ _ (p .3), p .2 .few)
+
+element-mul-of32 : (t : ℕ) → element-lts.Need-mul-of32 (element-uses t) (element-at t) element.Post
+element-mul-of32 t c =
+    let s = c .before .before .before in
+    let p = s .pre .1 in
+    let low : s .args .e < 4096 = omega (arith, element-low _ _ (p .0) _ _ _ (p .3), p .2 .few) in
+    search needs
+
+element-element-copy-out-of32 : (t : ℕ) → element-lts.Need-element-copy-out-of32 (element-uses t) (element-at t) element.Post
+element-element-copy-out-of32 t c =
+    let s = c .before .before .before in
+    let p = s .pre .1 in
+    omega (arith, element-low _ _ (p .0) _ _ _ (p .3), p .2 .few)
+
+element-of32-requires : (t : ℕ) → element-lts.Need-of32-requires (element-uses t) (element-at t) element.Post
+element-of32-requires t c κs = search needs
+
+element-known-requires : (t : ℕ) → element-lts.Need-known-requires (element-uses t) (element-at t) element.Post
+element-known-requires t c κs = c .of32 .ensures .1
+
+element-returns : (t : ℕ) → element-lts.Need-returns (element-uses t) (element-at t) element.Post
+element-returns t c =
+    let s = c .before .before .before .before .before .before in
+    let p = s .pre .1 in
+    known-way _ _ (p .0) _ _ _ (p .3) _ (p .2) _ _ (c .before .before .before .if1 .taken) (c .before .of32 .ensures .0 ∙ toZ-ofZ (sfits-of (c .before .before .of32-arg .given))) (c .known .ensures .0) (c .known .ensures .1)
+
+element-returns-2 : (t : ℕ) → element-lts.Need-returns-2 (element-uses t) (element-at t) element.Post
+element-returns-2 t c =
+    let s = c .before .before .before .before in
+    let p = s .pre .1 in
+    deep-way _ _ (p .0) _ _ _ (p .3) _ (p .2) (c .before .if1 .left)
+
+element-of-requires : (t : ℕ) → element-lts.Need-of-requires (element-uses t) (element-at t) element.Post
+element-of-requires t c κs = search needs
+
+element-note-requires : (t : ℕ) → element-lts.Need-note-requires (element-uses t) (element-at t) element.Post
+element-note-requires t c κs =
+    let s = c .before .before .before .before .before .before .before in
+    let p = s .pre .1 in
+    (omega (arith, element-low _ _ (p .0) _ _ _ (p .3), p .2 .few), p .2 .codes-long, p .2 .values-long, rw (c .of .ensures) (omega arith))
+
+element-body-place-requires : (t : ℕ) → element-lts.Need-body-place-requires (element-uses t) (element-at t) element.Post
+element-body-place-requires t c κs =
+    let s = c .before .before .before .before .before .before .before .before in
+    let p = s .pre .1 in
+    omega (arith, laid-variable _ _ (p .0 .placed) _ (p .3 .known) .low)
+
+-- the memo in which the element is marked
+element-marked : (t : ℕ) (c : element-lts.After-note (element-uses t) (element-at t) element.Post) →
+    memoOf (c .note .last .0) (c .note .last .1 .0) ≡ noted (memoOf (now (c .before .before .before .before .before .before .before .before .args .codes)) (now (c .before .before .before .before .before .before .before .before .args .values))) (c .before .before .before .before .before .before .before .before .args .e) busy (pos 0)
+element-marked t c =
+    noted-is (memoOf (now (c .before .before .before .before .before .before .before .before .args .codes)) (now (c .before .before .before .before .before .before .before .before .args .values))) _ _ _ _ _ _ (c .note .ensures .0) (c .note .ensures .1) (c .before .of .ensures)
+
+
+element-expression-requires : (t : ℕ) → element-lts.Need-expression-requires (element-uses t) (element-at t) element.Post
+element-expression-requires t c κs =
+    let s = c .before .before .before .before .before .before .before .before .before .before .before in
+    let p = s .pre .1 in
+    let is = s .pre .0 in
+    let some = c .before .before .before .before .before .before .before .if2 .left in
+    let late = c .before .before .before .before .before .before .before .before .if1 .left in
+    let ready = subst (Ready (sheetOf (now (s .args .s)))) (sym (element-marked t (c .before .before .before))) (ready-marked _ _ (p .0) _ _ _ (p .3) _ (p .2) late) in
+    let walk = walk-body _ _ (p .0) _ _ _ (p .3) _ (p .2) late _ (c .before .before .body-place .ensures) in
+    (omega arith, (p .0, p .1, ready, walk, omega arith))
+
+element-code-of-requires : (t : ℕ) → element-lts.Need-code-of-requires (element-uses t) (element-at t) element.Post
+element-code-of-requires t c κs = search needs
+
+-- what was worked out of the body, from the memo in which the element is marked
+element-body : (t : ℕ) (c : element-lts.After-expression (element-uses t) (element-at t) element.Post) →
+    EvaluatesAt (now (c .before .before .before .before .before .before .before .before .before .before .before .before .args .s)) (c .before .before .before .body-place .result) (c .before .before .before .before .before .before .before .before .before .before .before .before .args .z)
+    (noted (memoOf (now (c .before .before .before .before .before .before .before .before .before .before .before .before .args .codes)) (now (c .before .before .before .before .before .before .before .before .before .before .before .before .args .values))) (c .before .before .before .before .before .before .before .before .before .before .before .before .args .e) busy (pos 0))
+    (memoOf (c .expression .last .1 .1 .1 .0) (c .expression .last .1 .1 .1 .1 .0)) (c .expression .result)
+element-body t c =
+    let s = c .before .before .before .before .before .before .before .before .before .before .before .before in
+    subst (λ m. EvaluatesAt (now (s .args .s)) (c .before .before .before .body-place .result) (s .args .z) m
+    (memoOf (c .expression .last .1 .1 .1 .0) (c .expression .last .1 .1 .1 .1 .0)) (c .expression .result)) (element-marked t (c .before .before .before .before)) (c .expression .ensures)
+
+
+element-value-of-requires : (t : ℕ) → element-lts.Need-value-of-requires (element-uses t) (element-at t) element.Post
+element-value-of-requires t c κs =
+    let s = c .before .before .before .before .before .before .before .before .before .before .before .before .before .before .before in
+    let p = s .pre .1 in
+    let late = c .before .before .before .before .before .before .before .before .before .before .before .before .if1 .left in
+    let place = c .before .before .before .before .before .before .body-place .ensures in
+    let body = element-body t (c .before .before .before) in
+    body-done _ _ (p .0) _ _ _ (p .3) _ (p .2) late _ place _ _ body .small
+
+element-note-requires-2 : (t : ℕ) → element-lts.Need-note-requires-2 (element-uses t) (element-at t) element.Post
+element-note-requires-2 t c κs =
+    let s = c .before .before .before .before .before .before .before .before .before .before .before .before .before .before .before .before in
+    let p = s .pre .1 in
+    let late = c .before .before .before .before .before .before .before .before .before .before .before .before .before .if1 .left in
+    let place = c .before .before .before .before .before .before .before .body-place .ensures in
+    let body = element-body t (c .before .before .before .before) in
+    let ready = ready-kept _ _ _ (ready-marked _ _ (p .0) _ _ _ (p .3) _ (p .2) late) (body-done _ _ (p .0) _ _ _ (p .3) _ (p .2) late _ place _ _ body .kept) in
+    (omega (arith, element-low _ _ (p .0) _ _ _ (p .3), p .2 .few), ready .codes-long, ready .values-long, c .value-of .ensures .1)
+
+element-returns-3 : (t : ℕ) → element-lts.Need-returns-3 (element-uses t) (element-at t) element.Post
+element-returns-3 t c =
+    let s = c .before .before .before .before .before .before .before .before .before .before .before .before .before .before .before .before .before in
+    let p = s .pre .1 in
+    let late = c .before .before .before .before .before .before .before .before .before .before .before .before .before .before .if1 .left in
+    let place = c .before .before .before .before .before .before .before .before .body-place .ensures in
+    let body = element-body t (c .before .before .before .before .before) in
+    let worked = worked-way _ _ (p .0) _ _ _ (p .3) _ (p .2) late _ place _ _ body in
+    let kept = memoOf (c .before .before .before .before .before .expression .last .1 .1 .1 .0) (c .before .before .before .before .before .expression .last .1 .1 .1 .1 .0) in
+    let code = c .note2 .ensures .0 ∙ ap (set (kept .codes) (s .args .e)) (c .before .before .code-of .ensures) in
+    let stored = noted-is kept _ _ _ _ _ _ code (c .note2 .ensures .1) (c .before .value-of .ensures .0) in
+    subst (λ m. Done (sheetOf (now (s .args .s))) (memoOf (now (s .args .codes)) (now (s .args .values))) m (λ ins. Memo.element (outcomes (sheetOf (now (s .args .s))) ins) (s .args .e)) (c .before .before .before .before .before .expression .result .out)) (sym stored) worked
+
+expression-natural-requires : (t : ℕ) → expression-lts.Need-natural-requires (expression-uses t) (expression-at t) expression.Post
+expression-natural-requires t c κs =     code-there _ _ _ (walk-noded _ _ _ _ (c .before .pre .1 .3))
+
+expression-variable-requires : (t : ℕ) → expression-lts.Need-variable-requires (expression-uses t) (expression-at t) expression.Post
+expression-variable-requires t c κs =
+    let s = c .before .before .before .before .before in
+    let p = s .pre .1 in
+    let is = s .pre .0 in
+    let code = sym (c .before .before .before .natural .ensures) ∙ c .before .before .match .keys1 in
+    (omega arith, (p .0, p .1, p .2, p .3, p .4, code))
+
+expression-one-requires : (t : ℕ) → expression-lts.Need-one-requires (expression-uses t) (expression-at t) expression.Post
+expression-one-requires t c κs =
+    let s = c .before .before .before .before .before in
+    let p = s .pre .1 in
+    let is = s .pre .0 in
+    let code = sym (c .before .before .before .natural .ensures) ∙ c .before .before .match .keys2 in
+    (omega arith, (p .0, p .1, p .2, p .3, p .4, code))
+
+expression-two-requires : (t : ℕ) → expression-lts.Need-two-requires (expression-uses t) (expression-at t) expression.Post
+expression-two-requires t c κs =
+    let s = c .before .before .before .before .before in
+    let p = s .pre .1 in
+    let is = s .pre .0 in
+    let code = sym (c .before .before .before .natural .ensures) ∙ c .before .before .match .keys3 in
+    (omega arith, (p .0, p .1, p .2, p .3, p .4, code))
+
+expression-three-requires : (t : ℕ) → expression-lts.Need-three-requires (expression-uses t) (expression-at t) expression.Post
+expression-three-requires t c κs =
+    let s = c .before .before .before .before .before in
+    let p = s .pre .1 in
+    let is = s .pre .0 in
+    let code = sym (c .before .before .before .natural .ensures) ∙ c .before .before .match .keys4 in
+    (omega arith, (p .0, p .1, p .2, p .3, p .4, code))
+
+expression-branch-requires : (t : ℕ) → expression-lts.Need-branch-requires (expression-uses t) (expression-at t) expression.Post
+expression-branch-requires t c κs =
+    let s = c .before .before .before .before .before in
+    let p = s .pre .1 in
+    let is = s .pre .0 in
+    let code = sym (c .before .before .before .natural .ensures) ∙ c .before .before .match .keys5 in
+    (omega arith, (p .0, p .1, p .2, p .3, p .4, code))
+
+expression-node-len-requires : (t : ℕ) → expression-lts.Need-node-len-requires (expression-uses t) (expression-at t) expression.Post
+expression-node-len-requires t c κs =     walk-noded _ _ _ _ (c .before .before .before .pre .1 .3)
+
+expression-add-next : (t : ℕ) → expression-lts.Need-add-next (expression-uses t) (expression-at t) expression.Post
+expression-add-next t c =     omega (arith, standing-there _ _ _ _ (walk-standing _ _ _ _ (c .before .before .before .before .pre .1 .3)), c .node-len .ensures)
+
+expression-sub-expression : (t : ℕ) → expression-lts.Need-sub-expression (expression-uses t) (expression-at t) expression.Post
+expression-sub-expression t c =     omega (arith, walk-some _ _ _ _ (c .before .before .before .before .before .before .pre .1 .3))
+
+expression-expression-requires : (t : ℕ) → expression-lts.Need-expression-requires (expression-uses t) (expression-at t) expression.Post
+expression-expression-requires t c κs =
+    let s = c .before .before .before .before .before .before in
+    let p = s .pre .1 in
+    let is = s .pre .0 in
+    let some = walk-some _ _ _ _ (p .3) in
+    let code = sym (c .before .before .before .before .natural .ensures) ∙ c .before .before .before .match .keys6 in
+    let walk = restriction-walk _ _ _ _ (p .3) code in
+    (omega arith, (p .0, p .1, p .2, rw (c .before .before .node-len .ensures) walk, omega (arith, p .4)))
+
+expression-constant-requires : (t : ℕ) → expression-lts.Need-constant-requires (expression-uses t) (expression-at t) expression.Post
+expression-constant-requires t c κs =
+    let p = c .before .before .before .before .pre .1 in
+    let code = c .before .before .natural .ensures in
+    there _ _ _ _ (p .3) _ refl (λ e. omega (arith, c .if1 .taken))
+
+expression-image-requires : (t : ℕ) → expression-lts.Need-image-requires (expression-uses t) (expression-at t) expression.Post
+expression-image-requires t c κs =
+    let s = c .before .before .before .before .before .before in
+    let p = s .pre .1 in
+    let is = s .pre .0 in
+    let code = c .before .before .before .before .natural .ensures in
+    let no = c .before .before .before .match .rest in
+    let eight = image-code _ _ _ _ (p .3) (omega (arith, c .before .before .if1 .left)) (λ e. no .0 .0 .0 .0 .1 (code ∙ e)) (λ e. no .0 .0 .0 .1 (code ∙ e)) (λ e. no .0 .0 .1 (code ∙ e)) (λ e. no .0 .1 (code ∙ e)) (λ e. no .1 (code ∙ e)) in
+    (omega arith, (p .0, p .1, p .2, p .3, p .4, eight))
+
+expression-returns : (t : ℕ) → expression-lts.Need-returns (expression-uses t) (expression-at t) expression.Post
+expression-returns t c = c .variable .ensures
+
+expression-returns-2 : (t : ℕ) → expression-lts.Need-returns-2 (expression-uses t) (expression-at t) expression.Post
+expression-returns-2 t c = c .one .ensures
+
+expression-returns-3 : (t : ℕ) → expression-lts.Need-returns-3 (expression-uses t) (expression-at t) expression.Post
+expression-returns-3 t c = c .two .ensures
+
+expression-returns-4 : (t : ℕ) → expression-lts.Need-returns-4 (expression-uses t) (expression-at t) expression.Post
+expression-returns-4 t c = c .three .ensures
+
+expression-returns-5 : (t : ℕ) → expression-lts.Need-returns-5 (expression-uses t) (expression-at t) expression.Post
+expression-returns-5 t c = c .branch .ensures
+
+expression-returns-6 : (t : ℕ) → expression-lts.Need-returns-6 (expression-uses t) (expression-at t) expression.Post
+expression-returns-6 t c =
+    let code = sym (c .before .before .before .before .before .natural .ensures) ∙ c .before .before .before .before .match .keys6 in
+    restriction-way _ _ (c .before .before .before .before .before .before .before .args .z) _ code (c .before .before .before .node-len .ensures) _ _ _ (c .expression .ensures)
+
+expression-returns-7 : (t : ℕ) → expression-lts.Need-returns-7 (expression-uses t) (expression-at t) expression.Post
+expression-returns-7 t c =
+    let is = c .before .before .before .natural .ensures in
+    let no = c .before .before .match .rest in
+    let low = not-zero _ (no .0 .0 .0 .0 .0 .1) in
+    constant-way _ _ (c .before .before .before .before .before .args .z) (omega arith) (omega (arith, c .before .if1 .taken)) _ _ (c .constant .ensures)
+
+expression-returns-8 : (t : ℕ) → expression-lts.Need-returns-8 (expression-uses t) (expression-at t) expression.Post
+expression-returns-8 t c = c .image .ensures
+
+image-add-map-read : (t : ℕ) → image-lts.Need-add-map-read (image-uses t) (image-at t) image.Post
+image-add-map-read t c =
+    let s = c .before in
+    omega (arith, there _ _ _ _ (s .pre .1 .3) 8 (s .pre .1 .5) (λ e. omega arith))
+
+image-map-read-requires : (t : ℕ) → image-lts.Need-map-read-requires (image-uses t) (image-at t) image.Post
+image-map-read-requires t c κs = search needs
+
+image-apply-requires : (t : ℕ) → image-lts.Need-apply-requires (image-uses t) (image-at t) image.Post
+image-apply-requires t c κs =
+    let p = c .before .before .pre .1 in
+    let r = c .map-read .ensures in
+    (r .neat, image-fits _ _ _ _ (p .3) (p .5) _ r)
+
+image-node-len-requires : (t : ℕ) → image-lts.Need-node-len-requires (image-uses t) (image-at t) image.Post
+image-node-len-requires t c κs =     walk-noded _ _ _ _ (c .before .before .before .pre .1 .3)
+
+image-add-next : (t : ℕ) → image-lts.Need-add-next (image-uses t) (image-at t) image.Post
+image-add-next t c =     omega (arith, standing-there _ _ _ _ (walk-standing _ _ _ _ (c .before .before .before .before .pre .1 .3)), c .node-len .ensures)
+
+image-sub-expression : (t : ℕ) → image-lts.Need-sub-expression (image-uses t) (image-at t) image.Post
+image-sub-expression t c =     omega (arith, walk-some _ _ _ _ (c .before .before .before .before .before .before .pre .1 .3))
+
+image-expression-requires : (t : ℕ) → image-lts.Need-expression-requires (image-uses t) (image-at t) image.Post
+image-expression-requires t c κs =
+    let s = c .before .before .before .before .before .before in
+    let p = s .pre .1 in
+    let is = s .pre .0 in
+    let some = walk-some _ _ _ _ (p .3) in
+    let y = c .before .before .before .apply .ensures in
+    let walk = walk-image _ _ _ _ (p .3) (p .5) _ (c .before .before .before .before .map-read .ensures) _ (y .0) (y .1) in
+    (omega arith, (p .0, p .1, p .2, rw (c .before .before .node-len .ensures) walk, omega (arith, p .4)))
+
+image-returns : (t : ℕ) → image-lts.Need-returns (image-uses t) (image-at t) image.Post
+image-returns t c =
+    let p = c .before .before .before .before .before .before .before .pre .1 in
+    image-way _ _ (c .before .before .before .before .before .before .before .args .z) _ _ (c .before .before .before .before .apply .result) (p .5) (c .before .before .before .node-len .ensures) (c .before .before .before .before .before .map-read .ensures) (c .before .before .before .before .apply .ensures .0) _ _ _ (c .expression .ensures)
+
+one-add-expression : (t : ℕ) → one-lts.Need-add-expression (one-uses t) (one-at t) one.Post
+one-add-expression t c =
+    let s = c .before .before .before in
+    omega (arith, there _ _ _ _ (s .pre .1 .3) 3 (s .pre .1 .5) (λ e. omega arith))
+
+one-sub-expression : (t : ℕ) → one-lts.Need-sub-expression (one-uses t) (one-at t) one.Post
+one-sub-expression t c =     omega (arith, walk-some _ _ _ _ (c .before .before .before .pre .1 .3))
+
+one-expression-requires : (t : ℕ) → one-lts.Need-expression-requires (one-uses t) (one-at t) one.Post
+one-expression-requires t c κs =
+    let s = c .before .before .before in
+    let p = s .pre .1 in
+    let is = s .pre .0 in
+    let some = walk-some _ _ _ _ (p .3) in
+    (omega arith, (p .0, p .1, p .2, one-walk _ _ _ _ (p .3) (p .5), omega (arith, p .4)))
+
+one-enum-known-o : (t : ℕ) → one-lts.Need-enum-known-o (one-uses t) (one-at t) one.Post
+one-enum-known-o t c = search needs
+
+one-returns : (t : ℕ) → one-lts.Need-returns (one-uses t) (one-at t) one.Post
+one-returns t c =
+    let p = c .before .before .before .before .before .pre .1 in
+    one-back _ _ (c .before .before .before .before .before .args .z) (p .5) _ _ _ (c .before .expression .ensures) (no-value _ (c .match .keys2))
+
+one-add-natural : (t : ℕ) → one-lts.Need-add-natural (one-uses t) (one-at t) one.Post
+one-add-natural t c =
+    let s = c .before .before .before .before .before .before .before in
+    omega (arith, there _ _ _ _ (s .pre .1 .3) 3 (s .pre .1 .5) (λ e. omega arith))
+
+one-natural-requires : (t : ℕ) → one-lts.Need-natural-requires (one-uses t) (one-at t) one.Post
+one-natural-requires t c κs =
+    let s = c .before .before .before .before .before .before .before in
+    omega (arith, there _ _ _ _ (s .pre .1 .3) 3 (s .pre .1 .5) (λ e. omega arith))
+
+one-unary-requires : (t : ℕ) → one-lts.Need-unary-requires (one-uses t) (one-at t) one.Post
+one-unary-requires t c κs =
+    let p = c .before .before .before .before .before .before .before .before .pre .1 in
+    let o = c .before .before .o .given in
+    let x = small-value _ _ _ _ (one-walk _ _ _ _ (p .3) (p .5)) _ _ _ (c .before .before .before .before .expression .ensures) _ (o .1) in
+    (omega (arith, one-few _ _ _ _ (p .3) (p .5), c .natural .ensures), x)
+
+one-work-of-requires : (t : ℕ) → one-lts.Need-work-of-requires (one-uses t) (one-at t) one.Post
+one-work-of-requires t c κs = search needs
+
+one-returns-2 : (t : ℕ) → one-lts.Need-returns-2 (one-uses t) (one-at t) one.Post
+one-returns-2 t c =
+    let p = c .before .before .before .before .before .before .before .before .before .before .pre .1 in
+    let o = c .before .before .before .before .o .given in
+    let way = one-way _ _ (c .before .before .before .before .before .before .before .before .before .before .args .z) (p .5) _ _ _ (c .before .before .before .before .before .before .expression .ensures) _ _ _ (o .1) (c .before .before .natural .ensures) (c .before .unary .ensures) in
+    rw (c .work-of .ensures) way
+
+three-add-expression : (t : ℕ) → three-lts.Need-add-expression (three-uses t) (three-at t) three.Post
+three-add-expression t c =
+    let s = c .before .before .before in
+    omega (arith, code-there _ _ _ (walk-noded _ _ _ _ (s .pre .1 .3)))
+
+three-sub-expression : (t : ℕ) → three-lts.Need-sub-expression (three-uses t) (three-at t) three.Post
+three-sub-expression t c =     omega (arith, walk-some _ _ _ _ (c .before .before .before .pre .1 .3))
+
+three-expression-requires : (t : ℕ) → three-lts.Need-expression-requires (three-uses t) (three-at t) three.Post
+three-expression-requires t c κs =
+    let s = c .before .before .before in
+    let p = s .pre .1 in
+    let is = s .pre .0 in
+    let some = walk-some _ _ _ _ (p .3) in
+    (omega arith, (p .0, p .1, p .2, test-walk _ _ _ _ (p .3) (p .5), omega (arith, p .4)))
+
+three-enum-known-o : (t : ℕ) → three-lts.Need-enum-known-o (three-uses t) (three-at t) three.Post
+three-enum-known-o t c = search needs
+
+three-returns : (t : ℕ) → three-lts.Need-returns (three-uses t) (three-at t) three.Post
+three-returns t c =
+    let p = c .before .before .before .before .before .pre .1 in
+    test-back _ _ (c .before .before .before .before .before .args .z) (p .5) _ _ _ (c .before .expression .ensures) (no-value _ (c .match .keys2))
+
+three-sub-expression-2 : (t : ℕ) → three-lts.Need-sub-expression-2 (three-uses t) (three-at t) three.Post
+three-sub-expression-2 t c =     omega (arith, walk-some _ _ _ _ (c .before .before .before .before .before .before .before .before .before .pre .1 .3))
+
+three-expression-requires-2 : (t : ℕ) → three-lts.Need-expression-requires-2 (three-uses t) (three-at t) three.Post
+three-expression-requires-2 t c κs =
+    let s = c .before .before .before .before .before .before .before .before .before in
+    let p = s .pre .1 in
+    let is = s .pre .0 in
+    let some = walk-some _ _ _ _ (p .3) in
+    let a = c .before .before .before .before .before .expression .ensures in
+    let w = test-walk _ _ _ _ (p .3) (p .5) in
+    let tested = operand-ends _ _ _ _ w _ _ _ a _ (c .before .before .before .o .given .1) in
+    let ready = ready-after _ _ _ _ w _ _ _ a (p .2) in
+    (omega arith, (p .0, p .1, ready, first-walk _ _ _ _ (p .3) (p .5) _ tested, omega (arith, p .4)))
+
+three-enum-known-p : (t : ℕ) → three-lts.Need-enum-known-p (three-uses t) (three-at t) three.Post
+three-enum-known-p t c = search needs
+
+three-returns-2 : (t : ℕ) → three-lts.Need-returns-2 (three-uses t) (three-at t) three.Post
+three-returns-2 t c =
+    let p = c .before .before .before .before .before .before .before .before .before .before .before .pre .1 in
+    first-back _ _ (c .before .before .before .before .before .before .before .before .before .before .before .args .z) (p .5) _ _ _ (c .before .before .before .before .before .before .before .expression .ensures) _ (c .before .before .before .before .before .o .given .1) _ _ (c .before .expression2 .ensures) (no-value _ (c .match2 .keys2))
+
+three-sub-expression-3 : (t : ℕ) → three-lts.Need-sub-expression-3 (three-uses t) (three-at t) three.Post
+three-sub-expression-3 t c =     omega (arith, walk-some _ _ _ _ (c .before .before .before .before .before .before .before .before .before .before .before .before .before .before .before .pre .1 .3))
+
+three-expression-requires-3 : (t : ℕ) → three-lts.Need-expression-requires-3 (three-uses t) (three-at t) three.Post
+three-expression-requires-3 t c κs =
+    let s = c .before .before .before .before .before .before .before .before .before .before .before .before .before .before .before in
+    let p = s .pre .1 in
+    let is = s .pre .0 in
+    let some = walk-some _ _ _ _ (p .3) in
+    let a = c .before .before .before .before .before .before .before .before .before .before .before .expression .ensures in
+    let w = test-walk _ _ _ _ (p .3) (p .5) in
+    let tested = operand-ends _ _ _ _ w _ _ _ a _ (c .before .before .before .before .before .before .before .before .before .o .given .1) in
+    let b = c .before .before .before .before .before .expression2 .ensures in
+    let v = first-walk _ _ _ _ (p .3) (p .5) _ tested in
+    let first = operand-ends _ _ _ _ v _ _ _ b _ (c .before .before .before .p .given .1) in
+    let ready = ready-after _ _ _ _ v _ _ _ b (ready-after _ _ _ _ w _ _ _ a (p .2)) in
+    (omega arith, (p .0, p .1, ready, second-walk _ _ _ _ (p .3) (p .5) _ tested _ first, omega (arith, p .4)))
+
+three-enum-known-q : (t : ℕ) → three-lts.Need-enum-known-q (three-uses t) (three-at t) three.Post
+three-enum-known-q t c = search needs
+
+three-returns-3 : (t : ℕ) → three-lts.Need-returns-3 (three-uses t) (three-at t) three.Post
+three-returns-3 t c =
+    let p = c .before .before .before .before .before .before .before .before .before .before .before .before .before .before .before .before .before .pre .1 in
+    let a = c .before .before .before .before .before .before .before .before .before .before .before .before .before .expression .ensures in
+    let b = c .before .before .before .before .before .before .before .expression2 .ensures in
+    second-back _ _ (c .before .before .before .before .before .before .before .before .before .before .before .before .before .before .before .before .before .args .z) (p .5) _ _ _ a _ (c .before .before .before .before .before .before .before .before .before .before .before .o .given .1) _ _ b _ (c .before .before .before .before .before .p .given .1) _ _ (c .before .expression3 .ensures) (no-value _ (c .match3 .keys2))
+
+three-is-true-requires : (t : ℕ) → three-lts.Need-is-true-requires (three-uses t) (three-at t) three.Post
+three-is-true-requires t c κs = search needs
+
+three-choose-requires : (t : ℕ) → three-lts.Need-choose-requires (three-uses t) (three-at t) three.Post
+three-choose-requires t c κs =
+    let p = c .before .before .before .before .before .before .before .before .before .before .before .before .before .before .before .before .before .before .before .before .pre .1 in
+    let a = c .before .before .before .before .before .before .before .before .before .before .before .before .before .before .before .before .expression .ensures in
+    let w = test-walk _ _ _ _ (p .3) (p .5) in
+    let tested = operand-ends _ _ _ _ w _ _ _ a _ (c .before .before .before .before .before .before .before .before .before .before .before .before .before .before .o .given .1) in
+    let b = c .before .before .before .before .before .before .before .before .before .before .expression2 .ensures in
+    let v = first-walk _ _ _ _ (p .3) (p .5) _ tested in
+    let first = operand-ends _ _ _ _ v _ _ _ b _ (c .before .before .before .before .before .before .before .before .p .given .1) in
+    let u = second-walk _ _ _ _ (p .3) (p .5) _ tested _ first in
+    (small-value _ _ _ _ v _ _ _ b _ (c .before .before .before .before .before .before .before .before .p .given .1), small-value _ _ _ _ u _ _ _ (c .before .before .before .before .expression3 .ensures) _ (c .before .before .q .given .1))
+
+three-work-of-requires : (t : ℕ) → three-lts.Need-work-of-requires (three-uses t) (three-at t) three.Post
+three-work-of-requires t c κs = search needs
+
+three-returns-4 : (t : ℕ) → three-lts.Need-returns-4 (three-uses t) (three-at t) three.Post
+three-returns-4 t c =
+    let p = c .before .before .before .before .before .before .before .before .before .before .before .before .before .before .before .before .before .before .before .before .before .before .pre .1 in
+    let a = c .before .before .before .before .before .before .before .before .before .before .before .before .before .before .before .before .before .before .expression .ensures in
+    let b = c .before .before .before .before .before .before .before .before .before .before .before .before .expression2 .ensures in
+    let d = c .before .before .before .before .before .before .expression3 .ensures in
+    let says = rw (c .before .before .is-true .ensures) at (c .before .choose .ensures) in
+    let way = three-way _ _ (c .before .before .before .before .before .before .before .before .before .before .before .before .before .before .before .before .before .before .before .before .before .before .args .z) (p .5) _ _ _ a _ (c .before .before .before .before .before .before .before .before .before .before .before .before .before .before .before .before .o .given .1) _ _ b _ (c .before .before .before .before .before .before .before .before .before .before .p .given .1) _ _ d _ _ (c .before .before .before .before .q .given .1) says in
+    rw (c .work-of .ensures) way
+
+two-add-expression : (t : ℕ) → two-lts.Need-add-expression (two-uses t) (two-at t) two.Post
+two-add-expression t c =
+    let s = c .before .before .before in
+    omega (arith, there _ _ _ _ (s .pre .1 .3) 4 (s .pre .1 .5) (λ e. omega arith))
+
+two-sub-expression : (t : ℕ) → two-lts.Need-sub-expression (two-uses t) (two-at t) two.Post
+two-sub-expression t c =     omega (arith, walk-some _ _ _ _ (c .before .before .before .pre .1 .3))
+
+two-expression-requires : (t : ℕ) → two-lts.Need-expression-requires (two-uses t) (two-at t) two.Post
+two-expression-requires t c κs =
+    let s = c .before .before .before in
+    let p = s .pre .1 in
+    let is = s .pre .0 in
+    let some = walk-some _ _ _ _ (p .3) in
+    (omega arith, (p .0, p .1, p .2, left-walk _ _ _ _ (p .3) (p .5), omega (arith, p .4)))
+
+two-enum-known-o : (t : ℕ) → two-lts.Need-enum-known-o (two-uses t) (two-at t) two.Post
+two-enum-known-o t c = search needs
+
+two-returns : (t : ℕ) → two-lts.Need-returns (two-uses t) (two-at t) two.Post
+two-returns t c =
+    let p = c .before .before .before .before .before .pre .1 in
+    left-back _ _ (c .before .before .before .before .before .args .z) (p .5) _ _ _ (c .before .expression .ensures) (no-value _ (c .match .keys2))
+
+two-sub-expression-2 : (t : ℕ) → two-lts.Need-sub-expression-2 (two-uses t) (two-at t) two.Post
+two-sub-expression-2 t c =     omega (arith, walk-some _ _ _ _ (c .before .before .before .before .before .before .before .before .before .pre .1 .3))
+
+two-expression-requires-2 : (t : ℕ) → two-lts.Need-expression-requires-2 (two-uses t) (two-at t) two.Post
+two-expression-requires-2 t c κs =
+    let s = c .before .before .before .before .before .before .before .before .before in
+    let p = s .pre .1 in
+    let is = s .pre .0 in
+    let some = walk-some _ _ _ _ (p .3) in
+    let a = c .before .before .before .before .before .expression .ensures in
+    let w = left-walk _ _ _ _ (p .3) (p .5) in
+    let ready = ready-after _ _ _ _ w _ _ _ a (p .2) in
+    let ends = operand-ends _ _ _ _ w _ _ _ a _ (c .before .before .before .o .given .1) in
+    (omega arith, (p .0, p .1, ready, right-walk _ _ _ _ (p .3) (p .5) _ ends, omega (arith, p .4)))
+
+two-enum-known-p : (t : ℕ) → two-lts.Need-enum-known-p (two-uses t) (two-at t) two.Post
+two-enum-known-p t c = search needs
+
+two-returns-2 : (t : ℕ) → two-lts.Need-returns-2 (two-uses t) (two-at t) two.Post
+two-returns-2 t c =
+    let p = c .before .before .before .before .before .before .before .before .before .before .before .pre .1 in
+    right-back _ _ (c .before .before .before .before .before .before .before .before .before .before .before .args .z) (p .5) _ _ _ (c .before .before .before .before .before .before .before .expression .ensures) _ (c .before .before .before .before .before .o .given .1) _ _ (c .before .expression2 .ensures) (no-value _ (c .match2 .keys2))
+
+two-add-natural : (t : ℕ) → two-lts.Need-add-natural (two-uses t) (two-at t) two.Post
+two-add-natural t c =
+    let s = c .before .before .before .before .before .before .before .before .before .before .before .before .before in
+    omega (arith, there _ _ _ _ (s .pre .1 .3) 4 (s .pre .1 .5) (λ e. omega arith))
+
+two-natural-requires : (t : ℕ) → two-lts.Need-natural-requires (two-uses t) (two-at t) two.Post
+two-natural-requires t c κs =
+    let s = c .before .before .before .before .before .before .before .before .before .before .before .before .before in
+    omega (arith, there _ _ _ _ (s .pre .1 .3) 4 (s .pre .1 .5) (λ e. omega arith))
+
+two-binary-requires : (t : ℕ) → two-lts.Need-binary-requires (two-uses t) (two-at t) two.Post
+two-binary-requires t c κs =
+    let p = c .before .before .before .before .before .before .before .before .before .before .before .before .before .before .pre .1 in
+    let w = left-walk _ _ _ _ (p .3) (p .5) in
+    let a = c .before .before .before .before .before .before .before .before .before .before .expression .ensures in
+    let o = c .before .before .before .before .before .before .before .before .o .given in
+    let v = right-walk _ _ _ _ (p .3) (p .5) _ (operand-ends _ _ _ _ w _ _ _ a _ (o .1)) in
+    let b = c .before .before .before .before .expression2 .ensures in
+    (omega (arith, two-few _ _ _ _ (p .3) (p .5), c .natural .ensures), small-value _ _ _ _ w _ _ _ a _ (o .1), small-value _ _ _ _ v _ _ _ b _ (c .before .before .p .given .1))
+
+two-work-of-requires : (t : ℕ) → two-lts.Need-work-of-requires (two-uses t) (two-at t) two.Post
+two-work-of-requires t c κs = search needs
+
+two-returns-3 : (t : ℕ) → two-lts.Need-returns-3 (two-uses t) (two-at t) two.Post
+two-returns-3 t c =
+    let p = c .before .before .before .before .before .before .before .before .before .before .before .before .before .before .before .before .pre .1 in
+    let a = c .before .before .before .before .before .before .before .before .before .before .before .before .expression .ensures in
+    let b = c .before .before .before .before .before .before .expression2 .ensures in
+    let way = two-way _ _ (c .before .before .before .before .before .before .before .before .before .before .before .before .before .before .before .before .args .z) (p .5) _ _ _ a _ (c .before .before .before .before .before .before .before .before .before .before .o .given .1) _ _ b _ _ _ (c .before .before .before .before .p .given .1) (c .before .before .natural .ensures) (c .before .binary .ensures) in
+    rw (c .work-of .ensures) way
+
+-- a sheet that is formed has a variable
+variable-some : (t : ℕ) (s : variable-lts.Start (variable-uses t) (variable-at t) variable.Post) → 0 < varsOf (now (s .args .s))
+variable-some t s = some-variable _ _ (s .pre .1 .0)
+
+-- the number in its field is a variable's
+variable-number : (t : ℕ) (c : variable-lts.After-natural (variable-uses t) (variable-at t) variable.Post) → c .natural .result < varsOf (now (c .before .before .args .s))
+variable-number t c =
+    let p = c .before .before .pre .1 in
+    variable-known _ _ (p .0) _ _ _ (p .3) (p .5) _ (c .natural .ensures) (variable-some t (c .before .before))
+
+variable-laid : (t : ℕ) (c : variable-lts.After-natural (variable-uses t) (variable-at t) variable.Post) →
+    VariableLaid (now (c .before .before .args .s)) (now (c .before .before .args .tab)) (c .natural .result)
+variable-laid t c = laid-variable _ _ (c .before .before .pre .1 .0 .placed) _ (variable-number t c)
+
+
+variable-add-natural : (t : ℕ) → variable-lts.Need-add-natural (variable-uses t) (variable-at t) variable.Post
+variable-add-natural t c =
+    let s = c .before in
+    let p = s .pre .1 in
+    omega (arith, there _ _ _ _ (p .3) 0 (p .5) (λ e. omega arith))
+
+variable-natural-requires : (t : ℕ) → variable-lts.Need-natural-requires (variable-uses t) (variable-at t) variable.Post
+variable-natural-requires t c κs =
+    let s = c .before in
+    let p = s .pre .1 in
+    omega (arith, there _ _ _ _ (p .3) 0 (p .5) (λ e. omega arith))
+
+variable-add-next : (t : ℕ) → variable-lts.Need-add-next (variable-uses t) (variable-at t) variable.Post
+variable-add-next t c =
+    let s = c .before .before in
+    let p = s .pre .1 in
+    omega (arith, there _ _ _ _ (p .3) 0 (p .5) (λ e. omega arith))
+
+variable-record-place-requires : (t : ℕ) → variable-lts.Need-record-place-requires (variable-uses t) (variable-at t) variable.Post
+variable-record-place-requires t c κs = variable-laid t c .low
+
+variable-index-requires : (t : ℕ) → variable-lts.Need-index-requires (variable-uses t) (variable-at t) variable.Post
+variable-index-requires t c κs =
+    let l = variable-laid t (c .before) in
+    rw (c .record-place .ensures) (l .recorded, rw (l .box-is) (omega (arith, l .few)))
+
+variable-enum-known-found : (t : ℕ) → variable-lts.Need-enum-known-found (variable-uses t) (variable-at t) variable.Post
+variable-enum-known-found t c = search needs
+
+variable-enum-told : (t : ℕ) → variable-lts.Need-enum-told (variable-uses t) (variable-at t) variable.Post
+variable-enum-told t c = search needs
+
+variable-returns : (t : ℕ) → variable-lts.Need-returns (variable-uses t) (variable-at t) variable.Post
+variable-returns t c =
+    let n = c .before .before .before .before in
+    let p = n .before .before .pre .1 in
+    let known = variable-number t n in
+    let number = n .natural .ensures in
+    let off = rw (c .before .before .before .record-place .ensures) at (sym (c .enum-told .given .1) ∙ c .before .before .index .ensures) in
+    off-way _ _ (p .0) _ _ _ (p .3) (p .5) _ number known _ off
+
+variable-first-element-requires : (t : ℕ) → variable-lts.Need-first-element-requires (variable-uses t) (variable-at t) variable.Post
+variable-first-element-requires t c κs = omega (arith, variable-laid t (c .before .before .before .before .before) .low)
+
+variable-add-e : (t : ℕ) → variable-lts.Need-add-e (variable-uses t) (variable-at t) variable.Post
+variable-add-e t c =
+    let n = c .before .before .before .before .before .before in
+    let p = n .before .before .pre .1 in
+    let known = variable-number t n in
+    let number = n .natural .ensures in
+    let found = rw (c .before .before .before .before .before .record-place .ensures) at (sym (c .before .before .found .given .1) ∙ c .before .before .before .before .index .ensures) in
+    omega (arith, number-few _ _ (p .0) _ _ _ (p .3) (p .5) _ number known _ found, c .first-element .ensures)
+
+variable-element-requires : (t : ℕ) → variable-lts.Need-element-requires (variable-uses t) (variable-at t) variable.Post
+variable-element-requires t c κs =
+    let n = c .before .before .before .before .before .before .before .before in
+    let p = n .before .before .pre .1 in
+    let known = variable-number t n in
+    let number = n .natural .ensures in
+    let found = rw (c .before .before .before .before .before .before .before .record-place .ensures) at (sym (c .before .before .before .before .found .given .1) ∙ c .before .before .before .before .before .before .index .ensures) in
+    let is = n .before .before .pre .0 in
+    let here = ap (λ x. x + c .before .before .before .before .found .given .0 .0) (c .before .before .first-element .ensures) in
+    let element = named-element _ _ (p .0) _ _ _ (p .3) (p .5) _ number known _ found _ here in
+    (omega arith, (p .0, p .1, p .2, element))
+
+variable-returns-2 : (t : ℕ) → variable-lts.Need-returns-2 (variable-uses t) (variable-at t) variable.Post
+variable-returns-2 t c =
+    let n = c .before .before .before .before .before .before .before .before .before in
+    let p = n .before .before .pre .1 in
+    let known = variable-number t n in
+    let number = n .natural .ensures in
+    let found = rw (c .before .before .before .before .before .before .before .before .record-place .ensures) at (sym (c .before .before .before .before .before .found .given .1) ∙ c .before .before .before .before .before .before .before .index .ensures) in
+    let here = ap (λ x. x + c .before .before .before .before .before .found .given .0 .0) (c .before .before .before .first-element .ensures) in
+    variable-way _ _ (p .0) _ _ _ (p .3) (p .5) _ number known _ found _ here _ _ _ (c .element .ensures)
+
+pub +branch+element+expression+image+one+three+two+variable-spec : {M : Type 1} → statement M
++branch+element+expression+image+one+three+two+variable-spec =
+    close
+    μ-branch
+    μ-element
+    μ-expression
+    μ-image
+    μ-one
+    μ-three
+    μ-two
+    μ-variable
+    (λ t. branch-lts.spec (branch-uses t) (branch-at t)
+    branch.Post
+    (branch-holding-requires t)
+    (branch-enum-known-taken t)
+    (branch-enum-told t)
+    (branch-returns t)
+    (branch-sub-expression t)
+    (branch-expression-requires t)
+    (branch-returns-2 t))
+    (λ t. element-lts.spec (element-uses t) (element-at t)
+    element.Post
+    (element-element-copy-out-code t)
+    (element-mul-of32 t)
+    (element-element-copy-out-of32 t)
+    (element-of32-requires t)
+    (element-known-requires t)
+    (element-returns t)
+    (element-returns-2 t)
+    (element-of-requires t)
+    (element-note-requires t)
+    (element-body-place-requires t)
+    (element-expression-requires t)
+    (element-code-of-requires t)
+    (element-value-of-requires t)
+    (element-note-requires-2 t)
+    (element-returns-3 t))
+    (λ t. expression-lts.spec (expression-uses t) (expression-at t)
+    expression.Post
+    (expression-natural-requires t)
+    (expression-variable-requires t)
+    (expression-one-requires t)
+    (expression-two-requires t)
+    (expression-three-requires t)
+    (expression-branch-requires t)
+    (expression-node-len-requires t)
+    (expression-add-next t)
+    (expression-sub-expression t)
+    (expression-expression-requires t)
+    (expression-constant-requires t)
+    (expression-image-requires t)
+    (expression-returns t)
+    (expression-returns-2 t)
+    (expression-returns-3 t)
+    (expression-returns-4 t)
+    (expression-returns-5 t)
+    (expression-returns-6 t)
+    (expression-returns-7 t)
+    (expression-returns-8 t))
+    (λ t. image-lts.spec (image-uses t) (image-at t)
+    image.Post
+    (image-add-map-read t)
+    (image-map-read-requires t)
+    (image-apply-requires t)
+    (image-node-len-requires t)
+    (image-add-next t)
+    (image-sub-expression t)
+    (image-expression-requires t)
+    (image-returns t))
+    (λ t. one-lts.spec (one-uses t) (one-at t)
+    one.Post
+    (one-add-expression t)
+    (one-sub-expression t)
+    (one-expression-requires t)
+    (one-enum-known-o t)
+    (one-returns t)
+    (one-add-natural t)
+    (one-natural-requires t)
+    (one-unary-requires t)
+    (one-work-of-requires t)
+    (one-returns-2 t))
+    (λ t. three-lts.spec (three-uses t) (three-at t)
+    three.Post
+    (three-add-expression t)
+    (three-sub-expression t)
+    (three-expression-requires t)
+    (three-enum-known-o t)
+    (three-returns t)
+    (three-sub-expression-2 t)
+    (three-expression-requires-2 t)
+    (three-enum-known-p t)
+    (three-returns-2 t)
+    (three-sub-expression-3 t)
+    (three-expression-requires-3 t)
+    (three-enum-known-q t)
+    (three-returns-3 t)
+    (three-is-true-requires t)
+    (three-choose-requires t)
+    (three-work-of-requires t)
+    (three-returns-4 t))
+    (λ t. two-lts.spec (two-uses t) (two-at t)
+    two.Post
+    (two-add-expression t)
+    (two-sub-expression t)
+    (two-expression-requires t)
+    (two-enum-known-o t)
+    (two-returns t)
+    (two-sub-expression-2 t)
+    (two-expression-requires-2 t)
+    (two-enum-known-p t)
+    (two-returns-2 t)
+    (two-add-natural t)
+    (two-natural-requires t)
+    (two-binary-requires t)
+    (two-work-of-requires t)
+    (two-returns-3 t))
+    λ t. variable-lts.spec (variable-uses t) (variable-at t)
+    variable.Post
+    (variable-add-natural t)
+    (variable-natural-requires t)
+    (variable-add-next t)
+    (variable-record-place-requires t)
+    (variable-index-requires t)
+    (variable-enum-known-found t)
+    (variable-enum-told t)
+    (variable-returns t)
+    (variable-first-element-requires t)
+    (variable-add-e t)
+    (variable-element-requires t)
+    (variable-returns-2 t)

@@ -1,0 +1,276 @@
+// The element evaluator and the expression evaluator, which call each other: the remaining depth falls, and then the remaining nodes.
+// Each operand's outcome is taken apart as a value, or else handed straight back. Assumes nothing.
+use super::Work;
+use super::Worked;
+use super::memo::code_of;
+use super::memo::known;
+use super::memo::note;
+use super::memo::value_of;
+use super::memo::work_of;
+use alpha::Int;
+use domain::Branch;
+use domain::holding::holding;
+use points::Found;
+use sheet::table::body_place;
+use sheet::table::first_element;
+use sheet::table::record_place;
+use tree::node::natural;
+use tree::node::node_len;
+ghost use mathlib.Core.Path.{_≡_};
+ghost use Prim.Native.Nat.{ℕ, _+_, _≤_};
+ghost use lib.ListN.{length};
+ghost use lib.IntN.{natAbs};
+ghost use Rattle.alpha.specs.Field.{field};
+ghost use Rattle.laws.specs.Sheets.{sheetOf};
+ghost use Rattle.tree.specs.Formed.{Formed};
+ghost use Rattle.domain.specs.Inside.{Inside};
+ghost use Rattle.domain.specs.Walk.{Walk};
+ghost use Rattle.evaluate.specs.Working.{memoOf, outcomes, Ready, Done, ElementIs, ConstantRead, EvaluatesAt};
+ghost use Rattle.evaluate.specs.Memo as Memo;
+
+// Element e, the one of variable v at z: what the memo has, or else what the body gives. Where no depth remains, it has to be worked
+// out first.
+pub fn element(
+    s: &[u8],
+    tab: &[usize; 102],
+    inside: &[u8; 4096],
+    codes: &mut [u8; 4096],
+    values: &mut [i32; 4096],
+    v: usize,
+    e: usize,
+    z: [Int; 4],
+    depth: usize,
+) -> Work
+    requires { ⌜ Formed (now s) (now tab) × Inside (sheetOf (now s)) (now inside) × Ready (sheetOf (now s)) (memoOf (now codes) (now values)) × ElementIs (now s) v e z ⌝ }
+    ensures { λ r. ⌜ Done (sheetOf (now (s .entry))) (memoOf (now (codes .entry)) (now (values .entry))) (memoOf (now (codes .exit)) (now (values .exit))) (λ ins. Memo.element (outcomes (sheetOf (now (s .entry))) ins) e) r ⌝ }
+{
+    let code = codes[e];
+    if code < 6 {
+        return known(code, integer::of32(values[e]));
+    }
+    if depth < 1 {
+        return Work::Deep(e);
+    }
+    note(codes, values, e, 5, integer::of(0));
+    let at = body_place(tab, v);
+    let r = expression(s, tab, inside, codes, values, at, 2048, z, depth - 1);
+    let out = r.out;
+    note(codes, values, e, code_of(out), value_of(out));
+    out
+}
+
+// The tree at `at`, of at most `left` nodes, at z.
+pub fn expression(
+    s: &[u8],
+    tab: &[usize; 102],
+    inside: &[u8; 4096],
+    codes: &mut [u8; 4096],
+    values: &mut [i32; 4096],
+    at: usize,
+    left: usize,
+    z: [Int; 4],
+    depth: usize,
+) -> Worked
+    requires { ⌜ Formed (now s) (now tab) × Inside (sheetOf (now s)) (now inside) × Ready (sheetOf (now s)) (memoOf (now codes) (now values)) × Walk (now s) at left z × (left ≤ 2048) ⌝ }
+    ensures { λ r. ⌜ EvaluatesAt (now (s .entry)) at z (memoOf (now (codes .entry)) (now (values .entry))) (memoOf (now (codes .exit)) (now (values .exit))) r ⌝ }
+{
+    let code = natural(s, at);
+    match code {
+        0 => variable(s, tab, inside, codes, values, at, left, z, depth),
+        1 | 2 => constant(s, at),
+        3 => one(s, tab, inside, codes, values, at, left, z, depth),
+        4 => two(s, tab, inside, codes, values, at, left, z, depth),
+        5 => three(s, tab, inside, codes, values, at, left, z, depth),
+        6 => branch(s, tab, inside, codes, values, at, left, z, depth),
+        7 => {
+            let next = at + node_len(s, at);
+            expression(s, tab, inside, codes, values, next, left - 1, z, depth)
+        }
+        _ => image(s, tab, inside, codes, values, at, left, z, depth),
+    }
+}
+
+// A constant.
+fn constant(s: &[u8], at: usize) -> Worked
+    requires { ⌜ at + 16 ≤ length (now s) ⌝ }
+    ensures { λ r. ⌜ ConstantRead (now (s .entry)) at r ⌝ }
+{
+    Worked {
+        out: Work::Value(integer::number_at(s, at + 8)),
+        next: at + 16,
+    }
+}
+
+// A variable at z: off its box it is outside.
+fn variable(
+    s: &[u8],
+    tab: &[usize; 102],
+    inside: &[u8; 4096],
+    codes: &mut [u8; 4096],
+    values: &mut [i32; 4096],
+    at: usize,
+    left: usize,
+    z: [Int; 4],
+    depth: usize,
+) -> Worked
+    requires { ⌜ Formed (now s) (now tab) × Inside (sheetOf (now s)) (now inside) × Ready (sheetOf (now s)) (memoOf (now codes) (now values)) × Walk (now s) at left z × (left ≤ 2048) × (natAbs (field (now s) at) ≡ 0) ⌝ }
+    ensures { λ r. ⌜ EvaluatesAt (now (s .entry)) at z (memoOf (now (codes .entry)) (now (values .entry))) (memoOf (now (codes .exit)) (now (values .exit))) r ⌝ }
+{
+    let v = natural(s, at + 8);
+    let next = at + 16;
+    let found = points::index(s, record_place(tab, v), z);
+    let Found::At(i) = found else {
+        return Worked {
+            out: Work::Outside,
+            next,
+        };
+    };
+    let e = first_element(tab, v) + i;
+    let out = element(s, tab, inside, codes, values, v, e, z, depth);
+    Worked { out, next }
+}
+
+// A unary operator.
+fn one(
+    s: &[u8],
+    tab: &[usize; 102],
+    inside: &[u8; 4096],
+    codes: &mut [u8; 4096],
+    values: &mut [i32; 4096],
+    at: usize,
+    left: usize,
+    z: [Int; 4],
+    depth: usize,
+) -> Worked
+    requires { ⌜ Formed (now s) (now tab) × Inside (sheetOf (now s)) (now inside) × Ready (sheetOf (now s)) (memoOf (now codes) (now values)) × Walk (now s) at left z × (left ≤ 2048) × (natAbs (field (now s) at) ≡ 3) ⌝ }
+    ensures { λ r. ⌜ EvaluatesAt (now (s .entry)) at z (memoOf (now (codes .entry)) (now (values .entry))) (memoOf (now (codes .exit)) (now (values .exit))) r ⌝ }
+{
+    let a = expression(s, tab, inside, codes, values, at + 16, left - 1, z, depth);
+    let o = a.out;
+    let Work::Value(x) = o else {
+        return a;
+    };
+    Worked {
+        out: work_of(integer::unary(natural(s, at + 8), x)),
+        next: a.next,
+    }
+}
+
+// A binary operator: the left operand, then the right one.
+fn two(
+    s: &[u8],
+    tab: &[usize; 102],
+    inside: &[u8; 4096],
+    codes: &mut [u8; 4096],
+    values: &mut [i32; 4096],
+    at: usize,
+    left: usize,
+    z: [Int; 4],
+    depth: usize,
+) -> Worked
+    requires { ⌜ Formed (now s) (now tab) × Inside (sheetOf (now s)) (now inside) × Ready (sheetOf (now s)) (memoOf (now codes) (now values)) × Walk (now s) at left z × (left ≤ 2048) × (natAbs (field (now s) at) ≡ 4) ⌝ }
+    ensures { λ r. ⌜ EvaluatesAt (now (s .entry)) at z (memoOf (now (codes .entry)) (now (values .entry))) (memoOf (now (codes .exit)) (now (values .exit))) r ⌝ }
+{
+    let a = expression(s, tab, inside, codes, values, at + 16, left - 1, z, depth);
+    let o = a.out;
+    let Work::Value(x) = o else {
+        return a;
+    };
+    let middle = a.next;
+    let b = expression(s, tab, inside, codes, values, middle, left - 1, z, depth);
+    let p = b.out;
+    let Work::Value(y) = p else {
+        return b;
+    };
+    Worked {
+        out: work_of(integer::binary(natural(s, at + 8), x, y)),
+        next: b.next,
+    }
+}
+
+// An if: all three parts.
+fn three(
+    s: &[u8],
+    tab: &[usize; 102],
+    inside: &[u8; 4096],
+    codes: &mut [u8; 4096],
+    values: &mut [i32; 4096],
+    at: usize,
+    left: usize,
+    z: [Int; 4],
+    depth: usize,
+) -> Worked
+    requires { ⌜ Formed (now s) (now tab) × Inside (sheetOf (now s)) (now inside) × Ready (sheetOf (now s)) (memoOf (now codes) (now values)) × Walk (now s) at left z × (left ≤ 2048) × (natAbs (field (now s) at) ≡ 5) ⌝ }
+    ensures { λ r. ⌜ EvaluatesAt (now (s .entry)) at z (memoOf (now (codes .entry)) (now (values .entry))) (memoOf (now (codes .exit)) (now (values .exit))) r ⌝ }
+{
+    let a = expression(s, tab, inside, codes, values, at + 8, left - 1, z, depth);
+    let o = a.out;
+    let Work::Value(t) = o else {
+        return a;
+    };
+    let middle = a.next;
+    let b = expression(s, tab, inside, codes, values, middle, left - 1, z, depth);
+    let p = b.out;
+    let Work::Value(x) = p else {
+        return b;
+    };
+    let last = b.next;
+    let c = expression(s, tab, inside, codes, values, last, left - 1, z, depth);
+    let q = c.out;
+    let Work::Value(y) = q else {
+        return c;
+    };
+    Worked {
+        out: work_of(integer::choose(integer::is_true(t), x, y)),
+        next: c.next,
+    }
+}
+
+// A case: its holding branch.
+fn branch(
+    s: &[u8],
+    tab: &[usize; 102],
+    inside: &[u8; 4096],
+    codes: &mut [u8; 4096],
+    values: &mut [i32; 4096],
+    at: usize,
+    left: usize,
+    z: [Int; 4],
+    depth: usize,
+) -> Worked
+    requires { ⌜ Formed (now s) (now tab) × Inside (sheetOf (now s)) (now inside) × Ready (sheetOf (now s)) (memoOf (now codes) (now values)) × Walk (now s) at left z × (left ≤ 2048) × (natAbs (field (now s) at) ≡ 6) ⌝ }
+    ensures { λ r. ⌜ EvaluatesAt (now (s .entry)) at z (memoOf (now (codes .entry)) (now (values .entry))) (memoOf (now (codes .exit)) (now (values .exit))) r ⌝ }
+{
+    let choice = holding(s, tab, inside, at, left, z);
+    let next = choice.next;
+    let taken = choice.branch;
+    let Branch::At(p) = taken else {
+        return Worked {
+            out: Work::Outside,
+            next,
+        };
+    };
+    let r = expression(s, tab, inside, codes, values, p, left - 1, z, depth);
+    let out = r.out;
+    Worked { out, next }
+}
+
+// A dependence: its child at the image.
+fn image(
+    s: &[u8],
+    tab: &[usize; 102],
+    inside: &[u8; 4096],
+    codes: &mut [u8; 4096],
+    values: &mut [i32; 4096],
+    at: usize,
+    left: usize,
+    z: [Int; 4],
+    depth: usize,
+) -> Worked
+    requires { ⌜ Formed (now s) (now tab) × Inside (sheetOf (now s)) (now inside) × Ready (sheetOf (now s)) (memoOf (now codes) (now values)) × Walk (now s) at left z × (left ≤ 2048) × (natAbs (field (now s) at) ≡ 8) ⌝ }
+    ensures { λ r. ⌜ EvaluatesAt (now (s .entry)) at z (memoOf (now (codes .entry)) (now (values .entry))) (memoOf (now (codes .exit)) (now (values .exit))) r ⌝ }
+{
+    let y = affine::apply(affine::map_read(s, at + 8), z);
+    let next = at + node_len(s, at);
+    expression(s, tab, inside, codes, values, next, left - 1, y, depth)
+}
