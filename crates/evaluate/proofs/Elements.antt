@@ -44,6 +44,7 @@ use Rattle.evaluate.specs.declared.Work.the-variants.{Outside, Value, Di
 use Rattle.evaluate.specs.declared.Worked.{Worked}
 use Rattle.evaluate.specs.Memo.{busy, unknown, Thing, element, Memo, codeAt, valueAt, decoded, count, Right, Waits, Says, Said, Kept, Wanted, Small, noted, codeOf, valueOf}
 use Rattle.evaluate.specs.Working.{entryOf, elementAt, outcomes, expression, Bodied, Ready, Done, ElementIs, Evaluated, EvaluatesAt}
+use Rattle.evaluate.specs.Settling.{bodyOf}
 use Rattle.evaluate.proofs.Stores.{decide, code-same, code-other, kept-same, kept-stored, still-busy, in-last, wanted-stored, sized-noted, sized-kept, busy-loops, right-mark, waits-mark, said-stored}
 use Rattle.evaluate.proofs.Doing.{element-grows, ready-sized, done-same, done-outside}
 
@@ -94,6 +95,20 @@ module _ (bs tab : List ℕ) (F : Formed bs tab) (v e : ℕ) (z : List Int) (I :
           rest = subst (λ n. Padded n z) (sym (laid .dims-are)) (I .rest);
         })
         place is
+
+    -- what was worked out at its place
+    pub body-evaluated : (memo last : Memo) (place : ℕ) → place ≡ getD tab (69 + v) 0 → (r : Worked) → EvaluatesAt bs place z memo last r →
+        Done sheet memo last (λ ins. expression sheet ins (variable sheet v .body) point) (r .out)
+    body-evaluated memo last place place-is r E =
+        let b = F .placed .body v (I .known) no-input in
+        let at : At (variable sheet v .body) (varsOf bs) bs place (variable sheet v .end) = rw (place-is ∙ F .placed .starts v (I .known)) (b .at) in
+        let wide : length box ≡ dimension (headsOf bs) v = ap (λ x. length (x .box)) (laid .head-is) in
+        E (variable sheet v .body) (variable sheet v .end) (dimension (headsOf bs) v) at (rw wide at (b .fitting)) .done
+
+    pub body-by-number : (memo last : Memo) (r : Work) → Done sheet memo last (λ ins. expression sheet ins (variable sheet v .body) point) r → Done sheet memo last (bodyOf sheet e) r
+    body-by-number memo last r D =
+        done-same sheet memo last (bodyOf sheet e) (λ ins. expression sheet ins (variable sheet v .body) point) r
+        (λ ins k. ap (λ x. expression sheet ins (variable sheet (x .who) .body) (x .at) k) element-is) D
 
   -- ---- the ways
 
@@ -169,11 +184,7 @@ module _ (bs tab : List ℕ) (F : Formed bs tab) (v e : ℕ) (z : List Int) (I :
       -- that is worked out by its body
       module _ (place : ℕ) (place-is : place ≡ getD tab (69 + v) 0) (last : Memo) (r : Worked) (E : EvaluatesAt bs place z marked last r) where
         pub body-done : Done sheet marked last (λ ins. expression sheet ins (variable sheet v .body) point) (r .out)
-        body-done =
-            let b = F .placed .body v (I .known) (no-input open-body) in
-            let at : At (variable sheet v .body) (varsOf bs) bs place (variable sheet v .end) = rw (place-is ∙ F .placed .starts v (I .known)) (b .at) in
-            let wide : length box ≡ dimension (headsOf bs) v = ap (λ x. length (x .box)) (laid .head-is) in
-            E (variable sheet v .body) (variable sheet v .end) (dimension (headsOf bs) v) at (rw wide at (b .fitting)) .done
+        body-done = body-evaluated open-body marked last place place-is r E
 
         pub worked-way : Done sheet memo (noted last e (codeOf (r .out)) (valueOf (r .out))) (λ ins. element (outcomes sheet ins) e) (r .out)
         worked-way = record {

@@ -42,6 +42,9 @@ value-is r x e h = (sym (ap valueOf e), rw e at h)
 pub no-value : (r : Work) → OneOf (0 ∷ 2 ∷ 3 ∷ 4 ∷ 5 ∷ []) (tagOf the-type r) → (x : Int) → r ≡ Value x → ⊥
 no-value r h x e = miss (0 ∷ 2 ∷ 3 ∷ 4 ∷ 5 ∷ []) 1 tt (rw e at h)
 
+pub not-deep : (r : Work) → OneOf (0 ∷ 1 ∷ 2 ∷ 3 ∷ 4 ∷ []) (tagOf the-type r) → (d : ℕ) → r ≡ Deep d → ⊥
+not-deep r h d e = miss (0 ∷ 1 ∷ 2 ∷ 3 ∷ 4 ∷ []) 5 tt (rw e at h)
+
 -- two tables with an entry stored are the memo with it
 pub noted-is : (memo : Memo) (codes : List ℕ) (values : List ℤ) (e c : ℕ) (x y : ℤ) → codes ≡ set (memo .codes) e c → values ≡ set (memo .values) e x → x ≡ y →
     memoOf codes values ≡ noted memo e c y

@@ -6,3 +6,5 @@ pub mod Doing
 pub mod Operands
 pub mod Ways
 pub mod Elements
+pub mod Owning
+pub mod Stacks

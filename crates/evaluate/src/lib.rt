@@ -2,8 +2,9 @@
 // elements that it names; the memo has what is settled, and marks what is in progress. Assumes nothing.
 use alpha::Int;
 
-mod expression;
+pub mod expression;
 mod memo;
+pub mod settle;
 
 // An outcome; or that element `Deep` has to be worked out first.
 pub enum Work {

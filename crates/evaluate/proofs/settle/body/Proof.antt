@@ -1,0 +1,96 @@
+-- `evaluate::body` meets its contract: the element's variable and its point are found, and the body is worked out there. Assumes nothing.
+use mathlib.Core.Path.{_≡_, sym, ap, _∙_, subst}
+use Prim.Native.Nat.{ℕ, _+_, _-_, _<_}
+use native.Mathlib.Omega.{arith}
+use Rattle.alpha.specs.declared.Int.{Int}
+use Rattle.laws.specs.Sheets.{sheetOf}
+use Rattle.points.specs.Number.{PointAt}
+use Rattle.domain.proofs.Records.{VariableLaid, laid-variable}
+use Rattle.evaluate.specs.Working.{elementAt, Bodied, ElementIs}
+use Rattle.evaluate.specs.Settling.{Owns}
+use Rattle.evaluate.proofs.Owning.{owned-low, size-is, place-low, owned-element}
+use Rattle.evaluate.proofs.Elements.{element-walk, body-evaluated, body-by-number}
+use borrow.Author.Needs.{needs}
+use Rattle.evaluate.proofs.settle.body.Statement.{statement}
+use Rattle.evaluate.proofs.settle.body.Tie as tie
+
+owner-requires : tie.Need-owner-requires
+owner-requires c κs = search needs
+
+first-element-requires : tie.Need-first-element-requires
+first-element-requires c κs = omega (arith, owned-low _ _ (c .before .before .pre .0) _ _ (c .owner .ensures))
+
+add-first-element : tie.Need-add-first-element
+add-first-element c = omega (arith, owned-low _ _ (c .before .before .before .pre .0) _ _ (c .before .owner .ensures))
+
+first-element-requires-2 : tie.Need-first-element-requires-2
+first-element-requires-2 c κs = omega (arith, owned-low _ _ (c .before .before .before .pre .0) _ _ (c .before .owner .ensures))
+
+sub-size : tie.Need-sub-size
+sub-size c = search needs
+
+record-place-requires : tie.Need-record-place-requires
+record-place-requires c κs = owned-low _ _ (c .before .before .before .before .pre .0) _ _ (c .before .before .owner .ensures)
+
+sub-point : tie.Need-sub-point
+sub-point c = search needs
+
+point-requires : tie.Need-point-requires
+point-requires c κs =
+    let o = c .before .before .before in
+    let owns = o .owner .ensures in
+    let f = o .before .before .pre .0 in
+    let l = laid-variable _ _ (f .placed) _ (owns .known) in
+    let first = c .before .before .first-element .ensures in
+    let next = c .before .first-element2 .ensures in
+    let size = size-is _ _ f _ _ owns in
+    let low = place-low _ _ f _ _ owns in
+    rw (c .record-place .ensures, first, next) (l .recorded, rw (l .box-is) size, omega (arith, l .few, size), omega (arith, low, size))
+
+body-place-requires : tie.Need-body-place-requires
+body-place-requires c κs = omega (arith, owned-low _ _ (c .before .before .before .before .before .before .pre .0) _ _ (c .before .before .before .before .owner .ensures))
+
+-- the element's point
+here : (c : tie.After-point) →
+    let o = c .before .before .before .before in
+    ElementIs (o .before .before .args .s .now) (o .owner .result) (o .before .before .args .e) (c .point .result)
+here c =
+    let o = c .before .before .before .before in
+    let place = rw (c .before .record-place .ensures, c .before .before .before .first-element .ensures) at (c .point .ensures) in
+    owned-element _ _ (o .before .before .pre .0) _ _ (o .owner .ensures) _ place
+
+abbrev start : tie.After-body-place → tie.Start
+start c = c .before .before .before .before .before .before .before
+
+-- it is in progress, and so it has a body
+bodied : (c : tie.After-body-place) → Bodied (sheetOf (start c .args .s .now)) (elementAt (sheetOf (start c .args .s .now)) (start c .args .e))
+bodied c = let p = start c .pre in p .2 .opens _ (p .3) (omega (arith, p .4))
+
+expression-requires : tie.Need-expression-requires
+expression-requires c κs =
+    let a = c .before .before in
+    let s = start a in
+    (s .pre .0, s .pre .1, s .pre .2, element-walk _ _ (s .pre .0) _ _ _ (here (a .before)) (bodied a) _ (a .body-place .ensures), omega arith)
+
+returns : tie.Need-returns
+returns c =
+    let a = c .before .before .before in
+    let s = start a in
+    let done = body-evaluated _ _ (s .pre .0) _ _ _ (here (a .before)) (bodied a) _ _ _ (a .body-place .ensures) _ (c .expression .ensures) in
+    body-by-number _ _ (s .pre .0) _ _ _ (here (a .before)) (bodied a) _ _ _ done
+
+pub body-spec : {M : Type 1} → statement M
+body-spec =
+    tie.close
+    (tie.spec
+    owner-requires
+    first-element-requires
+    add-first-element
+    first-element-requires-2
+    sub-size
+    record-place-requires
+    sub-point
+    point-requires
+    body-place-requires
+    expression-requires
+    returns)
