@@ -3,7 +3,7 @@
 use alpha::Int;
 
 pub mod expression;
-mod memo;
+pub mod memo;
 pub mod settle;
 
 // An outcome; or that element `Deep` has to be worked out first.

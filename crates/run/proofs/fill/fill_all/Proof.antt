@@ -1,0 +1,186 @@
+-- `run::fill_all` meets its contract. The loop's invariant: the stretches of the variables before v are filled. The measure is how many are
+-- left. Assumes nothing.
+use mathlib.Core.Path.{_≡_, refl, sym, ap, _∙_, subst}
+use Prim.Native.Nat.{ℕ, suc, _+_, _-_, _≤_, _<_}
+use native.Mathlib.Omega.{arith}
+use borrow.Author.Needs.{needs}
+use lib.ListN.{length}
+use Rattle.alpha.specs.Box.{size}
+use Rattle.alpha.specs.Holds.{variable}
+use Rattle.alpha.specs.Check.{total}
+use Rattle.alpha.specs.Ask.{before}
+use Rattle.laws.specs.Sheets.{varsOf, sheetOf}
+use Rattle.laws.proofs.Elements.{before-fits, before-suc, before-all}
+use Rattle.domain.proofs.Records.{VariableLaid, laid-variable, laid-length}
+use Rattle.evaluate.specs.Working.{memoOf}
+use Rattle.run.specs.Filling.{Advances, FillsAll}
+use Rattle.run.proofs.Tabling.{part-long, advances-none, advances-on, fills-start, fills-on, fills-at}
+use Rattle.run.proofs.fill.fill_all.Statement.{statement}
+use Rattle.run.proofs.fill.fill_all.Tie as tie
+
+abbrev Inv-loop : tie.InvT-loop
+Inv-loop s tab inside known₀ found₀ codes₀ values₀ stack₀ n v₀ known found codes values stack v =
+    FillsAll (sheetOf s) (memoOf known₀ found₀) (before (sheetOf s) v) codes₀ codes values₀ values × Advances (sheetOf s) (memoOf known₀ found₀) (memoOf known found) × (length stack ≡ 4096) × (v ≤ varsOf s)
+
+abbrev μ-loop : tie.MeasureT-loop
+μ-loop s tab inside known₀ found₀ codes₀ values₀ stack₀ n v₀ known found codes values stack v = n - v
+
+abbrev start : tie.In-loop Inv-loop μ-loop → tie.Start Inv-loop μ-loop
+start c = c .before .before .before .before .before
+
+-- the table says how many variables the sheet has
+count-is : (c : tie.After-variable-count Inv-loop μ-loop) → c .variable-count .result ≡ varsOf (c .before .before .before .args .s .now)
+count-is c = c .variable-count .ensures ∙ c .before .before .before .pre .0 .placed .prepared .table .variables
+
+-- the next variable
+known : (c : tie.In-loop Inv-loop μ-loop) → c .before .loop .v < varsOf (start c .args .s .now)
+known c = omega (arith, c .loop-test .taken, count-is (c .before .before))
+
+laid : (c : tie.In-loop Inv-loop μ-loop) → VariableLaid (start c .args .s .now) (start c .args .tab .now) (c .before .loop .v)
+laid c = laid-variable _ _ (start c .pre .0 .placed) _ (known c)
+
+-- its stretch
+from-is : (c : tie.After-first-element Inv-loop μ-loop) → c .first-element .result ≡ before (sheetOf (start (c .before) .args .s .now)) (c .before .before .loop .v)
+from-is c = c .first-element .ensures ∙ laid (c .before) .first-is
+
+to-is : (c : tie.After-first-element2 Inv-loop μ-loop) →
+    let l = c .before .before in
+    c .first-element2 .result ≡ before (sheetOf (start l .args .s .now)) (l .before .loop .v) + size (variable (sheetOf (start l .args .s .now)) (l .before .loop .v) .head .box)
+to-is c = c .first-element2 .ensures ∙ laid (c .before .before) .last-is
+
+variable-count-requires : tie.Need-variable-count-requires Inv-loop μ-loop
+variable-count-requires c κs = search needs
+
+loop-holds : tie.Need-loop-holds Inv-loop μ-loop
+loop-holds c =
+    let p = c .before .before .before .pre in
+    (fills-start _ _ _ _, advances-none _ _ (p .2) (p .3), refl, omega arith)
+
+first-element-requires : tie.Need-first-element-requires Inv-loop μ-loop
+first-element-requires c κs = omega (arith, laid c .low)
+
+add-first-element : tie.Need-add-first-element Inv-loop μ-loop
+add-first-element c = omega (arith, laid (c .before) .low)
+
+first-element-requires-2 : tie.Need-first-element-requires-2 Inv-loop μ-loop
+first-element-requires-2 c κs = omega (arith, laid (c .before) .low)
+
+-- it lies within both tables
+room : (c : tie.After-first-element2 Inv-loop μ-loop) →
+    let s = start (c .before .before) in
+    (c .first-element2 .result ≤ length (s .args .codes .now)) × (c .first-element2 .result ≤ length (s .args .values .now))
+room c =
+    let l = c .before .before in
+    let s = start l in
+    let fits = before-fits (sheetOf (s .args .s .now)) (l .before .loop .v) (laid l .known) in
+    (omega (arith, to-is c, fits, s .pre .4), omega (arith, to-is c, fits, s .pre .5))
+
+in-codes : (c : tie.After-first-element2 Inv-loop μ-loop) → c .first-element2 .result ≤ length (c .before .before .before .loop .codes)
+in-codes c = omega (arith, room c .0, c .before .before .before .loop .inv .0 .codes-long)
+
+in-values : (c : tie.After-first-element2 Inv-loop μ-loop) → c .first-element2 .result ≤ length (c .before .before .before .loop .values)
+in-values c = omega (arith, room c .1, c .before .before .before .loop .inv .0 .values-long)
+
+order : (c : tie.After-first-element2 Inv-loop μ-loop) → c .before .first-element .result ≤ c .first-element2 .result
+order c = omega (arith, from-is (c .before), to-is c)
+
+stretch-is : (c : tie.After-first-element2 Inv-loop μ-loop) →
+    let l = c .before .before in
+    c .first-element2 .result - c .before .first-element .result ≡ size (variable (sheetOf (start l .args .s .now)) (l .before .loop .v) .head .box)
+stretch-is c = omega (arith, from-is (c .before), to-is c)
+
+-- the next variable's starts where it ends
+ends : (c : tie.After-first-element2 Inv-loop μ-loop) →
+    let l = c .before .before in
+    c .first-element2 .result ≡ before (sheetOf (start l .args .s .now)) (l .before .loop .v + 1)
+ends c =
+    let l = c .before .before in
+    let one : l .before .loop .v + 1 ≡ suc (l .before .loop .v) = omega arith in
+    rw one (omega (arith, to-is c, before-suc (sheetOf (start l .args .s .now)) (l .before .loop .v) (laid l .known)))
+
+sub-fill : tie.Need-sub-fill Inv-loop μ-loop
+sub-fill c = let l = laid (c .before .before .before .before .before) in omega (arith, from-is (c .before .before .before .before), to-is (c .before .before .before))
+
+part-fill-start : tie.Need-part-fill-start Inv-loop μ-loop
+part-fill-start c = let l = laid (c .before .before .before .before .before) in omega (arith, from-is (c .before .before .before .before), to-is (c .before .before .before))
+
+part-fill-end : tie.Need-part-fill-end Inv-loop μ-loop
+part-fill-end c = omega (arith, in-codes (c .before .before .before))
+
+mul-fill : tie.Need-mul-fill Inv-loop μ-loop
+mul-fill c = let small : c .before .before .before .before .before .first-element .result ≤ 4096 = omega (arith, from-is (c .before .before .before .before .before), laid (c .before .before .before .before .before .before) .few) in search needs
+
+sub-fill-2 : tie.Need-sub-fill-2 Inv-loop μ-loop
+sub-fill-2 c = let l = laid (c .before .before .before .before .before .before) in omega (arith, from-is (c .before .before .before .before .before), to-is (c .before .before .before .before))
+
+part-fill-start-2 : tie.Need-part-fill-start-2 Inv-loop μ-loop
+part-fill-start-2 c = let l = laid (c .before .before .before .before .before .before) in omega (arith, from-is (c .before .before .before .before .before), to-is (c .before .before .before .before))
+
+part-fill-end-2 : tie.Need-part-fill-end-2 Inv-loop μ-loop
+part-fill-end-2 c = omega (arith, in-values (c .before .before .before .before))
+
+fill-requires : tie.Need-fill-requires Inv-loop μ-loop
+fill-requires c κs =
+    let t = c .before .before .before .before .before in
+    let l = t .before .before in
+    let p = start l .pre in
+    let m = l .before .loop .inv in
+    let wide = stretch-is t in
+    (p .0, p .1, m .1 .ready, m .1 .idle, m .2, known l, part-long _ _ _ _ wide (in-codes t) (order t), part-long _ _ _ _ wide (in-values t) (order t))
+
+add-v : tie.Need-add-v Inv-loop μ-loop
+add-v c = omega (arith, laid (c .before .before .before .before .before .before .before .before .before .before .before) .low)
+
+loop-less : tie.Need-loop-less Inv-loop μ-loop
+loop-less c = omega (arith, c .before .before .before .before .before .before .before .before .before .before .before .loop-test .taken)
+
+loop-again : tie.Need-loop-again Inv-loop μ-loop
+loop-again c =
+    let t = c .before .before .before .before .before .before .before .before .before in
+    let l = t .before .before in
+    let s = start l in
+    let sheet = sheetOf (s .args .s .now) in
+    let m = l .before .loop .inv in
+    let F = c .before .before .before .fill .ensures in
+    let next = fills-on sheet (l .before .loop .v) _ _ (from-is (t .before)) (to-is t) _ _ _ (m .1) _ _ _ _ _ _ (m .0) (F .0) (omega (arith, room t .0)) (omega (arith, room t .1)) in
+    let one : t .first-element2 .result ≡ before sheet (l .before .loop .v + 1) = ends t in
+    (fills-at _ _ _ _ _ _ _ _ one next, advances-on _ _ _ _ (m .1) (F .0 .advances), F .1, omega (arith, known l))
+
+same-length : tie.Need-same-length Inv-loop μ-loop
+same-length c = c .before .loop .inv .0 .codes-long
+
+same-length-2 : tie.Need-same-length-2 Inv-loop μ-loop
+same-length-2 c = c .before .loop .inv .0 .values-long
+
+returns : tie.Need-returns Inv-loop μ-loop
+returns c =
+    let s = c .before .before .before .before .before in
+    let m = c .before .loop .inv in
+    let all : c .before .loop .v ≡ length (sheetOf (s .args .s .now)) = omega (arith, count-is (c .before .before), c .loop-test .left, m .3, laid-length _ _ (s .pre .0 .placed)) in
+    fills-at _ _ _ _ _ _ _ _ (ap (before (sheetOf (s .args .s .now))) all ∙ before-all (sheetOf (s .args .s .now))) (m .0)
+
+pub fill-all-spec : {M : Type 1} → statement M
+fill-all-spec =
+    tie.close
+    (tie.spec
+    Inv-loop
+    μ-loop
+    variable-count-requires
+    loop-holds
+    first-element-requires
+    add-first-element
+    first-element-requires-2
+    sub-fill
+    part-fill-start
+    part-fill-end
+    mul-fill
+    sub-fill-2
+    part-fill-start-2
+    part-fill-end-2
+    fill-requires
+    add-v
+    loop-less
+    loop-again
+    same-length
+    same-length-2
+    returns)

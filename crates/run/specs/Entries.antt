@@ -1,0 +1,23 @@
+-- The input list's part for one variable. Assumes nothing.
+use Prim.Native.Nat.{ℕ}
+use mathlib.Core.List.{List}
+use lib.ListN.{take, drop}
+use lib.IntN.{ℤ}
+use Rattle.alpha.specs.Pick.{ifb}
+use Rattle.alpha.specs.Answer.{Answer, accepted}
+use Rattle.alpha.specs.Sheet.{Sheet}
+use Rattle.alpha.specs.Box.{size}
+use Rattle.alpha.specs.Holds.{variable, isInput}
+use Rattle.alpha.specs.Outcome.{inputsBefore}
+use Rattle.alpha.specs.Run.{entriesOf}
+
+-- an input has an entry for each point of its box, any other variable has none
+abbrev pub inputSize : Sheet → ℕ → ℕ
+inputSize s v = ifb (isInput (variable s v)) (λ _. size (variable s v .head .box)) (λ _. 0)
+
+-- what INPUT says of the entries of variable v
+abbrev pub entriesAt : Sheet → List ℤ → ℕ → Answer (Unit {0})
+entriesAt s ins v =
+    ifb (isInput (variable s v))
+    (λ _. entriesOf (variable s v .head .sort) (inputsBefore s v) (take (size (variable s v .head .box)) (drop (inputsBefore s v) ins)))
+    (λ _. accepted tt)
