@@ -22,7 +22,8 @@ use Rattle.domain.specs.Element.{elementsAt, elementsOf}
 use Rattle.text.specs.Lines.{outcomeFor, outcomeIn, lineOf, lineIn, linesFrom, reportIn}
 
 module _ (s : Sheet) (codes : List ℕ) (values : List ℤ) where
-  lines-append : (xs ys : List Element) (n : ℕ) → linesFrom s codes values n (xs ++ ys) ≡ linesFrom s codes values n xs ++ linesFrom s codes values (n + length xs) ys
+  lines-append : (xs ys : List Element) (n : ℕ) →
+      linesFrom s codes values n (xs ++ ys) ≡ linesFrom s codes values n xs ++ linesFrom s codes values (n + length xs) ys
   unfolding linesFrom
   lines-append [] ys n = let e : n + 0 ≡ n = omega arith in rw e
   lines-append (x ∷ xs) ys n =
@@ -113,7 +114,8 @@ module _ (s : Sheet) (ins : List ℤ) where
     abbrev valuesOf : List ℤ
     valuesOf = map (λ e. valueOf (outcomeAt s ins e)) (elements s)
 
-    entry-told : (d : Element) (j : ℕ) → j < length (elements s) → outcomeIn (codesOf ++ moreCodes) (valuesOf ++ moreValues) j ≡ outcomeAt s ins (getD (elements s) j d)
+    entry-told : (d : Element) (j : ℕ) → j < length (elements s) →
+        outcomeIn (codesOf ++ moreCodes) (valuesOf ++ moreValues) j ≡ outcomeAt s ins (getD (elements s) j d)
     entry-told d j l =
         let es = elements s in
         let code = List·getD-append codesOf moreCodes 0 j (omega (arith, length-map es (λ e. codeOf (outcomeAt s ins e)))) in

@@ -28,7 +28,8 @@ module _ (before after : List ℕ) (at next : ℕ) (text : List ℕ) (w : Wrote 
   }
 
 -- the same text by another name
-pub wrote-is : {before after : List ℕ} {at next : ℕ} {text other : List ℕ} → text ≡ other → Wrote before after at next text → Wrote before after at next other
+pub wrote-is : {before after : List ℕ} {at next : ℕ} {text other : List ℕ} → text ≡ other → Wrote before after at next text →
+    Wrote before after at next other
 wrote-is e w = rw (← e) w
 
 pub wrote-byte : (l : List ℕ) (at b : ℕ) → Wrote l (set l at b) at (at + 1) (b ∷ [])

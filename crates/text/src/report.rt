@@ -59,7 +59,7 @@ fn lines(
     at: usize,
 ) -> usize
     requires { ⌜ Formed (now s) (now tab) × (at + 51 * Check.total (sheetOf (now s)) ≤ length (now out)) ⌝ }
-    ensures { λ r. ⌜ Wrote (now (out .entry)) (now (out .exit)) at r (linesFrom (sheetOf (now (s .entry))) (now (codes .entry)) (now (values .entry)) 0 (Check.elements (sheetOf (now (s .entry))))) ⌝ }
+    ensures { λ r. ⌜ Wrote (now (out .entry)) (now (out .exit)) at r (linesFrom (sheetOf (now (s .entry))) (now (codes .entry)) (now (values .entry)) 0 (Check.elements (sheetOf (now (s .entry))))) × (r ≤ at + 51 * Check.total (sheetOf (now (s .entry)))) ⌝ }
 {
     let n = variable_count(tab);
     let mut next = at;
@@ -82,7 +82,7 @@ pub fn report(
     at: usize,
 ) -> usize
     requires { ⌜ Formed (now s) (now tab) × (total ≡ Check.total (sheetOf (now s))) × (at + 208910 ≤ length (now out)) ⌝ }
-    ensures { λ r. ⌜ Wrote (now (out .entry)) (now (out .exit)) at r (reportIn (sheetOf (now (s .entry))) (now (codes .entry)) (now (values .entry))) ⌝ }
+    ensures { λ r. ⌜ Wrote (now (out .entry)) (now (out .exit)) at r (reportIn (sheetOf (now (s .entry))) (now (codes .entry)) (now (values .entry))) × (r ≤ at + 208910) ⌝ }
 {
     let opened = word(out, at, &ACCEPTED);
     let counted = natural(out, opened, total as u64);
@@ -93,7 +93,7 @@ pub fn report(
 // The line of a refusal: its number and its place, each of at most 20 digits.
 pub fn refusal(why: Refusal, out: &mut [u8], at: usize) -> usize
     requires { ⌜ at + 56 ≤ length (now out) ⌝ }
-    ensures { λ r. ⌜ Wrote (now (out .entry)) (now (out .exit)) at r (Program.refusal (numberOf why) (placeOf why)) ⌝ }
+    ensures { λ r. ⌜ Wrote (now (out .entry)) (now (out .exit)) at r (Program.refusal (numberOf why) (placeOf why)) × (r ≤ at + 56) ⌝ }
 {
     let opened = word(out, at, &REFUSED);
     let numbered = natural(out, opened, alpha::number(why));

@@ -40,14 +40,20 @@ mul-signed : tie.Need-mul-signed Inv-loop μ-loop
 mul-signed c = search needs
 
 array-copy-out-signed : tie.Need-array-copy-out-signed Inv-loop μ-loop
-array-copy-out-signed c = omega (arith, c .before .before .before .before .before .before .before .before .pre .0, c .before .before .before .before .before .loop-test .taken)
+array-copy-out-signed c =
+    let in-loop = c .before .before .before .before .before in
+    let start = in-loop .before .before .before in
+    omega (arith, start .pre .0, in-loop .loop-test .taken)
 
 signed-requires : tie.Need-signed-requires Inv-loop μ-loop
 signed-requires c κs =
-    let l = c .before .before .before .before .before .before .before .loop in
-    let s = c .before .before .before .before .before .before .before .before .before in
-    let more = spaced-more (l .k) (s .args .n - l .k) (s .args .t1) (omega (arith, c .before .before .before .before .before .before .loop-test .taken)) in
-    let space = going-wrote (l .inv .0) _ _ _ _ more (c .before .before .before .before .byte .ensures) in
+    let after-byte = c .before .before .before .before in
+    let in-loop = after-byte .before .before in
+    let at-loop = in-loop .before in
+    let s = at-loop .before .before in
+    let l = at-loop .loop in
+    let more = spaced-more (l .k) (s .args .n - l .k) (s .args .t1) (omega (arith, in-loop .loop-test .taken)) in
+    let space = going-wrote (l .inv .0) _ _ _ _ more (after-byte .byte .ensures) in
     going-room space (intText (coordinate (s .args .t1) (l .k))) _ refl (s .pre .1)
 
 add-k : tie.Need-add-k Inv-loop μ-loop
@@ -58,12 +64,16 @@ loop-less c = search needs
 
 loop-again : tie.Need-loop-again Inv-loop μ-loop
 loop-again c =
-    let l = c .before .before .before .before .before .before .before .before .before .before .loop in
-    let s = c .before .before .before .before .before .before .before .before .before .before .before .before in
-    let more = spaced-more (l .k) (s .args .n - l .k) (s .args .t1) (omega (arith, c .before .before .before .before .before .before .before .before .before .loop-test .taken)) in
-    let space = going-wrote (l .inv .0) _ _ _ _ more (c .before .before .before .before .before .before .before .byte .ensures) in
+    let after-signed = c .before .before in
+    let after-byte = after-signed .before .before .before .before .before in
+    let in-loop = after-byte .before .before in
+    let at-loop = in-loop .before in
+    let s = at-loop .before .before in
+    let l = at-loop .loop in
+    let more = spaced-more (l .k) (s .args .n - l .k) (s .args .t1) (omega (arith, in-loop .loop-test .taken)) in
+    let space = going-wrote (l .inv .0) _ _ _ _ more (after-byte .byte .ensures) in
     let e : s .args .n - l .k - 1 ≡ s .args .n - (l .k + 1) = omega arith in
-    (rw e at (going-wrote space _ _ _ _ refl (c .before .before .signed .ensures)), omega (arith, c .before .before .before .before .before .before .before .before .before .loop-test .taken))
+    (rw e at (going-wrote space _ _ _ _ refl (after-signed .signed .ensures)), omega (arith, in-loop .loop-test .taken))
 
 same-length : tie.Need-same-length Inv-loop μ-loop
 same-length c = search needs

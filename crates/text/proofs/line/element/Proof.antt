@@ -24,8 +24,10 @@ point-is : (c : tie.After-dimension-of) →
     spaced (pointOf (c .dimension-of .result) (c .before .point .result))
     ≡ spaced (pointAt (variable (sheetOf (c .before .before .before .before .before .args .s .now)) (c .before .before .before .before .before .args .v) .head .box) (c .before .before .before .before .before .args .i))
 point-is c =
-    let s = c .before .before .before .before .before in
-    let at = rw (c .before .before .record-place .ensures) at (c .before .point .ensures) in
+    let after-point = c .before in
+    let after-record-place = after-point .before in
+    let s = after-record-place .before .before .before in
+    let at = rw (after-record-place .record-place .ensures) at (after-point .point .ensures) in
     laid-point _ _ (s .pre .0) _ (s .pre .1 .known) (s .args .i) (low s) _ _ (c .dimension-of .ensures .0) at
 
 record-place-requires : tie.Need-record-place-requires
@@ -43,32 +45,40 @@ dimension-of-requires c κs = search needs
 
 name-requires : tie.Need-name-requires
 name-requires c κs =
-    let s = c .before .before .before .before .before .before in
-    let place = c .before .before .before .record-place .ensures in
+    let after-record-place = c .before .before .before in
+    let s = after-record-place .before .before .before in
+    let place = after-record-place .record-place .ensures in
     let l = laid _ _ (s .pre .0) _ (s .pre .1 .known) in
-    (rw place (omega (arith, l .recorded .fields)), omega (arith, name-length (s .args .s .now) (c .before .before .before .record-place .result), s .pre .2))
+    (rw place (omega (arith, l .recorded .fields)), omega (arith, name-length (s .args .s .now) (after-record-place .record-place .result), s .pre .2))
 
 coordinates-requires : tie.Need-coordinates-requires
 coordinates-requires c κs =
-    let s = c .before .before .before .before .before .before .before .before .before .before in
-    let is = ap length (point-is (c .before .before .before .before .before)) in
+    let after-name = c .before .before .before in
+    let after-dimension-of = after-name .before .before in
+    let after-record-place = after-dimension-of .before .before in
+    let s = after-record-place .before .before .before in
+    let is = ap length (point-is after-dimension-of) in
     let few = laid-length _ _ (s .pre .0) _ (s .pre .1 .known) (s .args .i) (low s) in
-    let name = name-length (s .args .s .now) (c .before .before .before .before .before .before .before .record-place .result) in
-    (c .before .before .before .before .before .dimension-of .ensures .1, omega (arith, is, few, name, c .before .before .before .name .ensures .ends, s .pre .2))
+    let name = name-length (s .args .s .now) (after-record-place .record-place .result) in
+    (after-dimension-of .dimension-of .ensures .1, omega (arith, is, few, name, after-name .name .ensures .ends, s .pre .2))
 
 same-length : tie.Need-same-length
 same-length c = search needs
 
 returns : tie.Need-returns
 returns c =
-    let s = c .before .before .before .before .before .before .before .before .before .before .before .before .before in
-    let is = point-is (c .before .before .before .before .before .before .before .before) in
+    let after-coordinates = c .before .before in
+    let after-name = after-coordinates .before .before .before .before in
+    let after-dimension-of = after-name .before .before in
+    let after-record-place = after-dimension-of .before .before in
+    let s = after-record-place .before .before .before in
+    let is = point-is after-dimension-of in
     let few = laid-length _ _ (s .pre .0) _ (s .pre .1 .known) (s .args .i) (low s) in
-    let name = name-length (s .args .s .now) (c .before .before .before .before .before .before .before .before .before .before .record-place .result) in
-    let named = rw (c .before .before .before .before .before .before .before .before .before .before .record-place .ensures) at (c .before .before .before .before .before .before .name .ensures) in
+    let name = name-length (s .args .s .now) (after-record-place .record-place .result) in
+    let named = rw (after-record-place .record-place .ensures) at (after-name .name .ensures) in
     let first = wrote-is (laid-name _ _ (s .pre .0) _ (s .pre .1 .known)) named in
-    let rest = c .before .before .coordinates .ensures in
-    (wrote-more _ _ _ _ _ first _ _ _ (wrote-is is rest), omega (arith, ap length is, few, name, c .before .before .before .before .before .before .name .ensures .ends, rest .ends))
+    let rest = after-coordinates .coordinates .ensures in
+    (wrote-more _ _ _ _ _ first _ _ _ (wrote-is is rest), omega (arith, ap length is, few, name, after-name .name .ensures .ends, rest .ends))
 
 pub element-spec : {M : Type 1} → statement M
 element-spec =

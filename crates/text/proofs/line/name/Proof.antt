@@ -41,18 +41,22 @@ same-length c = search needs
 
 returns : tie.Need-returns Inv-loop μ-loop
 returns c =
-    let l = c .before .before .before .loop in
-    let s = c .before .before .before .before in
-    going-end (l .inv .0) (trimmed-stop (s .args .s .now) (s .args .place + l .i) (8 - l .i) (omega (arith, c .before .before .loop-test .taken)) (c .if1 .taken))
+    let in-loop = c .before .before in
+    let at-loop = in-loop .before in
+    let s = at-loop .before in
+    let l = at-loop .loop in
+    going-end (l .inv .0) (trimmed-stop (s .args .s .now) (s .args .place + l .i) (8 - l .i) (omega (arith, in-loop .loop-test .taken)) (c .if1 .taken))
 
 add-out : tie.Need-add-out Inv-loop μ-loop
 add-out c = search needs
 
 slice-write-out : tie.Need-slice-write-out Inv-loop μ-loop
 slice-write-out c =
-    let l = c .before .before .before .loop in
-    let s = c .before .before .before .before in
-    let more = trimmed-more (s .args .s .now) (s .args .place + l .i) (8 - l .i) (omega (arith, c .before .before .loop-test .taken)) (c .if1 .left) in
+    let in-loop = c .before .before in
+    let at-loop = in-loop .before in
+    let s = at-loop .before in
+    let l = at-loop .loop in
+    let more = trimmed-more (s .args .s .now) (s .args .place + l .i) (8 - l .i) (omega (arith, in-loop .loop-test .taken)) (c .if1 .left) in
     omega (arith, ap length more, l .inv .0 .place, l .inv .0 .sized, s .pre .1)
 
 add-i : tie.Need-add-i Inv-loop μ-loop
@@ -63,9 +67,11 @@ loop-less c = search needs
 
 loop-again : tie.Need-loop-again Inv-loop μ-loop
 loop-again c =
-    let l = c .before .before .before .loop in
-    let s = c .before .before .before .before in
-    let more = trimmed-more (s .args .s .now) (s .args .place + l .i) (8 - l .i) (omega (arith, c .before .before .loop-test .taken)) (c .if1 .left) in
+    let in-loop = c .before .before in
+    let at-loop = in-loop .before in
+    let s = at-loop .before in
+    let l = at-loop .loop in
+    let more = trimmed-more (s .args .s .now) (s .args .place + l .i) (8 - l .i) (omega (arith, in-loop .loop-test .taken)) (c .if1 .left) in
     let e : s .args .at + l .i + 1 ≡ s .args .at + (l .i + 1) = omega arith in
     let f : s .args .place + l .i + 1 ≡ s .args .place + (l .i + 1) = omega arith in
     let g : 8 - l .i - 1 ≡ 8 - (l .i + 1) = omega arith in

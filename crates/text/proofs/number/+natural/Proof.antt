@@ -45,9 +45,12 @@ same-length t c = omega arith
 
 returns : (t : ℕ) → natural-lts.Need-returns (uses t) (natural-at t) natural.Post
 returns t c =
-    let s = c .before .before .before .before .before .before .before in
-    let digit-is = ap (λ d. d ∷ []) (c .before .before .before .digit .ensures) in
-    wrote-is (digit-is ∙ sym (natText-one (s .args .n) (c .before .before .before .before .before .if1 .taken))) (c .before .before .byte .ensures)
+    let after-byte = c .before .before in
+    let after-digit = after-byte .before in
+    let then1 = after-digit .before .before in
+    let s = then1 .before .before in
+    let digit-is = ap (λ d. d ∷ []) (after-digit .digit .ensures) in
+    wrote-is (digit-is ∙ sym (natText-one (s .args .n) (then1 .if1 .taken))) (after-byte .byte .ensures)
 
 natural-requires : (t : ℕ) → natural-lts.Need-natural-requires (uses t) (natural-at t) natural.Post
 natural-requires t c κs =
@@ -60,21 +63,27 @@ digit-requires-2 t c κs = omega arith
 
 byte-requires-2 : (t : ℕ) → natural-lts.Need-byte-requires-2 (uses t) (natural-at t) natural.Post
 byte-requires-2 t c κs =
-    let s = c .before .before .before .before .before .before .before .before in
-    let longer = natText-longer (s .args .n) (omega arith) (c .before .before .before .before .before .before .if1 .left) in
-    omega (arith, longer, s .pre .1, c .before .before .before .before .natural .ensures .ends)
+    let after-natural = c .before .before .before .before in
+    let else1 = after-natural .before .before in
+    let s = else1 .before .before in
+    let longer = natText-longer (s .args .n) (omega arith) (else1 .if1 .left) in
+    omega (arith, longer, s .pre .1, after-natural .natural .ensures .ends)
 
 same-length-2 : (t : ℕ) → natural-lts.Need-same-length-2 (uses t) (natural-at t) natural.Post
 same-length-2 t c = omega arith
 
 returns-2 : (t : ℕ) → natural-lts.Need-returns-2 (uses t) (natural-at t) natural.Post
 returns-2 t c =
-    let s = c .before .before .before .before .before .before .before .before .before .before .before in
+    let after-byte2 = c .before .before in
+    let after-digit2 = after-byte2 .before in
+    let after-natural = after-digit2 .before .before .before .before in
+    let else1 = after-natural .before .before in
+    let s = else1 .before .before in
     let n = s .args .n in
-    let many = natText-more n (omega arith) (c .before .before .before .before .before .before .before .before .before .if1 .left) in
-    let digit-is = ap (λ d. natText (n / 10) ++ (d ∷ [])) (c .before .before .before .digit2 .ensures) in
-    let first = c .before .before .before .before .before .before .before .natural .ensures in
-    wrote-is (digit-is ∙ sym many) (wrote-more _ _ _ _ _ first _ _ _ (c .before .before .byte2 .ensures))
+    let many = natText-more n (omega arith) (else1 .if1 .left) in
+    let digit-is = ap (λ d. natText (n / 10) ++ (d ∷ [])) (after-digit2 .digit2 .ensures) in
+    let first = after-natural .natural .ensures in
+    wrote-is (digit-is ∙ sym many) (wrote-more _ _ _ _ _ first _ _ _ (after-byte2 .byte2 .ensures))
 
 pub +natural-spec : {M : Type 1} → statement M
 +natural-spec =

@@ -18,8 +18,11 @@ same-length c = search needs
 
 returns : tie.Need-returns
 returns c =
-    let a = c .before .before .before .before .before .before .args in
-    wrote-is (sym (value-number (a .sort) (a .x .v) (c .before .before .before .before .if1 .taken))) (c .before .before .signed .ensures)
+    let after-signed = c .before .before in
+    let then1 = after-signed .before .before in
+    let start = then1 .before .before in
+    let a = start .args in
+    wrote-is (sym (value-number (a .sort) (a .x .v) (then1 .if1 .taken))) (after-signed .signed .ensures)
 
 is-zero-requires : tie.Need-is-zero-requires
 is-zero-requires c κs = search needs
@@ -29,36 +32,50 @@ slice-aggregate-word c = search needs
 
 word-requires : tie.Need-word-requires
 word-requires c κs =
-    let s = c .before .before .before .before .before .before in
-    let truth = value-false (s .args .sort) (s .args .x .v) (omega (arith, c .before .before .before .before .if1 .left, s .pre .0)) in
-    omega (arith, ap length (truth (sym (c .before .before .before .is-zero .ensures) ∙ c .before .before .if2 .taken)), s .pre .1)
+    let then2 = c .before .before in
+    let after-is-zero = then2 .before in
+    let else1 = after-is-zero .before in
+    let s = else1 .before .before in
+    let truth = value-false (s .args .sort) (s .args .x .v) (omega (arith, else1 .if1 .left, s .pre .0)) in
+    omega (arith, ap length (truth (sym (after-is-zero .is-zero .ensures) ∙ then2 .if2 .taken)), s .pre .1)
 
 same-length-2 : tie.Need-same-length-2
 same-length-2 c = search needs
 
 returns-2 : tie.Need-returns-2
 returns-2 c =
-    let s = c .before .before .before .before .before .before .before .before .before in
-    let truth = value-false (s .args .sort) (s .args .x .v) (omega (arith, c .before .before .before .before .before .before .before .if1 .left, s .pre .0)) in
-    wrote-is (sym (truth (sym (c .before .before .before .before .before .before .is-zero .ensures) ∙ c .before .before .before .before .before .if2 .taken))) (c .before .before .word .ensures)
+    let after-word = c .before .before in
+    let then2 = after-word .before .before .before in
+    let after-is-zero = then2 .before in
+    let else1 = after-is-zero .before in
+    let s = else1 .before .before in
+    let truth = value-false (s .args .sort) (s .args .x .v) (omega (arith, else1 .if1 .left, s .pre .0)) in
+    wrote-is (sym (truth (sym (after-is-zero .is-zero .ensures) ∙ then2 .if2 .taken))) (after-word .word .ensures)
 
 slice-aggregate-word-2 : tie.Need-slice-aggregate-word-2
 slice-aggregate-word-2 c = search needs
 
 word-requires-2 : tie.Need-word-requires-2
 word-requires-2 c κs =
-    let s = c .before .before .before .before .before .before in
-    let truth = value-true (s .args .sort) (s .args .x .v) (omega (arith, c .before .before .before .before .if1 .left, s .pre .0)) in
-    omega (arith, ap length (truth (sym (c .before .before .before .is-zero .ensures) ∙ c .before .before .if2 .left)), s .pre .1)
+    let else2 = c .before .before in
+    let after-is-zero = else2 .before in
+    let else1 = after-is-zero .before in
+    let s = else1 .before .before in
+    let truth = value-true (s .args .sort) (s .args .x .v) (omega (arith, else1 .if1 .left, s .pre .0)) in
+    omega (arith, ap length (truth (sym (after-is-zero .is-zero .ensures) ∙ else2 .if2 .left)), s .pre .1)
 
 same-length-3 : tie.Need-same-length-3
 same-length-3 c = search needs
 
 returns-3 : tie.Need-returns-3
 returns-3 c =
-    let s = c .before .before .before .before .before .before .before .before .before in
-    let truth = value-true (s .args .sort) (s .args .x .v) (omega (arith, c .before .before .before .before .before .before .before .if1 .left, s .pre .0)) in
-    wrote-is (sym (truth (sym (c .before .before .before .before .before .before .is-zero .ensures) ∙ c .before .before .before .before .before .if2 .left))) (c .before .before .word2 .ensures)
+    let after-word2 = c .before .before in
+    let else2 = after-word2 .before .before .before in
+    let after-is-zero = else2 .before in
+    let else1 = after-is-zero .before in
+    let s = else1 .before .before in
+    let truth = value-true (s .args .sort) (s .args .x .v) (omega (arith, else1 .if1 .left, s .pre .0)) in
+    wrote-is (sym (truth (sym (after-is-zero .is-zero .ensures) ∙ else2 .if2 .left))) (after-word2 .word2 .ensures)
 
 pub value-spec : {M : Type 1} → statement M
 value-spec =

@@ -24,21 +24,27 @@ word-requires c κs = search needs
 
 natural-requires : tie.Need-natural-requires
 natural-requires c κs =
-    let s = c .before .before .before .before .before .before .before .before in
-    omega (arith, total-short s, c .before .before .before .word .ensures .ends, s .pre .2)
+    let after-word = c .before .before .before in
+    let s = after-word .before .before .before .before .before in
+    omega (arith, total-short s, after-word .word .ensures .ends, s .pre .2)
 
 byte-requires : tie.Need-byte-requires
 byte-requires c κs =
-    let s = c .before .before .before .before .before .before .before .before .before .before .before .before in
-    omega (arith, total-short s, c .before .before .before .before .before .before .before .word .ensures .ends, c .before .before .before .natural .ensures .ends, s .pre .2)
+    let after-natural = c .before .before .before in
+    let after-word = after-natural .before .before .before .before in
+    let s = after-word .before .before .before .before .before in
+    omega (arith, total-short s, after-word .word .ensures .ends, after-natural .natural .ensures .ends, s .pre .2)
 
 lines-requires : tie.Need-lines-requires
 lines-requires c κs =
-    let s = c .before .before .before .before .before .before .before .before .before .before .before .before .before .before .before .before in
-    let opened = c .before .before .before .before .before .before .before .before .before .before .before .word .ensures .ends in
-    let counted = c .before .before .before .before .before .before .before .natural .ensures .ends in
+    let after-byte = c .before .before .before in
+    let after-natural = after-byte .before .before .before .before in
+    let after-word = after-natural .before .before .before .before in
+    let s = after-word .before .before .before .before .before in
+    let opened = after-word .word .ensures .ends in
+    let counted = after-natural .natural .ensures .ends in
     let few = laid-total _ _ (s .pre .0 .placed) in
-    (s .pre .0, omega (arith, total-short s, opened, counted, c .before .before .before .byte .ensures .ends, few, s .pre .2))
+    (s .pre .0, omega (arith, total-short s, opened, counted, after-byte .byte .ensures .ends, few, s .pre .2))
 
 same-length : tie.Need-same-length
 same-length c = search needs
@@ -46,11 +52,18 @@ same-length c = search needs
 returns : tie.Need-returns
 unfolding reportIn
 returns c =
-    let s = c .before .before .before .before .before .before .before .before .before .before .before .before .before .before .before .before .before .before .before in
-    let number = wrote-is (ap natText (s .pre .1)) (c .before .before .before .before .before .before .before .before .before .before .natural .ensures) in
-    let counted = wrote-more _ _ _ _ _ (c .before .before .before .before .before .before .before .before .before .before .before .before .before .before .word .ensures) _ _ _ number in
-    let first = wrote-more _ _ _ _ _ counted _ _ _ (c .before .before .before .before .before .before .byte .ensures) in
-    wrote-more _ _ _ _ _ first _ _ _ (c .before .before .lines .ensures)
+    let after-lines = c .before .before in
+    let after-byte = after-lines .before .before .before .before in
+    let after-natural = after-byte .before .before .before .before in
+    let after-word = after-natural .before .before .before .before in
+    let s = after-word .before .before .before .before .before in
+    let number = wrote-is (ap natText (s .pre .1)) (after-natural .natural .ensures) in
+    let counted = wrote-more _ _ _ _ _ (after-word .word .ensures) _ _ _ number in
+    let first = wrote-more _ _ _ _ _ counted _ _ _ (after-byte .byte .ensures) in
+    let rest = after-lines .lines .ensures in
+    let few = laid-total _ _ (s .pre .0 .placed) in
+    let ends = first .ends in
+    (wrote-more _ _ _ _ _ first _ _ _ (rest .0), omega (arith, ends, rest .1, few, total-short s))
 
 pub report-spec : {M : Type 1} → statement M
 report-spec =

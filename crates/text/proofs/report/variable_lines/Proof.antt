@@ -26,13 +26,15 @@ abbrev μ-loop : tie.MeasureT-loop
 
 -- how many points there are
 size-is : (c : tie.After-first-element2 Inv-loop μ-loop) →
-    c .first-element2 .result - c .before .first-element .result ≡ Box.size (variable (sheetOf (c .before .before .before .before .args .s .now)) (c .before .before .before .before .args .v) .head .box)
+    c .first-element2 .result - c .before .first-element .result
+    ≡ Box.size (variable (sheetOf (c .before .before .before .before .args .s .now)) (c .before .before .before .before .args .v) .head .box)
 size-is c =
     let l = laid _ _ (c .before .before .before .before .pre .0) _ (c .before .before .before .before .pre .1) in
     omega (arith, l .first-is, l .last-is, c .before .first-element .ensures, c .first-element2 .ensures)
 
 -- the point is one of them
-low-in : (c : tie.In-loop Inv-loop μ-loop) → c .before .loop .i < Box.size (variable (sheetOf (c .before .before .before .before .before .before .args .s .now)) (c .before .before .before .before .before .before .args .v) .head .box)
+low-in : (c : tie.In-loop Inv-loop μ-loop) →
+    c .before .loop .i < Box.size (variable (sheetOf (c .before .before .before .before .before .before .args .s .now)) (c .before .before .before .before .before .before .args .v) .head .box)
 low-in c = omega (arith, size-is (c .before .before), c .loop-test .taken)
 
 first-element-requires : tie.Need-first-element-requires Inv-loop μ-loop
@@ -57,10 +59,13 @@ loop-holds c =
 
 line-requires : tie.Need-line-requires Inv-loop μ-loop
 line-requires c κs =
-    let s = c .before .before .before .before .before .before .before in
-    let l = c .before .before .loop in
-    let many = size-is (c .before .before .before) in
-    (s .pre .0, record { known = s .pre .1; many = many; low = c .before .loop-test .taken }, omega (arith, l .inv .0 .sized, l .inv .1, many, c .before .loop-test .taken, s .pre .2))
+    let in-loop = c .before in
+    let at-loop = in-loop .before in
+    let after-first-element2 = at-loop .before in
+    let s = after-first-element2 .before .before .before .before in
+    let l = at-loop .loop in
+    let many = size-is after-first-element2 in
+    (s .pre .0, record { known = s .pre .1; many = many; low = in-loop .loop-test .taken }, omega (arith, l .inv .0 .sized, l .inv .1, many, in-loop .loop-test .taken, s .pre .2))
 
 add-i : tie.Need-add-i Inv-loop μ-loop
 add-i c = omega (arith, c .before .before .before .before .loop-test .taken)
@@ -70,21 +75,28 @@ loop-less c = omega (arith, c .before .before .before .before .loop-test .taken)
 
 loop-again : tie.Need-loop-again Inv-loop μ-loop
 loop-again c =
-    let a = c .before .before .before .before .before .before .before .before .before .before .args in
-    let l = c .before .before .before .before .before .loop in
-    let low = low-in (c .before .before .before .before) in
+    let after-line = c .before .before in
+    let in-loop = after-line .before .before in
+    let at-loop = in-loop .before in
+    let start = at-loop .before .before .before .before .before in
+    let a = start .args in
+    let l = at-loop .loop in
+    let low = low-in in-loop in
     let more = points-more (sheetOf (a .s .now)) (a .codes .now) (a .values .now) (a .v) (l .i) low in
-    let wrote = c .before .before .line .ensures in
-    (going-wrote (l .inv .0) _ _ _ _ more (wrote .0), omega (arith, wrote .1, l .inv .1), omega (arith, c .before .before .before .before .loop-test .taken))
+    let wrote = after-line .line .ensures in
+    (going-wrote (l .inv .0) _ _ _ _ more (wrote .0), omega (arith, wrote .1, l .inv .1), omega (arith, in-loop .loop-test .taken))
 
 same-length : tie.Need-same-length Inv-loop μ-loop
 same-length c = c .before .loop .inv .0 .sized
 
 returns : tie.Need-returns Inv-loop μ-loop
 returns c =
-    let a = c .before .before .before .before .before .before .args in
-    let l = c .before .loop in
-    let many = size-is (c .before .before) in
+    let at-loop = c .before in
+    let after-first-element2 = at-loop .before in
+    let start = after-first-element2 .before .before .before .before in
+    let a = start .args in
+    let l = at-loop .loop in
+    let many = size-is after-first-element2 in
     let none = points-end (sheetOf (a .s .now)) (a .codes .now) (a .values .now) (a .v) (l .i) (omega (arith, many, c .loop-test .left)) in
     (going-end (l .inv .0) none, omega (arith, l .inv .1, l .inv .2, many))
 
