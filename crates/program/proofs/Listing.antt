@@ -1,11 +1,11 @@
 -- The values of the input: how the code lists them, and what INPUT says of the list. A list that no sheet asks for is refused with the
 -- length that the sheet needs, whether a value is broken or there are too many. Assumes nothing.
 use mathlib.Core.Path.{_≡_, refl, sym, ap, _∙_}
-use Prim.Native.Nat.{ℕ, zero, suc, _+_, _*_, _-_, _/_, _%_, _≤_, _<_}
+use Prim.Native.Nat.{ℕ, zero, suc, _+_, _-_, _/_, _%_, _≤_, _<_}
 use native.Mathlib.Omega.{arith}
 use native.Mathlib.Decide.{decLt}
 use mathlib.Core.Bool.{Bool, true, false}
-use mathlib.Core.List.{List, [], _∷_, _++_}
+use mathlib.Core.List.{List, [], _∷_}
 use lib.ListN.{length, take, drop}
 use lib.Seq.{sets, sets-eq, take-at}
 use lib.IntN.{ℤ}
@@ -13,11 +13,11 @@ use lib.Dec.{eqb}
 use borrow.Author.Tests.{eq-eqb, ne-eqb, eqb-true, eqb-false}
 use Rattle.alpha.specs.Pick.{ifb}
 use Rattle.alpha.specs.Answer.{Answer, accepted, refused, next, INPUT}
-use Rattle.alpha.specs.Sheet.{Variable, Sheet}
+use Rattle.alpha.specs.Sheet.{Sheet}
 use Rattle.alpha.specs.Box.{size}
 use Rattle.alpha.specs.Holds.{isInput}
 use Rattle.alpha.specs.Check.{total}
-use Rattle.alpha.specs.Run.{inputCount, entries, inputs}
+use Rattle.alpha.specs.Run.{inputCount, inputs}
 use Rattle.alpha.specs.Program.{word4, value4, valuesAt, inputsFrom, report}
 use Rattle.program.specs.Given.{Lists}
 

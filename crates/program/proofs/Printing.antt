@@ -1,10 +1,10 @@
 -- What stands in the buffer after a text was written at its start. Assumes nothing.
-use mathlib.Core.Path.{_≡_, refl, sym, ap, _∙_}
+use mathlib.Core.Path.{_≡_, sym, ap, _∙_}
 use Prim.Native.Nat.{ℕ, _+_, _-_, _≤_, _<_}
 use native.Mathlib.Omega.{arith}
 use mathlib.Core.List.{List, [], _++_}
 use lib.ListN.{length, take, drop, length-drop, length-append}
-use lib.Seq.{sets, sets-eq, take-all}
+use lib.Seq.{sets-eq, take-all}
 use borrow.Author.Tests.{le-leb, lt-leb}
 use Rattle.alpha.specs.Program.{printed, answered, program}
 use Rattle.text.specs.Wrote.{Wrote}

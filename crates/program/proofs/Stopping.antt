@@ -1,12 +1,12 @@
 -- The program may stop reading after 81,932 bytes: 8 for the length, 65,536 for the longest sheet, and 16,388 for one value more than any
 -- sheet asks for. Assumes nothing.
 use mathlib.Core.Path.{_≡_, refl, sym, ap, _∙_}
-use Prim.Native.Nat.{ℕ, _+_, _-_, _≤_, _<_}
+use Prim.Native.Nat.{ℕ, _+_, _≤_, _<_}
 use native.Mathlib.Omega.{arith}
 use native.Mathlib.Decide.{decLt}
 use mathlib.Core.Bool.{Bool, true, false}
-use mathlib.Core.List.{List, [], _∷_, _++_}
-use lib.ListN.{length, getD, take, drop, length-drop}
+use mathlib.Core.List.{List}
+use lib.ListN.{length, take, drop, length-drop}
 use lib.Seq.{take-all, take-take, take-add, drop-at, getD-take, length-take-le}
 use lib.IntN.{ℤ, pos, negsuc, natAbs}
 use lib.Signed.{leZ, nonNeg}

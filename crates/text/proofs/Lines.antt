@@ -1,15 +1,15 @@
 -- The lines of a variable's elements one after another, those of all variables, and the report that they make where the tables have the
 -- run's outcomes. Assumes nothing.
-use mathlib.Core.Path.{_≡_, refl, sym, ap, _∙_, subst}
-use Prim.Native.Nat.{ℕ, zero, suc, _+_, _-_, _≤_, _<_}
+use mathlib.Core.Path.{_≡_, refl, sym, ap, _∙_}
+use Prim.Native.Nat.{ℕ, suc, _+_, _-_, _≤_, _<_}
 use native.Mathlib.Nat.{add-zero}
 use native.Mathlib.Omega.{arith}
 use mathlib.Core.List.{List, [], _∷_, _++_, map, append-assoc}
 use lib.ListN.{length, getD, drop, length-map, drop-of-length-le, List·getD-append}
 use lib.Seq.{drop-cons}
 use lib.IntN.{ℤ, pos}
-use Rattle.alpha.specs.Sheet.{Range, Sheet, Point}
-use Rattle.alpha.specs.Box.{size, pointAt}
+use Rattle.alpha.specs.Sheet.{Range, Sheet}
+use Rattle.alpha.specs.Box.{size}
 use Rattle.alpha.specs.Holds.{noVariable, variable}
 use Rattle.alpha.specs.Check.{Element, pointsFrom, points, elementsFrom, elements, total}
 use Rattle.alpha.specs.Ask.{before}

@@ -1,11 +1,11 @@
 -- Texts written one after another are one text. `Going` follows a text while it is written: what is left of it, written from here on,
 -- gives what the whole text gives from its start. Assumes nothing.
 use mathlib.Core.Path.{_≡_, refl, sym, ap, _∙_}
-use Prim.Native.Nat.{ℕ, suc, _+_, _≤_, _<_}
+use Prim.Native.Nat.{ℕ, suc, _+_, _≤_}
 use native.Mathlib.Omega.{arith}
 use mathlib.Core.List.{List, [], _∷_, _++_}
-use lib.ListN.{length, getD, drop, set, length-set, length-append, drop-of-length-le}
-use lib.Seq.{sets, length-sets, drop-cons}
+use lib.ListN.{length, set, length-append}
+use lib.Seq.{sets, length-sets}
 use Rattle.text.specs.Wrote.{Wrote}
 
 sets-append : (l t u : List ℕ) (i : ℕ) → sets l i (t ++ u) ≡ sets (sets l i t) (i + length t) u

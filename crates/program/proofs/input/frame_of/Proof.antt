@@ -1,7 +1,5 @@
 -- `program::frame_of` meets its contract: one way out for each fault of the frame. Assumes nothing.
 use mathlib.Core.Path.{_≡_, sym, ap, _∙_}
-use Prim.Native.Nat.{ℕ, _+_, _-_, _≤_, _<_}
-use mathlib.Core.Bool.{true, false}
 use native.Mathlib.Omega.{arith}
 use lib.IntN.{pos, natAbs}
 use lib.Signed.{leZ, nonNeg}

@@ -1,10 +1,9 @@
 -- `text::coordinates` meets its contract: after k coordinates those from the k-th on are left. Assumes nothing.
 use mathlib.Core.Path.{_≡_, refl, ap}
-use Prim.Native.Nat.{ℕ, _+_, _-_, _≤_, _<_}
-use mathlib.Core.List.{[], _∷_, _++_}
+use Prim.Native.Nat.{_+_, _-_, _≤_}
+use mathlib.Core.List.{[], _∷_}
 use native.Mathlib.Omega.{arith}
 use borrow.Author.Needs.{needs}
-use lib.ListN.{length}
 use Rattle.alpha.specs.Program.{intText, spaced}
 use Rattle.affine.specs.Value.{pointOf, at as coordinate}
 use Rattle.points.specs.Number.{pointFrom}

@@ -1,6 +1,6 @@
 -- `text::element` meets its contract: the name where the record stands, and the point of the box. Assumes nothing.
 use mathlib.Core.Path.{_≡_, ap}
-use Prim.Native.Nat.{ℕ, _+_, _≤_, _<_}
+use Prim.Native.Nat.{_<_}
 use native.Mathlib.Omega.{arith}
 use lib.ListN.{length}
 use Rattle.alpha.specs.Box.{size, pointAt}

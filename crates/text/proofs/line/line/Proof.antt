@@ -1,8 +1,8 @@
 -- `text::line` meets its contract: the element, the outcome that the tables have at its number, and a newline. Assumes nothing.
-use mathlib.Core.Path.{_≡_, sym, ap, _∙_}
-use Prim.Native.Nat.{ℕ, _+_, _≤_, _<_}
+use mathlib.Core.Path.{_≡_, ap, _∙_}
+use Prim.Native.Nat.{ℕ, _+_, _<_}
 use native.Mathlib.Omega.{arith}
-use lib.ListN.{length, getD}
+use lib.ListN.{getD}
 use lib.IntN.{pos}
 use mir.Facts.{toZ-ofZ}
 use borrow.Author.Needs.{sfits-of}

@@ -1,14 +1,13 @@
 -- `text::natural` meets its contract: one digit, or the last digit after the text of the rest. The number itself falls.
 -- Assumes nothing.
-use mathlib.Core.Path.{_≡_, refl, sym, ap, _∙_}
-use mathlib.Core.List.{List, [], _∷_, _++_}
-use Prim.Native.Nat.{ℕ, _+_, _/_, _%_, _≤_, _<_}
+use mathlib.Core.Path.{sym, ap, _∙_}
+use mathlib.Core.List.{[], _∷_, _++_}
+use Prim.Native.Nat.{ℕ, _/_, _<_}
 use native.Mathlib.Omega.{arith}
-use lib.ListN.{length, length-append}
+use lib.ListN.{length}
 use borrow.Fn.Kinds.{In}
 use borrow.Fn.PlainCycle.{Measures, is, falls, and}
 use Rattle.alpha.specs.Program.{natText}
-use Rattle.text.specs.Wrote.{Wrote}
 use Rattle.text.proofs.Writing.{wrote-more, wrote-is}
 use Rattle.text.proofs.Numbers.{natText-one, natText-more, natText-longer}
 use Rattle.text.proofs.number.natural.Reads as natural

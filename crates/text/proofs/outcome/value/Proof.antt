@@ -1,5 +1,5 @@
 -- `text::value` meets its contract: a number for an integer, a word for a boolean. Assumes nothing.
-use mathlib.Core.Path.{_≡_, sym, ap, _∙_}
+use mathlib.Core.Path.{sym, ap, _∙_}
 use native.Mathlib.Omega.{arith}
 use lib.ListN.{length}
 use Rattle.text.proofs.Writing.{wrote-is}

@@ -1,5 +1,5 @@
 -- `text::refusal` meets its contract, part by part. Assumes nothing.
-use mathlib.Core.Path.{_≡_, ap}
+use mathlib.Core.Path.{ap}
 use native.Mathlib.Omega.{arith}
 use Rattle.alpha.specs.Program.{natText, refusal}
 use Rattle.text.proofs.Writing.{wrote-more, wrote-is}

@@ -1,7 +1,7 @@
 -- `text::variable_lines` meets its contract: before point i the lines from the i-th point on are left, and each line before has at most
 -- 51 bytes. The measure is how many points are left. Assumes nothing.
-use mathlib.Core.Path.{_≡_, sym, ap, _∙_}
-use Prim.Native.Nat.{ℕ, _+_, _*_, _-_, _≤_, _<_}
+use mathlib.Core.Path.{_≡_}
+use Prim.Native.Nat.{_+_, _*_, _-_, _≤_, _<_}
 use native.Mathlib.Omega.{arith}
 use Rattle.alpha.specs.Box as Box
 use Rattle.alpha.specs.Holds.{variable}

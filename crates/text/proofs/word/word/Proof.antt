@@ -1,13 +1,12 @@
 -- `text::word` meets its contract: after i bytes the word from its i-th byte on is left. Assumes nothing.
-use mathlib.Core.Path.{_≡_, refl, sym, ap, _∙_}
-use Prim.Native.Nat.{ℕ, suc, _+_, _-_, _≤_, _<_}
-use mathlib.Core.List.{List, [], _∷_}
+use mathlib.Core.Path.{_≡_}
+use Prim.Native.Nat.{_+_, _-_, _≤_, _<_}
 use native.Mathlib.Omega.{arith}
 use native.Mathlib.Numerals.{add-one}
 use borrow.Author.Needs.{needs}
 use lib.ListN.{length, drop, drop-of-length-le}
 use lib.Seq.{drop-cons}
-use Rattle.text.proofs.Writing.{Going, going-start, going-byte, going-end, going-room}
+use Rattle.text.proofs.Writing.{Going, going-start, going-byte, going-end}
 use Rattle.text.proofs.word.word.Statement.{statement}
 use Rattle.text.proofs.word.word.Tie as tie
 use Rattle.text.proofs.word.word.Reads as reads
