@@ -1,0 +1,30 @@
+-- `program::report` meets its contract: a sheet that was accepted is admitted again. Assumes nothing.
+use Rattle.program.proofs.Running.{admitted-again, total-is}
+use borrow.Author.Needs.{needs}
+use Rattle.program.proofs.output.report.Statement.{statement}
+use Rattle.program.proofs.output.report.Tie as tie
+
+admit-requires : tie.Need-admit-requires
+admit-requires c κs = search needs
+
+report-requires : tie.Need-report-requires
+report-requires c κs =
+    let after-admit = c .before .before in
+    let s = after-admit .before .before .before .before .before in
+    let again = admitted-again _ _ _ _ _ (s .pre .0) (after-admit .admit .ensures) in
+    (again .formed, total-is _ _ _ (again .sheet-is) (s .pre .0), s .pre .1)
+
+same-length : tie.Need-same-length
+same-length c = search needs
+
+returns : tie.Need-returns
+returns c =
+    let after-report = c .before .before in
+    let after-admit = after-report .before .before .before in
+    let start = after-admit .before .before .before .before .before in
+    let wrote = after-report .report .ensures in
+    let again = admitted-again _ _ _ _ _ (start .pre .0) (after-admit .admit .ensures) in
+    (wrote .0, wrote .1, again .sheet-is)
+
+pub report-spec : {M : Type 1} → statement M
+report-spec = tie.close (tie.spec admit-requires report-requires same-length returns)

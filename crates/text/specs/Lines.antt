@@ -1,0 +1,57 @@
+-- The lines of a report, with each outcome as the two tables of the run give it: by its code and its value. Assumes nothing.
+use mathlib.Core.Path.{_≡_}
+use Prim.Native.Nat.{ℕ, suc, _+_, _<_}
+use mathlib.Core.List.{List, [], _∷_, _++_}
+use lib.ListN.{getD}
+use lib.IntN.{ℤ, pos}
+use Rattle.alpha.specs.Sheet.{Sheet}
+use Rattle.alpha.specs.Box.{size, pointAt}
+use Rattle.alpha.specs.Holds.{variable}
+use Rattle.alpha.specs.Check.{Element, elements, total}
+use Rattle.alpha.specs.Ask.{before}
+use Rattle.alpha.specs.Outcome.{Outcome, outside, value, divzero, overflow, loop}
+use Rattle.alpha.specs.Program.{acceptedWord, natText, trimmed, spaced, outcomeText, newline}
+use Rattle.laws.specs.Sheets.{varsOf, sheetOf}
+
+-- ---- one element
+
+-- i is the number of a point in the box of variable v, which has n points
+pub record PointOf (bs : List ℕ) (v n i : ℕ) : Type 0 where
+  pub known : v < varsOf bs
+  pub many : n ≡ size (variable (sheetOf bs) v .head .box)
+  pub low : i < n
+
+-- the element of variable v at the i-th point of its box
+abbrev pub elementAt : Sheet → ℕ → ℕ → Element
+elementAt s v i = record { who = v; at = pointAt (variable s v .head .box) i }
+
+-- its name and its coordinates
+abbrev pub elementText : Sheet → Element → List ℕ
+elementText s e = trimmed (variable s (e .who) .head .name) ++ spaced (e .at)
+
+-- the outcome with that code and that value: 0 outside, 1 value, 2 DIVZERO, 3 OVERFLOW, 4 LOOP
+abbrev pub outcomeFor : ℕ → ℤ → Outcome
+outcomeFor code x = getD (outside ∷ value x ∷ divzero ∷ overflow ∷ []) code loop
+
+-- the outcome of the element numbered n, by the tables
+abbrev pub outcomeIn : List ℕ → List ℤ → ℕ → Outcome
+outcomeIn codes values n = outcomeFor (getD codes n 0) (getD values n (pos 0))
+
+-- the line of the element e with the outcome o
+unfoldable pub lineOf : Sheet → Element → Outcome → List ℕ
+lineOf s e o = elementText s e ++ outcomeText (variable s (e .who) .head .sort) o ++ newline
+
+-- the line of the element of variable v at the i-th point of its box, by the tables
+abbrev pub lineIn : Sheet → List ℕ → List ℤ → ℕ → ℕ → List ℕ
+lineIn s codes values v i = lineOf s (elementAt s v i) (outcomeIn codes values (before s v + i))
+
+-- ---- several
+
+-- the lines of these elements, numbered from n on
+unfoldable pub linesFrom : Sheet → List ℕ → List ℤ → ℕ → List Element → List ℕ
+linesFrom s codes values n [] = []
+linesFrom s codes values n (e ∷ es) = lineOf s e (outcomeIn codes values n) ++ linesFrom s codes values (suc n) es
+
+-- `accepted` and the element total, then a line for each element
+unfoldable pub reportIn : Sheet → List ℕ → List ℤ → List ℕ
+reportIn s codes values = acceptedWord ++ natText (total s) ++ newline ++ linesFrom s codes values 0 (elements s)
