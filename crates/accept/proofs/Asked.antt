@@ -16,7 +16,7 @@ use Rattle.alpha.specs.Sheet.{Sheet, Point, Range}
 use Rattle.alpha.specs.Box.{inBox, index}
 use Rattle.alpha.specs.Holds.{variable}
 use Rattle.alpha.specs.Check.{check, total}
-use Rattle.alpha.specs.Ask.{asks, numberOf, before, elementNumber}
+use Rattle.alpha.specs.Ask.{asks, numberOf, before, elementNumber, numbered}
 use Rattle.alpha.specs.Promise.{totalOf}
 use Rattle.alpha.specs.Verdict.{told, placeOf}
 use Rattle.alpha.specs.Verdict as Verdicts
@@ -35,7 +35,6 @@ use Rattle.domain.proofs.Records.{VariableLaid, laid-variable}
 use Rattle.points.specs.Number.{boxOf, numberIn}
 use Rattle.points.specs.declared.Found.{Found}
 use Rattle.points.specs.declared.Found.the-variants.{At, Off}
-use Rattle.accept.specs.Numbered.{numbered}
 
 -- ---- the array of the coordinates
 

@@ -1,4 +1,3 @@
 -- The definitions that this crate's contracts cite, besides those of the crates below.
 pub mod Admits
 pub mod Shown
-pub mod Numbered

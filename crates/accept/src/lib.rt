@@ -13,7 +13,7 @@ use tree::variable::kind_of;
 ghost use Prim.Native.Nat.{ℕ, _≤_};
 ghost use mathlib.Core.Path.{_≡_};
 ghost use lib.ListN.{length};
-ghost use Rattle.alpha.specs.Ask.{noPart, partOf, bodyPart};
+ghost use Rattle.alpha.specs.Ask.{noPart, partOf, bodyPart, numbered};
 ghost use Rattle.alpha.specs.Promise.{Checks, Numbers, Finds};
 ghost use Rattle.alpha.specs.Verdict.{told};
 ghost use Rattle.affine.specs.Value.{pointOf};
@@ -21,7 +21,6 @@ ghost use Rattle.laws.specs.Sheets.{sheetOf};
 ghost use Rattle.tree.specs.Formed.{Formed};
 ghost use Rattle.accept.specs.Admits.{Admits};
 ghost use Rattle.accept.specs.Shown.{IsPart};
-ghost use Rattle.accept.specs.Numbered.{numbered};
 
 // Reads the sheet, then SHAPE, TYPE and REACH, then GAP and CLASH at each element. Where it is accepted, the table has its places and
 // each element's byte says whether it is inside its declared domain.
@@ -38,8 +37,8 @@ pub fn admit(s: &[u8], tab: &mut [usize; 102], inside: &mut [u8; 4096]) -> Verdi
         return Verdict::Refused(why);
     }
     let g = domain::domains(s, tab, inside);
-    if let Ruling::Refused(why) = g {
-        return Verdict::Refused(why);
+    if let Ruling::Refused(fault) = g {
+        return Verdict::Refused(fault);
     }
     Verdict::Accepted(total)
 }
@@ -153,9 +152,9 @@ pub fn element(s: &[u8], variable: u64, point: &[i64]) -> Verdict
 {
     let mut tab = [0usize; 102];
     let mut inside = [0u8; 4096];
-    let r = admit(s, &mut tab, &mut inside);
-    let Verdict::Accepted(_) = r else {
-        return r;
+    let judged = admit(s, &mut tab, &mut inside);
+    let Verdict::Accepted(_) = judged else {
+        return judged;
     };
     number_of(s, &tab, variable, point)
 }

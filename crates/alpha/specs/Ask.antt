@@ -23,8 +23,12 @@ numberOf s v z = before s v + index (variable s v .head .box) z
 abbrev pub asks : Sheet → ℕ → Point → Bool
 asks s v z = ltb v (length s) && inBox (variable s v .head .box) z
 
+-- the element number of a sheet that is accepted, or ASK
+abbrev pub numbered : Sheet → ℕ → Point → Answer ℕ
+numbered s v z = ifb (asks s v z) (λ _. accepted (numberOf s v z)) (λ _. refused ASK 0)
+
 unfoldable pub elementNumber : List ℕ → ℕ → Point → Answer ℕ
-elementNumber bs v z = next (check bs) (λ s. ifb (asks s v z) (λ _. accepted (numberOf s v z)) (λ _. refused ASK 0))
+elementNumber bs v z = next (check bs) (λ s. numbered s v z)
 
 -- a part of the sheet: where it starts, and how long it is
 pub record Part : Type 0 where

@@ -141,7 +141,7 @@ inputsFrom s rest =
 unfoldable pub framed : List ℕ → List ℕ → Answer (List ℕ)
 framed sheet rest = next (check sheet) (λ s. next (inputsFrom s rest) (λ ins. accepted (report s ins)))
 
--- the sheet's length n: missing, LONG where it is over 65,536, CUT where it is negative or past the input's end
+-- the sheet's length n: LONG where it is over 65,536, CUT where it is missing, negative or past the input's end
 unfoldable pub answered : List ℕ → Answer (List ℕ)
 answered bs =
     ifb (room bs 0) (λ _.
