@@ -171,20 +171,20 @@ fn two(
     requires { ⌜ Formed (now s) (now tab) × Inside (sheetOf (now s)) (now inside) × Ready (sheetOf (now s)) (memoOf (now codes) (now values)) × Walk (now s) at left z × (left ≤ 2048) × (natAbs (field (now s) at) ≡ 4) ⌝ }
     ensures { λ r. ⌜ EvaluatesAt (now (s .entry)) at z (memoOf (now (codes .entry)) (now (values .entry))) (memoOf (now (codes .exit)) (now (values .exit))) r ⌝ }
 {
-    let a = expression(s, tab, inside, codes, values, at + 16, left - 1, z, depth);
-    let o = a.out;
+    let first = expression(s, tab, inside, codes, values, at + 16, left - 1, z, depth);
+    let o = first.out;
     let Work::Value(x) = o else {
-        return a;
+        return first;
     };
-    let middle = a.next;
-    let b = expression(s, tab, inside, codes, values, middle, left - 1, z, depth);
-    let p = b.out;
+    let middle = first.next;
+    let second = expression(s, tab, inside, codes, values, middle, left - 1, z, depth);
+    let p = second.out;
     let Work::Value(y) = p else {
-        return b;
+        return second;
     };
     Worked {
         out: work_of(integer::binary(natural(s, at + 8), x, y)),
-        next: b.next,
+        next: second.next,
     }
 }
 
@@ -203,26 +203,26 @@ fn three(
     requires { ⌜ Formed (now s) (now tab) × Inside (sheetOf (now s)) (now inside) × Ready (sheetOf (now s)) (memoOf (now codes) (now values)) × Walk (now s) at left z × (left ≤ 2048) × (natAbs (field (now s) at) ≡ 5) ⌝ }
     ensures { λ r. ⌜ EvaluatesAt (now (s .entry)) at z (memoOf (now (codes .entry)) (now (values .entry))) (memoOf (now (codes .exit)) (now (values .exit))) r ⌝ }
 {
-    let a = expression(s, tab, inside, codes, values, at + 8, left - 1, z, depth);
-    let o = a.out;
+    let test = expression(s, tab, inside, codes, values, at + 8, left - 1, z, depth);
+    let o = test.out;
     let Work::Value(t) = o else {
-        return a;
+        return test;
     };
-    let middle = a.next;
-    let b = expression(s, tab, inside, codes, values, middle, left - 1, z, depth);
-    let p = b.out;
+    let middle = test.next;
+    let then = expression(s, tab, inside, codes, values, middle, left - 1, z, depth);
+    let p = then.out;
     let Work::Value(x) = p else {
-        return b;
+        return then;
     };
-    let last = b.next;
-    let c = expression(s, tab, inside, codes, values, last, left - 1, z, depth);
-    let q = c.out;
+    let last = then.next;
+    let other = expression(s, tab, inside, codes, values, last, left - 1, z, depth);
+    let q = other.out;
     let Work::Value(y) = q else {
-        return c;
+        return other;
     };
     Worked {
         out: work_of(integer::choose(integer::is_true(t), x, y)),
-        next: c.next,
+        next: other.next,
     }
 }
 

@@ -11,6 +11,7 @@ use Rattle.alpha.specs.Check.{total}
 use Rattle.alpha.specs.Ask.{before}
 use Rattle.laws.specs.Sheets.{varsOf, sheetOf}
 use Rattle.laws.proofs.Elements.{before-fits, before-suc, before-all}
+use Rattle.tree.proofs.Heading.{prepared-sections}
 use Rattle.domain.proofs.Records.{VariableLaid, laid-variable, laid-length}
 use Rattle.evaluate.specs.Working.{memoOf}
 use Rattle.run.specs.Filling.{Advances, FillsAll}
@@ -129,7 +130,10 @@ fill-requires c κs =
     (p .0, p .1, m .1 .ready, m .1 .idle, m .2, known l, part-long _ _ _ _ wide (in-codes t) (order t), part-long _ _ _ _ wide (in-values t) (order t))
 
 add-v : tie.Need-add-v Inv-loop μ-loop
-add-v c = omega (arith, laid (c .before .before .before .before .before .before .before .before .before .before .before) .low)
+add-v c =
+    let l = c .before .before .before .before .before .before .before .before .before .before .before in
+    let few = prepared-sections _ _ (start l .pre .0 .placed .prepared) .few in
+    omega (arith, few, count-is (l .before .before), l .loop-test .taken)
 
 loop-less : tie.Need-loop-less Inv-loop μ-loop
 loop-less c = omega (arith, c .before .before .before .before .before .before .before .before .before .before .before .loop-test .taken)
