@@ -1,0 +1,2 @@
+-- Laws that the proofs of the normaliser cite.
+pub mod Counting

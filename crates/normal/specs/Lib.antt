@@ -1,0 +1,4 @@
+-- The definitions that this crate's contracts cite, besides those of the crates below.
+pub mod Count
+pub mod Counted
+pub mod Part
