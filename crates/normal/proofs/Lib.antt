@@ -1,2 +1,5 @@
 -- Laws that the proofs of the normaliser cite.
 pub mod Counting
+pub mod Composing
+pub mod Numbered
+pub mod Branched
