@@ -3,3 +3,6 @@ pub mod Counting
 pub mod Composing
 pub mod Numbered
 pub mod Branched
+pub mod Laying
+pub mod Composed
+pub mod Spots

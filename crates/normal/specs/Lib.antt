@@ -2,3 +2,6 @@
 pub mod Count
 pub mod Counted
 pub mod Part
+pub mod Followed
+pub mod Rows
+pub mod Spot

@@ -12,7 +12,7 @@ use Rattle.alpha.specs.Sheet.{Constraint, Map, Node, Expr, Exprs}
 use Rattle.alpha.specs.Sheet.{Node.nVar, Node.nInt, Node.nBool, Node.nUnary, Node.nBinary, Node.nIf, Node.nCase, Node.nRestr, Node.nDep}
 use Rattle.alpha.specs.Sheet.{Expr.var, Expr.int, Expr.boo, Expr.un, Expr.bin, Expr.ite, Expr.kase, Expr.restr, Expr.dep, Exprs.none, Exprs.more}
 use Rattle.alpha.specs.Affine.{constraintAfter, mapAfter}
-use Rattle.alpha.specs.Written.{flat, unaryCode, binaryCode, constraintBytes, bytes}
+use Rattle.alpha.specs.Written.{flat, unaryCode, binaryCode, rowBytes, constraintBytes, bytes}
 use Rattle.normal.specs.Count.{countOf, productOf}
 
 -- bytes, how many things they are (constraints, or nodes), and how deep they lie
@@ -29,6 +29,10 @@ abbrev pub beside : Part → Part → Part
 beside p q = record { out = p .out ++ q .out; things = p .things + q .things; deep = max (p .deep) (q .deep) }
 
 -- ---- one node, where the map so far is m and l nodes of the tree stand above
+
+-- a dependence's own fields
+abbrev pub mapBytes : Map → List ℕ
+mapBytes m = nat 8 ++ nat (m .cols) ++ nat (length (m .rows)) ++ flat (map rowBytes (m .rows))
 
 -- a leaf is one dependence over it
 abbrev pub leaf : Map → Expr → ℕ → Part

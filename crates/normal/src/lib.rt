@@ -1,9 +1,18 @@
 // The normaliser. Assumes nothing.
 mod choose;
 mod count;
+mod node;
+mod rows;
 
 // A branch of a case: where the child stands that it comes from, and which of the child's branches it is.
 pub struct Chosen {
     pub at: usize,
     pub b: usize,
+}
+
+// How far writing has come: the place, how many things are written (constraints, or nodes), and how deep the deepest lies.
+pub struct Pen {
+    pub to: usize,
+    pub things: usize,
+    pub deep: usize,
 }
