@@ -6,3 +6,5 @@ pub mod Branched
 pub mod Laying
 pub mod Composed
 pub mod Spots
+pub mod Parts
+pub mod Routes

@@ -1,6 +1,7 @@
 // The normaliser. Assumes nothing.
 mod choose;
 mod count;
+mod follow;
 mod node;
 mod rows;
 
