@@ -43,6 +43,12 @@ two-long a b = length-append (nat a) (nat b) ∙ omega (arith, length-nat a, len
 pub three-long : (a b c : ℕ) → length (nat a ++ nat b ++ nat c) ≡ 24
 three-long a b c = length-append (nat a ++ nat b) (nat c) ∙ omega (arith, two-long a b, length-nat c)
 
+-- three numbers one after another
+pub three-stored : (l : List ℕ) (to x y z : ℕ) {a b c : List ℕ} → a ≡ sets l to (nat x) → b ≡ sets a (to + 8) (nat y) → c ≡ sets b (to + 16) (nat z) →
+    c ≡ sets l to (nat x ++ nat y ++ nat z)
+three-stored l to x y z first second third =
+    sets-after l to 16 (nat x ++ nat y) (nat z) (two-long x y) (sets-after l to 8 (nat x) (nat y) (length-nat x) first second) third
+
 -- one of so many, of k bytes each, is past
 pub one-less : (p left k total : ℕ) → 0 < left → p + left * k ≡ total → p + k + (left - 1) * k ≡ total
 one-less p zero k total h e = absurd (omega arith)

@@ -8,3 +8,4 @@ pub mod Composed
 pub mod Spots
 pub mod Parts
 pub mod Routes
+pub mod Bodies

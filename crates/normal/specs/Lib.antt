@@ -5,3 +5,4 @@ pub mod Part
 pub mod Followed
 pub mod Rows
 pub mod Spot
+pub mod Body

@@ -1,4 +1,5 @@
 // The normaliser. Assumes nothing.
+mod body;
 mod choose;
 mod count;
 mod follow;
@@ -15,5 +16,13 @@ pub struct Chosen {
 pub struct Pen {
     pub to: usize,
     pub things: usize,
+    pub deep: usize,
+}
+
+// What a branch, or several, take in the normal form: sums of nodes and bytes, and the most constraints and levels.
+pub struct Taken {
+    pub nodes: usize,
+    pub bytes: usize,
+    pub limits: usize,
     pub deep: usize,
 }
