@@ -191,7 +191,7 @@ module _ (bs : List ℕ) (p n many : ℕ) (e : Expr) (h : IsBody bs p n many e) 
   unfolding x
   given-part = from-identity .given-is ∙ ap (λ y. givenPart (y .given)) same-branch
 
-taken-same : {a b : Taken} → a .nodes ≡ b .nodes → a .bytes ≡ b .bytes → a .limits ≡ b .limits → a .deep ≡ b .deep → a ≡ b
+pub taken-same : {a b : Taken} → a .nodes ≡ b .nodes → a .bytes ≡ b .bytes → a .limits ≡ b .limits → a .deep ≡ b .deep → a ≡ b
 taken-same p q r s = λ i. record { nodes = p i; bytes = q i; limits = r i; deep = s i }
 
 -- a branch's own fields, its constraints and its tree

@@ -9,3 +9,4 @@ pub mod Spots
 pub mod Parts
 pub mod Routes
 pub mod Bodies
+pub mod Plans

@@ -6,3 +6,4 @@ pub mod Followed
 pub mod Rows
 pub mod Spot
 pub mod Body
+pub mod Plan

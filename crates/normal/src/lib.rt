@@ -4,7 +4,9 @@ mod choose;
 mod count;
 mod follow;
 mod node;
+
 mod rows;
+mod totals;
 
 // A branch of a case: where the child stands that it comes from, and which of the child's branches it is.
 pub struct Chosen {
@@ -25,4 +27,10 @@ pub struct Taken {
     pub bytes: usize,
     pub limits: usize,
     pub deep: usize,
+}
+
+// The totals of the normal form: nodes, and bytes with the first two sections and the node count; or WIDE at a variable.
+pub enum Plan {
+    Total { nodes: usize, bytes: usize },
+    WideAt(usize),
 }
