@@ -4,8 +4,8 @@ use Prim.Native.Nat.{ℕ, zero, suc, _+_, _*_, _-_, _≤_, _<_}
 use native.Mathlib.Nat.{add-zero, zero-add, sub-zero}
 use native.Mathlib.Omega.{arith}
 use mathlib.Core.List.{List, [], _∷_, _++_, map, append-assoc}
-use lib.ListN.{length, length-append, set}
-use lib.Seq.{sets, length-sets}
+use lib.ListN.{length, getD, take, length-append, set}
+use lib.Seq.{sets, length-sets, length-take-le, take-suc}
 use lib.IntN.{ℤ}
 use Rattle.alpha.specs.Field.{bytesOf, wordOf, num, nat}
 use Rattle.alpha.specs.Sheet.{Row, Constraint, Map}
@@ -107,3 +107,15 @@ constraint-long c n e = length-append (nat (relationCode (c .rel))) (rowBytes (c
 pub constraints-long : (n : ℕ) (cs : List Constraint) → ConstraintsWide n cs → length (flat (map constraintBytes cs)) ≡ length cs * (16 + 8 * n)
 constraints-long n [] h = omega arith
 constraints-long n (c ∷ cs) h = length-append (constraintBytes c) (flat (map constraintBytes cs)) ∙ omega (arith, constraint-long c n (h .0), constraints-long n cs (h .1))
+
+-- ---- a copy
+
+-- one byte more of s
+pub copied-more : (s l : List ℕ) (i : ℕ) → i < length s → set (sets l 0 (take i s)) i (getD s i 0) ≡ sets l 0 (take (i + 1) s)
+copied-more s l i h =
+    let e : suc i ≡ i + 1 = omega arith in
+    let long : length (take i s) ≡ i = length-take-le i s (omega arith) in
+    let next : 0 + length (take i s) ≡ i = omega arith in
+    ap (λ k. set (sets l 0 (take i s)) k (getD s i 0)) (sym next)
+    ∙ sym (sets-append l 0 (take i s) (getD s i 0 ∷ []))
+    ∙ ap (sets l 0) (sym (take-suc s i 0 h) ∙ ap (λ k. take k s) e)

@@ -10,3 +10,4 @@ pub mod Parts
 pub mod Routes
 pub mod Bodies
 pub mod Plans
+pub mod Storing

@@ -141,11 +141,11 @@ module _ (bs tab : List ℕ) (f : Formed bs tab) where
         few = stands .few;
       }
 
-      branches-are : branchesIn bs (variable (sheetOf bs) v .body) ≡ branchesOf (sheetOf bs) (variable (sheetOf bs) v)
+      pub branches-are : branchesIn bs (variable (sheetOf bs) v .body) ≡ branchesOf (sheetOf bs) (variable (sheetOf bs) v)
       branches-are = ap (norm (variable (sheetOf bs) v .body)) (sym dims-are)
 
       module _ (many : ℕ) (counted : Counts bs at many) where
-        count-capped : many ≡ capped (length (branchesOf (sheetOf bs) (variable (sheetOf bs) v)))
+        pub count-capped : many ≡ capped (length (branchesOf (sheetOf bs) (variable (sheetOf bs) v)))
         count-capped =
             counted .1 (variable (sheetOf bs) v .body) (variable (sheetOf bs) v .end) (rw start-is (stands .at))
             ∙ ap capped (count-is (dimension (headsOf bs)) (variable (sheetOf bs) v .body) ∙ ap length branches-are)
@@ -163,7 +163,7 @@ module _ (bs tab : List ℕ) (f : Formed bs tab) where
           low = low;
         }
 
-        body-is : many ≤ 64 → IsBody bs at n many (variable (sheetOf bs) v .body)
+        pub body-is : many ≤ 64 → IsBody bs at n many (variable (sheetOf bs) v .body)
         body-is low = record {
           end = variable (sheetOf bs) v .end;
           at = rw start-is (stands .at);
@@ -171,7 +171,7 @@ module _ (bs tab : List ℕ) (f : Formed bs tab) where
           count = let c = counted .1 (variable (sheetOf bs) v .body) (variable (sheetOf bs) v .end) (rw start-is (stands .at)) in omega arith;
         }
 
-        normal-is : bodyCase n (branchesOf (sheetOf bs) (variable (sheetOf bs) v)) ≡ normalBody (sheetOf bs) (variable (sheetOf bs) v)
+        pub normal-is : bodyCase n (branchesOf (sheetOf bs) (variable (sheetOf bs) v)) ≡ normalBody (sheetOf bs) (variable (sheetOf bs) v)
         normal-is = ap (λ k. bodyCase k (branchesOf (sheetOf bs) (variable (sheetOf bs) v))) dim-is
 
         module _ (nodes size : ℕ) where

@@ -7,3 +7,4 @@ pub mod Rows
 pub mod Spot
 pub mod Body
 pub mod Plan
+pub mod Stored

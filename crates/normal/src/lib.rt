@@ -7,6 +7,7 @@ mod node;
 
 mod rows;
 mod totals;
+mod write;
 
 // A branch of a case: where the child stands that it comes from, and which of the child's branches it is.
 pub struct Chosen {
