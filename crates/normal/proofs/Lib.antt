@@ -11,3 +11,4 @@ pub mod Routes
 pub mod Bodies
 pub mod Plans
 pub mod Storing
+pub mod Normalising

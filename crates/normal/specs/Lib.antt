@@ -8,3 +8,4 @@ pub mod Spot
 pub mod Body
 pub mod Plan
 pub mod Stored
+pub mod Planned
