@@ -53,8 +53,15 @@ module _ (m : Sheet.Map) (few : m .cols ≤ 4) (high : length (m .rows) ≤ 4) (
       length (nat 8 ++ nat (m .cols) ++ nat (length (m .rows)) ++ flat (map rowBytes (m .rows)) ++ (a ++ b)) ≤ 3104
   leaf-short a b x y =
       let front = nat 8 ++ nat (m .cols) ++ nat (length (m .rows)) in
-      omega (arith, length-append (front ++ flat (map rowBytes (m .rows))) (a ++ b), length-append front (flat (map rowBytes (m .rows))), length-append a b,
-      three-long 8 (m .cols) (length (m .rows)), rows-long (m .cols) (m .rows) wide, mul-le-mul-right (8 * m .cols + 8) high)
+      omega (
+        arith,
+        length-append (front ++ flat (map rowBytes (m .rows))) (a ++ b),
+        length-append front (flat (map rowBytes (m .rows))),
+        length-append a b,
+        three-long 8 (m .cols) (length (m .rows)),
+        rows-long (m .cols) (m .rows) wide,
+        mul-le-mul-right (8 * m .cols + 8) high,
+      )
 
   own-short : (t : Bool) (nd : Node) (l : ℕ) → ((d : ℕ) (cs : List Constraint) → nd ≡ nRestr d cs → length cs ≤ 64) → length (own t nd m l .out) ≤ 3104
   unfolding bytes
@@ -75,8 +82,13 @@ module _ (m : Sheet.Map) (few : m .cols ≤ 4) (high : length (m .rows) ≤ 4) (
   own-short false nIf l c = omega arith
   own-short false (nCase n) l c = omega arith
   own-short false (nRestr d cs) l c =
-      omega (arith, constraints-long (m .cols) (map (constraintAfter m) cs) (constraints-after-wide m cs wide), length-map cs (constraintAfter m),
-      mul-le-mul-right (16 + 8 * m .cols) (c d cs refl), ap (λ n. n * (16 + 8 * m .cols)) (length-map cs (constraintAfter m)))
+      omega (
+        arith,
+        constraints-long (m .cols) (map (constraintAfter m) cs) (constraints-after-wide m cs wide),
+        length-map cs (constraintAfter m),
+        mul-le-mul-right (16 + 8 * m .cols) (c d cs refl),
+        ap (λ n. n * (16 + 8 * m .cols)) (length-map cs (constraintAfter m)),
+      )
   own-short false (nDep f) l c = omega arith
 
 restr-given : (cs : List Constraint) (e : ℕ) → length cs ≤ e → (d : ℕ) (ds : List Constraint) (i : ℕ) → nRestr i cs ≡ nRestr d ds → length ds ≤ e
@@ -101,30 +113,42 @@ module _ (vars : ℕ) where
     part-short t (int c) m l b w f h r = omega (arith, own-short m f h r t (nInt c) l (no-restr (nInt c) (omega arith)))
     part-short t (boo c) m l b w f h r = omega (arith, own-short m f h r t (nBool c) l (no-restr (nBool c) (omega arith)))
     part-short t (un o a) m l b w f h r =
-        omega (arith, two-short (own t (nUnary o) m l) (partOf t a m (l + 1) b) 3104 (3104 * nodeCount a) (own-short m f h r t (nUnary o) l (no-restr (nUnary o) (omega arith)))
-        (part-short t a m (l + 1) b w f h r))
+        omega (
+          arith,
+          two-short (own t (nUnary o) m l) (partOf t a m (l + 1) b) 3104 (3104 * nodeCount a) (own-short m f h r t (nUnary o) l (no-restr (nUnary o) (omega arith)))
+              (part-short t a m (l + 1) b w f h r),
+        )
     part-short t (bin o x y) m l b w f h r =
         let i = b / countOf y in
         let j = b % countOf y in
-        omega (arith, two-short (own t (nBinary o) m l) (beside (partOf t x m (l + 1) i) (partOf t y m (l + 1) j)) 3104 (3104 * nodeCount x + 3104 * nodeCount y)
-        (own-short m f h r t (nBinary o) l (no-restr (nBinary o) (omega arith)))
-        (two-short (partOf t x m (l + 1) i) (partOf t y m (l + 1) j) (3104 * nodeCount x) (3104 * nodeCount y)
-        (part-short t x m (l + 1) i (w .0) f h r) (part-short t y m (l + 1) j (w .1) f h r)))
+        omega (
+          arith,
+          two-short (own t (nBinary o) m l) (beside (partOf t x m (l + 1) i) (partOf t y m (l + 1) j)) 3104 (3104 * nodeCount x + 3104 * nodeCount y)
+              (own-short m f h r t (nBinary o) l (no-restr (nBinary o) (omega arith)))
+              (two-short (partOf t x m (l + 1) i) (partOf t y m (l + 1) j) (3104 * nodeCount x) (3104 * nodeCount y)
+              (part-short t x m (l + 1) i (w .0) f h r) (part-short t y m (l + 1) j (w .1) f h r)),
+        )
     part-short t (ite x y z) m l b w f h r =
         let n = countOf y * countOf z in
         let i = b / n in
         let j = b % n / countOf z in
         let k = b % n % countOf z in
-        omega (arith, two-short (own t nIf m l) (beside (partOf t x m (l + 1) i) (beside (partOf t y m (l + 1) j) (partOf t z m (l + 1) k))) 3104
-        (3104 * nodeCount x + (3104 * nodeCount y + 3104 * nodeCount z)) (own-short m f h r t nIf l (no-restr nIf (omega arith)))
-        (two-short (partOf t x m (l + 1) i) (beside (partOf t y m (l + 1) j) (partOf t z m (l + 1) k)) (3104 * nodeCount x) (3104 * nodeCount y + 3104 * nodeCount z)
-        (part-short t x m (l + 1) i (w .0) f h r)
-        (two-short (partOf t y m (l + 1) j) (partOf t z m (l + 1) k) (3104 * nodeCount y) (3104 * nodeCount z) (part-short t y m (l + 1) j (w .1) f h r)
-        (part-short t z m (l + 1) k (w .2) f h r))))
+        omega (
+          arith,
+          two-short (own t nIf m l) (beside (partOf t x m (l + 1) i) (beside (partOf t y m (l + 1) j) (partOf t z m (l + 1) k))) 3104
+              (3104 * nodeCount x + (3104 * nodeCount y + 3104 * nodeCount z)) (own-short m f h r t nIf l (no-restr nIf (omega arith)))
+              (two-short (partOf t x m (l + 1) i) (beside (partOf t y m (l + 1) j) (partOf t z m (l + 1) k)) (3104 * nodeCount x) (3104 * nodeCount y + 3104 * nodeCount z)
+              (part-short t x m (l + 1) i (w .0) f h r)
+              (two-short (partOf t y m (l + 1) j) (partOf t z m (l + 1) k) (3104 * nodeCount y) (3104 * nodeCount z) (part-short t y m (l + 1) j (w .1) f h r)
+              (part-short t z m (l + 1) k (w .2) f h r))),
+        )
     part-short t (kase es) m l b w f h r = omega (arith, chosen-short t es m l b (w .2) f h r)
     part-short t (restr i cs a) m l b w f h r =
-        omega (arith, two-short (own t (nRestr i cs) m l) (partOf t a m l b) 3104 (3104 * nodeCount a)
-        (own-short m f h r t (nRestr i cs) l (λ j ds e. restr-given cs 64 (w .1) j ds i e)) (part-short t a m l b (w .3) f h r))
+        omega (
+          arith,
+          two-short (own t (nRestr i cs) m l) (partOf t a m l b) 3104 (3104 * nodeCount a)
+              (own-short m f h r t (nRestr i cs) l (λ j ds e. restr-given cs 64 (w .1) j ds i e)) (part-short t a m l b (w .3) f h r),
+        )
     part-short t (dep g a) m l b w f h r =
         omega (arith, part-short t a (mapAfter m g) l b (w .3) f (omega (arith, length-map (g .rows) (rowAfter m), w .1)) (rows-after-wide m (g .rows) r))
 
@@ -238,8 +262,12 @@ module _ (bs : List ℕ) (p n many : ℕ) (h : BodyAt bs p n many) where
 
     short : (t : Bool) → length (partOf t (h .tree) (identity n) 0 b .out) ≤ 3104 * 2048
     short t =
-        omega (arith, part-short (varsOf bs) t (h .tree) (identity n) 0 b (at-writable (varsOf bs) bs (h .tree) p (h .end) (h .at)) (h .narrow)
-        (omega (arith, h .narrow, rows-long-are bs p n many (h .tree) is-body b lt)) (idRows-wide n), mul-le-mul-left 3104 (h .few))
+        omega (
+          arith,
+          part-short (varsOf bs) t (h .tree) (identity n) 0 b (at-writable (varsOf bs) bs (h .tree) p (h .end) (h .at)) (h .narrow)
+              (omega (arith, h .narrow, rows-long-are bs p n many (h .tree) is-body b lt)) (idRows-wide n),
+          mul-le-mul-left 3104 (h .few),
+        )
 
     -- measured, there is always room
     pub measure-route : (t : Bool) → Route bs p 2048 m b t 0 0 (2 ^ 40)
@@ -295,8 +323,13 @@ module _ (bs : List ℕ) (p n many : ℕ) (h : BodyAt bs p n many) where
       tree-room : to + 24 + length (partOf false (h .tree) (identity n) 0 b .out) + length (partOf true (h .tree) (identity n) 0 b .out) ≤ min (2 ^ 40) (length l)
       tree-room =
           let x = branchIn bs (h .tree) b in
-          omega (arith, room (h .tree) is-body, written-long n x, ap (λ y. length (y .out)) (given-part bs p n many (h .tree) is-body b lt),
-          ap (λ y. length (y .out)) (tree-part bs p n many (h .tree) is-body b lt))
+          omega (
+            arith,
+            room (h .tree) is-body,
+            written-long n x,
+            ap (λ y. length (y .out)) (given-part bs p n many (h .tree) is-body b lt),
+            ap (λ y. length (y .out)) (tree-part bs p n many (h .tree) is-body b lt),
+          )
 
       module _ (a : List ℕ) (same : length a ≡ length l) where
         pub given-route : Route bs p 2048 m b false 0 (to + 24) (roomOf false a)
@@ -333,9 +366,10 @@ module _ (bs : List ℕ) (p n many : ℕ) (h : BodyAt bs p n many) where
               let front-cs = sets-after l to 24 front cs (three-long 7 n (length (x .given))) head-is mid in
               let next : given .to ≡ to + (24 + length cs) = omega arith in
               let last : d ≡ sets c (to + (24 + length cs)) (bytes (x .term)) = t .out-is ∙ ap (λ y. sets c (given .to) (y .out)) tp ∙ ap (λ k. sets c k (bytes (x .term))) next in
-              let front-long : length (front ++ cs) ≡ 24 + length cs = length-append front cs ∙ omega (arith, three-long 7 n (length (x .given))) in
-              (sets-after l to (24 + length cs) (front ++ cs) (bytes (x .term)) front-long front-cs last,
-              omega (arith, written-long n x))
+              let front-long : length (front ++ cs) ≡ 24 + length cs = length-append front cs ∙ omega (arith, three-long 7 n (length (x .given))) in (
+                sets-after l to (24 + length cs) (front ++ cs) (bytes (x .term)) front-long front-cs last,
+                omega (arith, written-long n x),
+              )
 
 -- ---- one branch after another
 
@@ -398,6 +432,7 @@ module _ (bs : List ℕ) (p n many b : ℕ) where
       store-more next r a d stored rest e i =
           let first = bytes (written n (branchIn bs e b)) in
           let others = allBytes (asExprs n (drop (b + 1) (branchesIn bs e))) in
-          let at = stored e i .1 in
-          (sets-after l to (length first) first others refl (stored e i .0) (rest e i .0 ∙ ap (λ k. sets a k others) at) ∙ ap (sets l to) (sym (cut e i)),
-          omega (arith, rest e i .1, at, long e i))
+          let at = stored e i .1 in (
+            sets-after l to (length first) first others refl (stored e i .0) (rest e i .0 ∙ ap (λ k. sets a k others) at) ∙ ap (sets l to) (sym (cut e i)),
+            omega (arith, rest e i .1, at, long e i),
+          )

@@ -88,31 +88,40 @@ counts-more false e es = refl
 module _ (bs : List ℕ) (p : ℕ) where
   pub node-way : (k n code sofar r : ℕ) → k ≡ nodeLen bs p → ((nd : Node) (q : ℕ) → node (varsOf bs) bs p ≡ got nd q → n ≡ arity nd) →
       code ≡ natAbs (field bs p) → sofar ≡ alone (eqb code 6) → CountsAll bs (p + k) n (eqb code 6) sofar r → Counts bs p r
-  node-way k n code sofar r long many is start h = (h .0, λ e q at.
-      let c = is ∙ tree-code bs p e q at in
-      h .1 (childrenOf e) q (children-at (varsOf bs) bs p k n long many e q at) (children-counted (varsOf bs) bs p k n long many e q at)
-      ∙ ap (λ x. capped (joined (eqb code 6) x (countsOf (eqb code 6) (childrenOf e)))) start
-      ∙ ap capped (alone-joined (eqb code 6) (countsOf (eqb code 6) (childrenOf e)))
-      ∙ ap (λ x. capped (countsOf (eqb x 6) (childrenOf e))) c
-      ∙ ap capped (sym (count-children e)))
+  node-way k n code sofar r long many is start h = (
+    h .0,
+    λ e q at.
+        let c = is ∙ tree-code bs p e q at in
+        h .1 (childrenOf e) q (children-at (varsOf bs) bs p k n long many e q at) (children-counted (varsOf bs) bs p k n long many e q at)
+        ∙ ap (λ x. capped (joined (eqb code 6) x (countsOf (eqb code 6) (childrenOf e)))) start
+        ∙ ap capped (alone-joined (eqb code 6) (countsOf (eqb code 6) (childrenOf e)))
+        ∙ ap (λ x. capped (countsOf (eqb x 6) (childrenOf e))) c
+        ∙ ap capped (sym (count-children e)),
+  )
 
   pub none-way : (many : ℕ) (t : Bool) (sofar : ℕ) → many < 1 → sofar ≤ 65 → CountsAll bs p many t sofar sofar
-  none-way many t sofar l low = (low, λ es q h m.
-      let x = allAt-none (varsOf bs) bs es p q h (omega arith) in
-      let cap : sofar ≡ capped sofar = omega arith in
-      cap ∙ ap capped (sym (joined-alone t sofar) ∙ ap (joined t sofar) (sym (counts-none t) ∙ ap (countsOf t) (sym (x .is)))))
+  none-way many t sofar l low = (
+    low,
+    λ es q h m.
+        let x = allAt-none (varsOf bs) bs es p q h (omega arith) in
+        let cap : sofar ≡ capped sofar = omega arith in
+        cap ∙ ap capped (sym (joined-alone t sofar) ∙ ap (joined t sofar) (sym (counts-none t) ∙ ap (countsOf t) (sym (x .is)))),
+  )
 
   pub more-way : (many : ℕ) (t : Bool) (sofar first next both r : ℕ) → 1 ≤ many → Counts bs p first →
       ((e : Expr) (q : ℕ) → At e (varsOf bs) bs p q → next ≡ q) → both ≡ capped (joined t sofar first) → CountsAll bs next (many - 1) t both r →
       CountsAll bs p many t sofar r
-  more-way many t sofar first next both r some one ends sum rest = (rest .0, λ es q h m.
-      let x = one-more (varsOf bs) bs es p q many some h m in
-      let here = ends (x .first) (x .middle) (x .before) in
-      rest .1 (x .rest) q (subst (λ i. AllAt (x .rest) (varsOf bs) bs i q) (sym here) (x .after)) (x .many)
-      ∙ ap (λ n. capped (joined t n (countsOf t (x .rest)))) (sum ∙ ap (λ n. capped (joined t sofar n)) (one .1 (x .first) (x .middle) (x .before)))
-      ∙ cap-joined t sofar (countOf (x .first)) (countsOf t (x .rest))
-      ∙ ap (λ n. capped (joined t sofar n)) (sym (counts-more t (x .first) (x .rest)))
-      ∙ ap (λ l. capped (joined t sofar (countsOf t l))) (sym (x .is)))
+  more-way many t sofar first next both r some one ends sum rest = (
+    rest .0,
+    λ es q h m.
+        let x = one-more (varsOf bs) bs es p q many some h m in
+        let here = ends (x .first) (x .middle) (x .before) in
+        rest .1 (x .rest) q (subst (λ i. AllAt (x .rest) (varsOf bs) bs i q) (sym here) (x .after)) (x .many)
+        ∙ ap (λ n. capped (joined t n (countsOf t (x .rest)))) (sum ∙ ap (λ n. capped (joined t sofar n)) (one .1 (x .first) (x .middle) (x .before)))
+        ∙ cap-joined t sofar (countOf (x .first)) (countsOf t (x .rest))
+        ∙ ap (λ n. capped (joined t sofar n)) (sym (counts-more t (x .first) (x .rest)))
+        ∙ ap (λ l. capped (joined t sofar (countsOf t l))) (sym (x .is)),
+  )
 
 -- ---- the ways through the choice
 

@@ -239,7 +239,6 @@ abbrev sizeIn : Answer Size → Size
 sizeIn (accepted z) = z
 sizeIn (refused i j) = record { nodes = 0; bytes = 0 }
 
-
 module _ (bs tab : List ℕ) (f : Formed bs tab) (v nodes size : ℕ) where
   -- the first of those from number v on
   pub split-variables : v < varsOf bs → drop v (sheetOf bs) ≡ variable (sheetOf bs) v ∷ drop (v + 1) (sheetOf bs)

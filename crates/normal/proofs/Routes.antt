@@ -65,9 +65,10 @@ composable n bs m bound (c ∷ cs) p w h r =
     let first = each-first n bs c cs p h in
     let low = leb-true (rowReach bound (c .row)) limit (&&-left (leb (rowReach bound (c .row)) limit) (allReach bound cs) r) in
     let reached = subst (λ x. rowReach (mapReach topReach (mapOf m .rows)) (x .row) ≤ limit) (constraint-is n bs p c first)
-    (le-trans (rowReach-more (c .row) w) low) in
-    (record { there = first .there; relation = first .relation .high; small = reached },
-    composable n bs m bound cs (p + (16 + 8 * n)) w (each-rest n bs c cs p h) (&&-right (leb (rowReach bound (c .row)) limit) (allReach bound cs) r))
+    (le-trans (rowReach-more (c .row) w) low) in (
+      record { there = first .there; relation = first .relation .high; small = reached },
+      composable n bs m bound cs (p + (16 + 8 * n)) w (each-rest n bs c cs p h) (&&-right (leb (rowReach bound (c .row)) limit) (allReach bound cs) r),
+    )
 
 module _ (bs : List ℕ) where
   module _ (p left : ℕ) (m : Map) (b : ℕ) (t : Bool) (level to room : ℕ) (h : Route bs p left m b t level to room) where
@@ -234,10 +235,11 @@ module _ (bs : List ℕ) where
           let r = restr-reaches x in
           let dim : x .dim ≡ m .height = eqb-true (x .dim) (m .height) (&&-left (eqb (x .dim) (m .height)) (fits (x .child) (headsOf bs) (m .height)) f) in
           let all = composable (x .dim) bs m (h .bound) (x .given) (p + 24) (h .carried .within) (λ i lt c. restr-constraint (x .fields) i lt c)
-          (&&-left (allReach (h .bound) (x .given)) (reach (x .child) (h .bound)) r) in
-          (sym (counted-is (x .fields .dim)) ∙ dim,
-          subst (λ i. AllComposable i bs (p + 24) (natAbs (field bs (p + 8))) m) (counted-is (x .fields .many))
-          (subst (λ i. AllComposable (length (x .given)) bs (p + 24) i m) (counted-is (x .fields .dim)) all))
+          (&&-left (allReach (h .bound) (x .given)) (reach (x .child) (h .bound)) r) in (
+            sym (counted-is (x .fields .dim)) ∙ dim,
+            subst (λ i. AllComposable i bs (p + 24) (natAbs (field bs (p + 8))) m) (counted-is (x .fields .many))
+                (subst (λ i. AllComposable (length (x .given)) bs (p + 24) i m) (counted-is (x .fields .dim)) all),
+          )
         where
           restr-fits : (x : RestrAt (h .tree) (varsOf bs) bs p (h .end)) → eqb (x .dim) (m .height) && fits (x .child) (headsOf bs) (m .height) ≡ true
           restr-fits x = unfold fits in rw (x .is) at (h .fitting)
@@ -293,8 +295,11 @@ module _ (bs : List ℕ) where
         visited-things low = things-low dry pen out (own t (nodeOf (h .tree)) (mapOf m) level) first-wrote low (own-things t (nodeOf (h .tree)) (mapOf m) level)
 
         pub route-many : n ≤ 64
-        route-many = omega (arith, many (nodeOf (h .tree)) (p + nodeLen bs p) (at-got (varsOf bs) bs (h .tree) p (h .end) (h .at)),
-            arity-few (varsOf bs) bs p (nodeOf (h .tree)) (at-node (varsOf bs) bs (h .tree) p (h .end) (h .at)))
+        route-many = omega (
+          arith,
+          many (nodeOf (h .tree)) (p + nodeLen bs p) (at-got (varsOf bs) bs (h .tree) p (h .end) (h .at)),
+          arity-few (varsOf bs) bs p (nodeOf (h .tree)) (at-node (varsOf bs) bs (h .tree) p (h .end) (h .at)),
+        )
 
   -- ---- so many operands
 

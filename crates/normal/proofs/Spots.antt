@@ -259,8 +259,12 @@ limits-many (c ∷ cs) =
 
 leaf-many : (m : Sheet.Map) (e : List ℕ) → 2 ≤ length (mapBytes m ++ e)
 leaf-many m e =
-    omega (arith, length-append (mapBytes m) e, length-append (nat 8 ++ nat (m .cols) ++ nat (length (m .rows))) (flat (map rowBytes (m .rows))),
-    three-long 8 (m .cols) (length (m .rows)))
+    omega (
+      arith,
+      length-append (mapBytes m) e,
+      length-append (nat 8 ++ nat (m .cols) ++ nat (length (m .rows))) (flat (map rowBytes (m .rows))),
+      three-long 8 (m .cols) (length (m .rows)),
+    )
 
 pub own-things : (t : Bool) (nd : Node) (m : Sheet.Map) (l : ℕ) → own t nd m l .things ≤ length (own t nd m l .out)
 unfolding bytes

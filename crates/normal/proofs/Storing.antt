@@ -59,9 +59,10 @@ module _ (bs tab : List ℕ) (v : ℕ) (h : Writes bs tab v) (at n : ℕ) (place
   pub body-stored : (l : List ℕ) (to : ℕ) {a b d : List ℕ} {r : ℕ} → a ≡ sets l to (nat 6) → b ≡ sets a (to + 8) (nat many) → StoresFrom bs at n many 0 (to + 16) b d r → Stored (bodyOf bs v) to l d r
   body-stored l to first second rest =
       let tail = allBytes (asExprs n (branchesIn bs (variable (sheetOf bs) v .body))) in
-      let stored = rest (variable (sheetOf bs) v .body) here in
-      (sets-after l to 16 (nat 6 ++ nat many) tail (two-long 6 many) (sets-after l to 8 (nat 6) (nat many) (length-nat 6) first second) (stored .0) ∙ ap (sets l to) (sym body-cut),
-      omega (arith, stored .1, body-long))
+      let stored = rest (variable (sheetOf bs) v .body) here in (
+        sets-after l to 16 (nat 6 ++ nat many) tail (two-long 6 many) (sets-after l to 8 (nat 6) (nat many) (length-nat 6) first second) (stored .0) ∙ ap (sets l to) (sym body-cut),
+        omega (arith, stored .1, body-long),
+      )
 
   pub head-room : (l : List ℕ) (to : ℕ) → Room (bodyOf bs v) to l → (to + 16 ≤ 2 ^ 40) × (to + 16 ≤ length l)
   head-room l to room = (omega (arith, room, body-long), omega (arith, room, body-long))
@@ -117,7 +118,8 @@ module _ (bs tab : List ℕ) (v : ℕ) (h : WritesFrom bs tab v) where
           omega (arith, room, long, stored .1)
 
       pub more-stored : (l : List ℕ) (to next : ℕ) {a d : List ℕ} {r : ℕ} → Stored (bodyOf bs v) to l a next → Stored (bodiesFrom bs (v + 1)) next a d r → Stored (bodiesFrom bs v) to l d r
-      more-stored l to next {a} first rest =
-          (sets-after l to (length (bodyOf bs v)) (bodyOf bs v) (bodiesFrom bs (v + 1)) refl (first .0) (rest .0 ∙ ap (λ k. sets a k (bodiesFrom bs (v + 1))) (first .1))
-          ∙ ap (sets l to) (sym cut),
-          omega (arith, first .1, rest .1, long))
+      more-stored l to next {a} first rest = (
+        sets-after l to (length (bodyOf bs v)) (bodyOf bs v) (bodiesFrom bs (v + 1)) refl (first .0) (rest .0 ∙ ap (λ k. sets a k (bodiesFrom bs (v + 1))) (first .1))
+            ∙ ap (sets l to) (sym cut),
+        omega (arith, first .1, rest .1, long),
+      )

@@ -2,10 +2,11 @@
 use super::Pen;
 use super::Taken;
 use super::follow::follow;
+use super::node::larger;
 use affine::identity;
 use integer::put_nat;
 ghost use mathlib.Core.Path.{_≡_};
-ghost use Prim.Native.Nat.{_+_, _*_, _^_, _≤_, _<_, max, min};
+ghost use Prim.Native.Nat.{_+_, _*_, _^_, _≤_, _<_, min};
 ghost use lib.ListN.{length};
 ghost use Rattle.normal.specs.Body as Body;
 
@@ -29,12 +30,6 @@ fn measure(s: &[u8], at: usize, n: usize, many: usize, b: usize) -> Taken
         limits: given.things,
         deep: term.deep,
     }
-}
-
-fn larger(a: usize, b: usize) -> usize
-    ensures { λ r. ⌜ r ≡ max a b ⌝ }
-{
-    if a < b { b } else { a }
 }
 
 fn both(a: Taken, b: Taken) -> Taken
@@ -64,7 +59,15 @@ pub fn measure_from(s: &[u8], at: usize, n: usize, many: usize, b: usize, sofar:
 }
 
 // Branch b: a restriction with its constraints, above its tree.
-fn put_branch(s: &[u8], at: usize, n: usize, many: usize, b: usize, out: &mut [u8], to: usize) -> usize
+fn put_branch(
+    s: &[u8],
+    at: usize,
+    n: usize,
+    many: usize,
+    b: usize,
+    out: &mut [u8],
+    to: usize,
+) -> usize
     requires { ⌜ Body.BodyAt (now s) at n many × (b < many) × Body.RoomFor (now s) at n many b to (min (2 ^ 40) (length (now out))) ⌝ }
     ensures { λ r. ⌜ Body.StoresBranch (now (s .entry)) at n many b to (now (out .entry)) (now (out .exit)) r ⌝ }
 {
@@ -89,7 +92,15 @@ fn put_branch(s: &[u8], at: usize, n: usize, many: usize, b: usize, out: &mut [u
 }
 
 // The branches from number b on, one after another.
-pub fn put_from(s: &[u8], at: usize, n: usize, many: usize, b: usize, out: &mut [u8], to: usize) -> usize
+pub fn put_from(
+    s: &[u8],
+    at: usize,
+    n: usize,
+    many: usize,
+    b: usize,
+    out: &mut [u8],
+    to: usize,
+) -> usize
     requires { ⌜ Body.BodyAt (now s) at n many × (b ≤ many) × Body.RoomFrom (now s) at n many b to (min (2 ^ 40) (length (now out))) ⌝ }
     ensures { λ r. ⌜ Body.StoresFrom (now (s .entry)) at n many b to (now (out .entry)) (now (out .exit)) r ⌝ }
 {

@@ -45,11 +45,25 @@ pub fn count(s: &[u8], at: usize, left: usize) -> usize
 {
     let branches = natural(s, at) == 6;
     let next = at + node_len(s, at);
-    count_all(s, next, left - 1, children(s, at), branches, alone(branches))
+    count_all(
+        s,
+        next,
+        left - 1,
+        children(s, at),
+        branches,
+        alone(branches),
+    )
 }
 
 // `many` trees one after another, children of a case or operands, after others of which there are `sofar`.
-pub fn count_all(s: &[u8], at: usize, left: usize, many: usize, branches: bool, sofar: usize) -> usize
+pub fn count_all(
+    s: &[u8],
+    at: usize,
+    left: usize,
+    many: usize,
+    branches: bool,
+    sofar: usize,
+) -> usize
     requires { ⌜ StandingAll (varsOf (now s)) (now s) at left many × (left ≤ 2048) × (many ≤ 64) × (sofar ≤ 65) ⌝ }
     ensures { λ r. ⌜ CountsAll (now (s .entry)) at many branches sofar r ⌝ }
 {
@@ -58,5 +72,12 @@ pub fn count_all(s: &[u8], at: usize, left: usize, many: usize, branches: bool, 
     }
     let first = count(s, at, left);
     let next = skip(s, at, left);
-    count_all(s, next, left, many - 1, branches, joined(branches, sofar, first))
+    count_all(
+        s,
+        next,
+        left,
+        many - 1,
+        branches,
+        joined(branches, sofar, first),
+    )
 }

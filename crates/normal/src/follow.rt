@@ -89,5 +89,17 @@ fn follow_all(
     let next = skip(s, at, left);
     let n = count_all(s, next, left, many - 1, false, 1);
     let after = follow(s, at, left, b / n, m, tree, dry, level, out, pen);
-    follow_all(s, next, left, many - 1, b % n, m, tree, dry, level, out, after)
+    follow_all(
+        s,
+        next,
+        left,
+        many - 1,
+        b % n,
+        m,
+        tree,
+        dry,
+        level,
+        out,
+        after,
+    )
 }

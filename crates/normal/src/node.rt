@@ -148,7 +148,7 @@ fn size_of(s: &[u8], at: usize, m: Map, tree: bool, level: usize) -> Pen
     }
 }
 
-fn larger(a: usize, b: usize) -> usize
+pub fn larger(a: usize, b: usize) -> usize
     ensures { λ r. ⌜ r ≡ max a b ⌝ }
 {
     if a < b { b } else { a }
@@ -168,7 +168,16 @@ fn moved(pen: Pen, size: Pen) -> Pen
 }
 
 // What the node at `at` gives to the tree or to the constraints, below `level` nodes of the tree: measured, or stored at the pen.
-pub fn visit(s: &[u8], at: usize, m: Map, tree: bool, dry: bool, level: usize, out: &mut [u8], pen: Pen) -> Pen
+pub fn visit(
+    s: &[u8],
+    at: usize,
+    m: Map,
+    tree: bool,
+    dry: bool,
+    level: usize,
+    out: &mut [u8],
+    pen: Pen,
+) -> Pen
     requires { ⌜ Spot (now s) at m tree (pen .to) (roomOf dry (now out)) × (level ≤ 4096) × (pen .things ≤ pen .to) ⌝ }
     ensures { λ r. ⌜ Visits (now (s .entry)) at m tree level dry pen (now (out .entry)) (now (out .exit)) r ⌝ }
 {

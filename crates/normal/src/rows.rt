@@ -76,7 +76,15 @@ fn put_constraint(s: &[u8], at: usize, n: usize, m: Map, out: &mut [u8], to: usi
 }
 
 // `count` of them one after another.
-pub fn put_constraints(s: &[u8], at: usize, count: usize, n: usize, m: Map, out: &mut [u8], to: usize)
+pub fn put_constraints(
+    s: &[u8],
+    at: usize,
+    count: usize,
+    n: usize,
+    m: Map,
+    out: &mut [u8],
+    to: usize,
+)
     requires { ⌜ Neat m × (n ≡ m .height) × AllComposable count (now s) at n m × (to + count * (16 + 8 * m .width) ≤ length (now out)) ⌝ }
     ensures { λ _. ⌜ now (out .exit) ≡ sets (now (out .entry)) to (flat (map constraintBytes (map (constraintAfter (mapOf m)) (constraintsFields count n (now (s .entry)) at)))) ⌝ }
 {

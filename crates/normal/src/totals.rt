@@ -59,10 +59,7 @@ pub fn plan_from(s: &[u8], tab: &[usize; 102], v: usize, nodes: usize, size: usi
     ensures { λ r. ⌜ PlansFrom (now (s .entry)) v nodes size r ⌝ }
 {
     if variable_count(tab) <= v {
-        return Plan::Total {
-            nodes,
-            bytes: size,
-        };
+        return Plan::Total { nodes, bytes: size };
     }
     if kind_of(s, tab, v) == 0 {
         return plan_from(s, tab, v + 1, nodes, size);

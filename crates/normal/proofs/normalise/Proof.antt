@@ -32,9 +32,12 @@ add-plan-from c =
 plan-from-requires : tie.Need-plan-from-requires
 plan-from-requires c κs =
     let admitted = c .before .before .before .before .before .admit .ensures .admitted _ (c .before .before .before .enum-told .given .1) in
-    let third = c .third-place .ensures ∙ admitted .formed .placed .prepared .table .third in
-    (admitted .formed, omega arith, omega arith,
-    omega (arith, third, front-there _ _ (admitted .formed) (admitted .sheet-is), prepared-read _ _ (admitted .formed .placed .prepared) .short))
+    let third = c .third-place .ensures ∙ admitted .formed .placed .prepared .table .third in (
+      admitted .formed,
+      omega arith,
+      omega arith,
+      omega (arith, third, front-there _ _ (admitted .formed) (admitted .sheet-is), prepared-read _ _ (admitted .formed .placed .prepared) .short),
+    )
 
 enum-known-plan : tie.Need-enum-known-plan
 enum-known-plan c = search needs

@@ -1,3 +1,4 @@
+-- `normal::measure_from` meets its contract: a branch, and then those after it. Assumes nothing.
 use borrow.Fn.Kinds.{In}
 use borrow.Fn.PlainCycle.{Measures, is, falls, and}
 use Rattle.normal.proofs.body.measure_from.Reads as measure-from
@@ -28,10 +29,8 @@ measure-from-below t =
     (falls 1 measure-from-kinds.ps _<_ μ-measure-from t)
     measure-from.Pre
 
-
 abbrev measure-from-uses : ℕ → measure-from-lts.Claims
 measure-from-uses t = (measure-reads.Asked, measure-reads.Learnt, both-reads.Asked, both-reads.Learnt, measure-from-below t, measure-from.Post)
-
 
 measure-from-returns : (t : ℕ) → measure-from-lts.Need-returns (measure-from-uses t) (measure-from-at t) measure-from.Post
 measure-from-returns t c =
@@ -62,7 +61,7 @@ measure-from-measure-from-requires t c κs =
     (omega arith, (s .pre .1 .0, omega arith, omega (arith, took .few-bytes, s .pre .1 .2), omega (arith, took .few-nodes, s .pre .1 .3)))
 
 measure-from-returns-2 : (t : ℕ) → measure-from-lts.Need-returns-2 (measure-from-uses t) (measure-from-at t) measure-from.Post
-measure-from-returns-2 t c =     measure-more _ _ _ _ _ (c .before .before .before .before .before .args .sofar) (c .before .before .measure .result) _ _ (c .before .before .before .if1 .left) (c .before .before .measure .ensures) (c .before .both .ensures) (c .measure-from .ensures)
+measure-from-returns-2 t c = measure-more _ _ _ _ _ (c .before .before .before .before .before .args .sofar) (c .before .before .measure .result) _ _ (c .before .before .before .if1 .left) (c .before .before .measure .ensures) (c .before .both .ensures) (c .measure-from .ensures)
 
 pub +measure-from-spec : {M : Type 1} → statement M
 +measure-from-spec = close μ-measure-from λ t. measure-from-lts.spec (measure-from-uses t) (measure-from-at t)

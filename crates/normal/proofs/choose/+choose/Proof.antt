@@ -1,3 +1,4 @@
+-- `normal::choose` meets its contract: the branches of the first child come first. Assumes nothing.
 use borrow.Fn.Kinds.{In}
 use borrow.Fn.PlainCycle.{Measures, is, falls, and}
 use Rattle.normal.proofs.choose.choose.Reads as choose
@@ -21,7 +22,6 @@ choose-at t = and 1 choose-kinds.ps (is 1 choose-kinds.ps μ-choose t) choose.Pr
 
 abbrev choose-below : ℕ → In 1 choose-kinds.ps
 choose-below t = and 1 choose-kinds.ps (falls 1 choose-kinds.ps _<_ μ-choose t) choose.Pre
-
 
 abbrev choose-uses : ℕ → choose-lts.Claims
 choose-uses t = (count-reads.Asked, count-reads.Learnt, skip-reads.Asked, skip-reads.Learnt, choose-below t, choose.Post)
@@ -51,7 +51,7 @@ choose-choose-requires t c κs =
     (omega arith, (children-rest _ _ _ _ _ h _ (c .before .before .count .ensures) (c .before .if1 .left) _ (c .skip .ensures), s .pre .1 .1))
 
 choose-returns-2 : (t : ℕ) → choose-lts.Need-returns-2 (choose-uses t) (choose-at t) choose.Post
-choose-returns-2 t c =     later-way _ _ _ _ _ (c .before .before .before .before .before .pre .1 .0) _ (c .before .before .before .count .ensures) (c .before .before .if1 .left) _ _ (c .before .skip .ensures) (c .choose .ensures)
+choose-returns-2 t c = later-way _ _ _ _ _ (c .before .before .before .before .before .pre .1 .0) _ (c .before .before .before .count .ensures) (c .before .before .if1 .left) _ _ (c .before .skip .ensures) (c .choose .ensures)
 
 pub +choose-spec : {M : Type 1} → statement M
 +choose-spec = close μ-choose λ t. choose-lts.spec (choose-uses t) (choose-at t)

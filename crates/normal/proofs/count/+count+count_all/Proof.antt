@@ -1,3 +1,4 @@
+-- `normal::count` and `normal::count_all` meet their contracts: a tree has as many branches as its node says of its children. Assumes nothing.
 use borrow.Fn.Kinds.{In}
 use borrow.Fn.PlainCycle.{Measures, is, falls, and}
 use Rattle.normal.proofs.count.count.Reads as count
@@ -42,7 +43,6 @@ abbrev count-all-below : ℕ → In 1 count-all-kinds.ps
 count-all-below t =
     and 1 count-all-kinds.ps (falls 1 count-all-kinds.ps _<_ μ-count-all t) count-all.Pre
 
-
 abbrev count-uses : ℕ → count-lts.Claims
 count-uses t = (natural-reads.Asked, natural-reads.Learnt, node-len-reads.Asked, node-len-reads.Learnt, children-reads.Asked, children-reads.Learnt, alone-reads.Asked, alone-reads.Learnt, count-all-below t, count-all.Post)
 
@@ -80,7 +80,7 @@ count-count-all-requires t c κs =
     (omega arith, (standing-children _ _ _ _ h _ _ long many, omega (arith, s .pre .1 .1), few, alone-low (eqb (c .before .before .before .natural .result) 6) _ start))
 
 count-returns : (t : ℕ) → count-lts.Need-returns (count-uses t) (count-at t) count.Post
-count-returns t c =     node-way _ _ _ _ _ _ _ (c .before .before .before .node-len .ensures) (c .before .before .children .ensures) (c .before .before .before .before .natural .ensures) (c .before .alone .ensures) (c .count-all .ensures)
+count-returns t c = node-way _ _ _ _ _ _ _ (c .before .before .before .node-len .ensures) (c .before .before .children .ensures) (c .before .before .before .before .natural .ensures) (c .before .alone .ensures) (c .count-all .ensures)
 
 count-all-returns : (t : ℕ) → count-all-lts.Need-returns (count-all-uses t) (count-all-at t) count-all.Post
 count-all-returns t c = none-way _ _ _ (c .before .before .args .branches) _ (c .if1 .taken) (c .before .before .pre .1 .3)
@@ -106,7 +106,7 @@ count-all-count-all-requires t c κs =
     (omega arith, (rest-standing _ _ _ _ _ some (s .pre .1 .0) _ (c .before .skip .ensures), s .pre .1 .1, omega (arith, s .pre .1 .2), omega (arith, c .joined .ensures)))
 
 count-all-returns-2 : (t : ℕ) → count-all-lts.Need-returns-2 (count-all-uses t) (count-all-at t) count-all.Post
-count-all-returns-2 t c =     more-way _ _ _ (c .before .before .before .before .before .before .args .branches) (c .before .before .before .before .before .before .args .sofar) _ _ _ _ (c .before .before .before .before .if1 .left) (c .before .before .before .count .ensures) (c .before .before .skip .ensures) (c .before .joined .ensures) (c .count-all .ensures)
+count-all-returns-2 t c = more-way _ _ _ (c .before .before .before .before .before .before .args .branches) (c .before .before .before .before .before .before .args .sofar) _ _ _ _ (c .before .before .before .before .if1 .left) (c .before .before .before .count .ensures) (c .before .before .skip .ensures) (c .before .joined .ensures) (c .count-all .ensures)
 
 pub +count+count-all-spec : {M : Type 1} → statement M
 +count+count-all-spec = close μ-count μ-count-all (λ t. count-lts.spec (count-uses t) (count-at t)

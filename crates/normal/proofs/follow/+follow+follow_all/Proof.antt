@@ -1,3 +1,4 @@
+-- `normal::follow` and `normal::follow_all` meet their contracts: a case, a dependence, any other node; operands one after another. Assumes nothing.
 use borrow.Fn.Kinds.{In}
 use borrow.Fn.PlainCycle.{Measures, is, falls, and}
 use Rattle.normal.proofs.follow.follow.Reads as follow
@@ -52,13 +53,11 @@ abbrev follow-all-below : ℕ → In 2 follow-all-kinds.ps
 follow-all-below t =
     and 2 follow-all-kinds.ps (falls 2 follow-all-kinds.ps _<_ μ-follow-all t) follow-all.Pre
 
-
 abbrev follow-uses : ℕ → follow-lts.Claims
 follow-uses t = (natural-reads.Asked, natural-reads.Learnt, node-len-reads.Asked, node-len-reads.Learnt, children-reads.Asked, children-reads.Learnt, choose-reads.Asked, choose-reads.Learnt, follow-below t, follow.Post, map-read-reads.Asked, map-read-reads.Learnt, compose-reads.Asked, compose-reads.Learnt, visit-reads.Asked, visit-reads.Learnt, level-below-reads.Asked, level-below-reads.Learnt, follow-all-below t, follow-all.Post)
 
 abbrev follow-all-uses : ℕ → follow-all-lts.Claims
 follow-all-uses t = (skip-reads.Asked, skip-reads.Learnt, count-all-reads.Asked, count-all-reads.Learnt, follow-below t, follow.Post, follow-all-below t, follow-all.Post)
-
 
 -- the node
 noded : (t : ℕ) (c : follow-lts.Start (follow-uses t) (follow-at t) follow.Post) → Noded (varsOf (c .args .s .now)) (c .args .s .now) (c .args .at)
@@ -97,9 +96,15 @@ follow-follow-requires t c κs =
     let s = c .before .before .before .before .before .before .before .before in
     let six = sym (c .before .before .before .before .before .natural .ensures) ∙ c .before .before .if1 .taken in
     let left = some t s in
-    let is = s .pre .0 in
-    (omega arith, (route-chosen _ _ _ _ _ _ _ _ _ (s .pre .1 .0) six _ _ (c .before .before .before .before .node-len .ensures) (c .before .before .before .children .ensures) _ (c .before .choose .ensures),
-    omega (arith, s .pre .1 .1), omega (arith, s .pre .1 .2), s .pre .1 .3))
+    let is = s .pre .0 in (
+      omega arith,
+      (
+        route-chosen _ _ _ _ _ _ _ _ _ (s .pre .1 .0) six _ _ (c .before .before .before .before .node-len .ensures) (c .before .before .before .children .ensures) _ (c .before .choose .ensures),
+        omega (arith, s .pre .1 .1),
+        omega (arith, s .pre .1 .2),
+        s .pre .1 .3,
+      ),
+    )
 
 follow-same-length : (t : ℕ) → follow-lts.Need-same-length (follow-uses t) (follow-at t) follow.Post
 follow-same-length t c = search needs
@@ -134,9 +139,15 @@ follow-follow-requires-2 t c κs =
     let read = c .before .before .map-read .ensures in
     let w = c .before .compose .ensures in
     let left = some t s in
-    let is = s .pre .0 in
-    (omega arith, (route-below _ _ _ _ _ _ _ _ _ (s .pre .1 .0) eight _ read _ (c .before .before .before .before .before .before .node-len .ensures) _ (w .0) (w .1) (w .2),
-    omega (arith, s .pre .1 .1), omega (arith, s .pre .1 .2), s .pre .1 .3))
+    let is = s .pre .0 in (
+      omega arith,
+      (
+        route-below _ _ _ _ _ _ _ _ _ (s .pre .1 .0) eight _ read _ (c .before .before .before .before .before .before .node-len .ensures) _ (w .0) (w .1) (w .2),
+        omega (arith, s .pre .1 .1),
+        omega (arith, s .pre .1 .2),
+        s .pre .1 .3,
+      ),
+    )
 
 follow-same-length-2 : (t : ℕ) → follow-lts.Need-same-length-2 (follow-uses t) (follow-at t) follow.Post
 follow-same-length-2 t c = search needs
@@ -180,9 +191,16 @@ follow-follow-all-requires t c κs =
     let left = some t s in
     let is = s .pre .0 in
     let few = route-many _ _ _ _ _ _ _ _ _ h not-six not-eight _ _ long many _ (λ nd e. below .0 nd (e ∙ sym code)) _ _ _ _ _ refl visited in
-    let things = visited-things _ _ _ _ _ _ _ _ _ h not-six not-eight _ _ long many _ (λ nd e. below .0 nd (e ∙ sym code)) _ _ _ _ _ refl visited (s .pre .1 .3) in
-    (omega arith, (route-after _ _ _ _ _ _ _ _ _ h not-six not-eight _ _ long many _ (λ nd e. below .0 nd (e ∙ sym code)) _ _ _ _ _ refl visited refl,
-    omega (arith, s .pre .1 .1), omega (arith, s .pre .1 .2, below .1), few, things))
+    let things = visited-things _ _ _ _ _ _ _ _ _ h not-six not-eight _ _ long many _ (λ nd e. below .0 nd (e ∙ sym code)) _ _ _ _ _ refl visited (s .pre .1 .3) in (
+      omega arith,
+      (
+        route-after _ _ _ _ _ _ _ _ _ h not-six not-eight _ _ long many _ (λ nd e. below .0 nd (e ∙ sym code)) _ _ _ _ _ refl visited refl,
+        omega (arith, s .pre .1 .1),
+        omega (arith, s .pre .1 .2, below .1),
+        few,
+        things,
+      ),
+    )
 
 follow-same-length-3 : (t : ℕ) → follow-lts.Need-same-length-3 (follow-uses t) (follow-at t) follow.Post
 follow-same-length-3 t c = search needs
@@ -212,17 +230,23 @@ follow-all-count-all-requires t c κs =
     (rest-standing _ _ _ _ _ more (operands-standing _ _ _ _ _ _ _ _ _ _ more (s .pre .1 .0)) _ (c .skip .ensures), s .pre .1 .1, omega (arith, s .pre .1 .3), omega arith)
 
 follow-all-div-follow : (t : ℕ) → follow-all-lts.Need-div-follow (follow-all-uses t) (follow-all-at t) follow-all.Post
-follow-all-div-follow t c =     omega (arith, count-some _ _ _ _ _ _ _ _ _ _ (c .before .before .if1 .left) (c .before .before .before .before .before .pre .1 .0) _ _ (c .before .skip .ensures) (c .count-all .ensures))
+follow-all-div-follow t c = omega (arith, count-some _ _ _ _ _ _ _ _ _ _ (c .before .before .if1 .left) (c .before .before .before .before .before .pre .1 .0) _ _ (c .before .skip .ensures) (c .count-all .ensures))
 
 follow-all-follow-requires : (t : ℕ) → follow-all-lts.Need-follow-requires (follow-all-uses t) (follow-all-at t) follow-all.Post
 follow-all-follow-requires t c κs =
     let s = c .before .before .before .before .before .before in
-    let is = s .pre .0 in
-    (omega arith, (route-first _ _ _ _ _ _ _ _ _ _ (c .before .before .before .if1 .left) (s .pre .1 .0) _ _ (c .before .before .skip .ensures) (c .before .count-all .ensures),
-    s .pre .1 .1, s .pre .1 .2, s .pre .1 .4))
+    let is = s .pre .0 in (
+      omega arith,
+      (
+        route-first _ _ _ _ _ _ _ _ _ _ (c .before .before .before .if1 .left) (s .pre .1 .0) _ _ (c .before .before .skip .ensures) (c .before .count-all .ensures),
+        s .pre .1 .1,
+        s .pre .1 .2,
+        s .pre .1 .4,
+      ),
+    )
 
 follow-all-rem-follow-all : (t : ℕ) → follow-all-lts.Need-rem-follow-all (follow-all-uses t) (follow-all-at t) follow-all.Post
-follow-all-rem-follow-all t c =     omega (arith, count-some _ _ _ _ _ _ _ _ _ _ (c .before .before .before .before .before .before .if1 .left) (c .before .before .before .before .before .before .before .before .before .pre .1 .0) _ _ (c .before .before .before .before .before .skip .ensures) (c .before .before .before .before .count-all .ensures))
+follow-all-rem-follow-all t c = omega (arith, count-some _ _ _ _ _ _ _ _ _ _ (c .before .before .before .before .before .before .if1 .left) (c .before .before .before .before .before .before .before .before .before .pre .1 .0) _ _ (c .before .before .before .before .before .skip .ensures) (c .before .before .before .before .count-all .ensures))
 
 follow-all-follow-all-requires : (t : ℕ) → follow-all-lts.Need-follow-all-requires (follow-all-uses t) (follow-all-at t) follow-all.Post
 follow-all-follow-all-requires t c κs =
@@ -232,9 +256,16 @@ follow-all-follow-all-requires t c κs =
     let ends = c .before .before .before .before .before .before .skip .ensures in
     let counted = c .before .before .before .before .before .count-all .ensures in
     let followed = c .before .before .before .follow .ensures in
-    let is = s .pre .0 in
-    (omega arith, (route-next _ _ _ _ _ _ _ _ _ _ more h _ _ ends counted _ _ _ _ _ refl followed refl, s .pre .1 .1, s .pre .1 .2, omega (arith, s .pre .1 .3),
-    followed-things _ _ _ _ _ _ _ _ _ _ more h _ _ ends counted _ _ _ _ _ refl followed (s .pre .1 .4)))
+    let is = s .pre .0 in (
+      omega arith,
+      (
+        route-next _ _ _ _ _ _ _ _ _ _ more h _ _ ends counted _ _ _ _ _ refl followed refl,
+        s .pre .1 .1,
+        s .pre .1 .2,
+        omega (arith, s .pre .1 .3),
+        followed-things _ _ _ _ _ _ _ _ _ _ more h _ _ ends counted _ _ _ _ _ refl followed (s .pre .1 .4),
+      ),
+    )
 
 follow-all-same-length : (t : ℕ) → follow-all-lts.Need-same-length (follow-all-uses t) (follow-all-at t) follow-all.Post
 follow-all-same-length t c = search needs

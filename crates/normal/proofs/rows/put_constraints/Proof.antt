@@ -77,9 +77,12 @@ loop-again c =
     let s = c .before .before .before .before .before .before .before .before .before in
     let l = c .before .before .before .before .before .loop in
     let more = c .before .before .before .before .loop-test .taken in
-    let put = c .before .before .put-constraint .ensures in
-    (limits-again _ _ _ (s .args .m) _ more _ _ put ∙ l .inv .0, ap length put ∙ length-sets (l .out) (l .p) (stored (s .args .m) (s .args .n) (s .args .s .now) (l .from)) ∙ l .inv .1, composable-rest _ _ _ _ _ more (l .inv .2),
-    one-less (l .p) (l .left) (16 + 8 * s .args .m .width) _ more (l .inv .3))
+    let put = c .before .before .put-constraint .ensures in (
+      limits-again _ _ _ (s .args .m) _ more _ _ put ∙ l .inv .0,
+      ap length put ∙ length-sets (l .out) (l .p) (stored (s .args .m) (s .args .n) (s .args .s .now) (l .from)) ∙ l .inv .1,
+      composable-rest _ _ _ _ _ more (l .inv .2),
+      one-less (l .p) (l .left) (16 + 8 * s .args .m .width) _ more (l .inv .3),
+    )
 
 same-length : tie.Need-same-length Inv-loop μ-loop
 same-length c = search needs

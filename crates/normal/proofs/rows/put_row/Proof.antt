@@ -59,9 +59,12 @@ loop-again c =
     let l = c .before .before .before .before .before .before .loop in
     let put = c .before .before .put in
     let f = coefficient (s .args .r .coef) in
-    let more = c .before .before .before .before .before .loop-test .taken in
-    (run-again (s .args .n) f (l .out) _ (l .p) (l .j) 8 (num (s .args .r .constant .v)) more (put .ensures) (length-num (at (s .args .r .coef) (l .j))) ∙ l .inv .0,
-    ap length (put .ensures) ∙ length-sets (l .out) (l .p) (num (at (s .args .r .coef) (l .j))) ∙ l .inv .1, omega arith, omega arith)
+    let more = c .before .before .before .before .before .loop-test .taken in (
+      run-again (s .args .n) f (l .out) _ (l .p) (l .j) 8 (num (s .args .r .constant .v)) more (put .ensures) (length-num (at (s .args .r .coef) (l .j))) ∙ l .inv .0,
+      ap length (put .ensures) ∙ length-sets (l .out) (l .p) (num (at (s .args .r .coef) (l .j))) ∙ l .inv .1,
+      omega arith,
+      omega arith,
+    )
 
 put-requires-2 : tie.Need-put-requires-2 Inv-loop μ-loop
 put-requires-2 c κs = omega arith

@@ -76,9 +76,12 @@ loop-again c =
     let l = c .before .before .before .before .before .before .loop in
     let put = c .before .before .put-row in
     let f = rowAt (s .args .m .rows) (s .args .m .width) in
-    let more = c .before .before .before .before .before .loop-test .taken in
-    (run-again (s .args .m .height) f (l .out) _ (l .p) (l .i) (8 * s .args .m .width + 8) [] more (put .ensures) (row-at-long (s .args .m .rows) (s .args .m .width) (l .i)) ∙ l .inv .0,
-    ap length (put .ensures) ∙ length-sets (l .out) (l .p) (f (l .i)) ∙ l .inv .1, omega arith, omega arith)
+    let more = c .before .before .before .before .before .loop-test .taken in (
+      run-again (s .args .m .height) f (l .out) _ (l .p) (l .i) (8 * s .args .m .width + 8) [] more (put .ensures) (row-at-long (s .args .m .rows) (s .args .m .width) (l .i)) ∙ l .inv .0,
+      ap length (put .ensures) ∙ length-sets (l .out) (l .p) (f (l .i)) ∙ l .inv .1,
+      omega arith,
+      omega arith,
+    )
 
 same-length : tie.Need-same-length Inv-loop μ-loop
 same-length c = search needs

@@ -1,3 +1,4 @@
+-- `normal::plan_from` meets its contract: an input adds nothing, a body its own sizes. Assumes nothing.
 use borrow.Fn.Kinds.{In}
 use borrow.Fn.PlainCycle.{Measures, is, falls, and}
 use Rattle.normal.proofs.totals.plan_from.Reads as plan-from
@@ -27,10 +28,8 @@ abbrev plan-from-below : ℕ → In 2 plan-from-kinds.ps
 plan-from-below t =
     and 2 plan-from-kinds.ps (falls 2 plan-from-kinds.ps _<_ μ-plan-from t) plan-from.Pre
 
-
 abbrev plan-from-uses : ℕ → plan-from-lts.Claims
 plan-from-uses t = (variable-count-reads.Asked, variable-count-reads.Learnt, kind-of-reads.Asked, kind-of-reads.Learnt, plan-from-below t, plan-from.Post, grow-reads.Asked, grow-reads.Learnt)
-
 
 plan-from-variable-count-requires : (t : ℕ) → plan-from-lts.Need-variable-count-requires (plan-from-uses t) (plan-from-at t) plan-from.Post
 plan-from-variable-count-requires t c κs = search needs

@@ -27,9 +27,12 @@ dimension-of-requires c κs = search needs
 measure-from-requires : tie.Need-measure-from-requires
 measure-from-requires c κs =
     let s = c .before .before .before .before .before in
-    let dim = c .dimension-of .ensures in
-    (body-at _ _ (s .pre .0) _ (s .pre .1) (s .pre .2) _ _ (c .before .before .before .body-place .ensures) (dim .0) _ (c .before .before .count .ensures) (c .before .if1 .left) (dim .1),
-    omega arith, omega arith, omega arith)
+    let dim = c .dimension-of .ensures in (
+      body-at _ _ (s .pre .0) _ (s .pre .1) (s .pre .2) _ _ (c .before .before .before .body-place .ensures) (dim .0) _ (c .before .before .count .ensures) (c .before .if1 .left) (dim .1),
+      omega arith,
+      omega arith,
+      omega arith,
+    )
 
 returns-2 : tie.Need-returns-2
 returns-2 c =

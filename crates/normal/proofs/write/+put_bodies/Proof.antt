@@ -1,3 +1,4 @@
+-- `normal::put_bodies` meets its contract: an input has no body, any other is stored before those after it. Assumes nothing.
 use borrow.Fn.Kinds.{In}
 use borrow.Fn.PlainCycle.{Measures, is, falls, and}
 use Rattle.normal.proofs.write.put_bodies.Reads as put-bodies
@@ -28,10 +29,8 @@ abbrev put-bodies-below : ℕ → In 3 put-bodies-kinds.ps
 put-bodies-below t =
     and 3 put-bodies-kinds.ps (falls 3 put-bodies-kinds.ps _<_ μ-put-bodies t) put-bodies.Pre
 
-
 abbrev put-bodies-uses : ℕ → put-bodies-lts.Claims
 put-bodies-uses t = (variable-count-reads.Asked, variable-count-reads.Learnt, kind-of-reads.Asked, kind-of-reads.Learnt, put-bodies-below t, put-bodies.Post, put-body-reads.Asked, put-body-reads.Learnt)
-
 
 put-bodies-variable-count-requires : (t : ℕ) → put-bodies-lts.Need-variable-count-requires (put-bodies-uses t) (put-bodies-at t) put-bodies.Post
 put-bodies-variable-count-requires t c κs = search needs

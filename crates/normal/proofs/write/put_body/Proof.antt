@@ -55,9 +55,11 @@ put-from-requires c κs =
     let counted = c .before .before .before .before .before .before .before .before .before .before .count .ensures in
     let many = c .before .before .before .before .before .before .before .before .before .before .count .result in
     let two = sets-after (s .args .out .now) (s .args .to) 8 (nat 6) (nat many) (length-nat 6) (c .before .before .before .before .before .before .before .put-nat .ensures) (c .before .before .before .put-nat2 .ensures) in
-    let same = ap length two ∙ length-sets (s .args .out .now) (s .args .to) (nat 6 ++ nat many) in
-    (body-at _ _ (w .formed) _ (w .known) (w .body) _ _ place (dim .0) _ counted (few-branches _ _ _ w _ _ place (dim .0) _ counted) (dim .1), omega arith,
-    branch-rooms _ _ _ w _ _ place (dim .0) _ counted (s .args .out .now) (c .before .before .before .put-nat2 .last .0) (s .args .to) same (s .pre .1))
+    let same = ap length two ∙ length-sets (s .args .out .now) (s .args .to) (nat 6 ++ nat many) in (
+      body-at _ _ (w .formed) _ (w .known) (w .body) _ _ place (dim .0) _ counted (few-branches _ _ _ w _ _ place (dim .0) _ counted) (dim .1),
+      omega arith,
+      branch-rooms _ _ _ w _ _ place (dim .0) _ counted (s .args .out .now) (c .before .before .before .put-nat2 .last .0) (s .args .to) same (s .pre .1),
+    )
 
 same-length : tie.Need-same-length
 same-length c =
