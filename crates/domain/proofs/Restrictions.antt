@@ -69,13 +69,13 @@ neat-small n r z h w e k = let l : rowSize (rowOf n r) (pointOf n z) < 2 ^ 63 = 
 
 module _ (n : ℕ) (bs : List ℕ) where
   -- the constraints cs stand from p on
-  abbrev Each : List Constraint → ℕ → Type 0
+  abbrev pub Each : List Constraint → ℕ → Type 0
   Each cs p = (i : ℕ) → i < length cs → (c : Constraint) → ConstraintAt n bs (p + i * (16 + 8 * n)) (getD cs i c)
 
-  each-first : (c : Constraint) (cs : List Constraint) (p : ℕ) → Each (c ∷ cs) p → ConstraintAt n bs p c
+  pub each-first : (c : Constraint) (cs : List Constraint) (p : ℕ) → Each (c ∷ cs) p → ConstraintAt n bs p c
   each-first c cs p h = let e : p + 0 * (16 + 8 * n) ≡ p = omega arith in rw e at (h 0 (omega arith) c)
 
-  each-rest : (c : Constraint) (cs : List Constraint) (p : ℕ) → Each (c ∷ cs) p → Each cs (p + (16 + 8 * n))
+  pub each-rest : (c : Constraint) (cs : List Constraint) (p : ℕ) → Each (c ∷ cs) p → Each cs (p + (16 + 8 * n))
   each-rest c cs p h i lt d =
       let e : p + suc i * (16 + 8 * n) ≡ p + (16 + 8 * n) + i * (16 + 8 * n) = ap (λ x. p + x) (suc-mul i (16 + 8 * n)) ∙ omega arith in
       rw e at (h (suc i) (omega arith) d)

@@ -35,7 +35,7 @@ use Rattle.tree.proofs.Standings.{children-at, children-counted, one-more}
 use Rattle.domain.specs.Walk.{Bounded, Walk, WalkAll}
 
 -- only a dependence changes the point for its children
-same-below : (e : Expr) (n r : ℕ) → (codeNumber e ≡ 8 → ⊥) → (wanted (nodeOf e) n ≡ n) × (reachBelow (nodeOf e) r ≡ r)
+pub same-below : (e : Expr) (n r : ℕ) → (codeNumber e ≡ 8 → ⊥) → (wanted (nodeOf e) n ≡ n) × (reachBelow (nodeOf e) r ≡ r)
 same-below (var v) n r h = (refl, refl)
 same-below (int c) n r h = (refl, refl)
 same-below (boo b) n r h = (refl, refl)

@@ -23,15 +23,15 @@ use Rattle.laws.proofs.NormalChecks.{HasForm, form-rules, fits-rules, F
 
 -- ---- rows combined
 
-length-zeroes : (n : ℕ) → length (zeroes n) ≡ n
+pub length-zeroes : (n : ℕ) → length (zeroes n) ≡ n
 length-zeroes zero = refl
 length-zeroes (suc n) = ap suc (length-zeroes n)
 
-length-scale : (c : ℤ) (xs : List ℤ) → length (scale c xs) ≡ length xs
+pub length-scale : (c : ℤ) (xs : List ℤ) → length (scale c xs) ≡ length xs
 length-scale c [] = refl
 length-scale c (x ∷ xs) = ap suc (length-scale c xs)
 
-length-addAll : (xs ys : List ℤ) → length xs ≡ length ys → length (addAll xs ys) ≡ length ys
+pub length-addAll : (xs ys : List ℤ) → length xs ≡ length ys → length (addAll xs ys) ≡ length ys
 length-addAll [] ys h = refl
 length-addAll (x ∷ xs) [] h = h
 length-addAll (x ∷ xs) (y ∷ ys) h = ap suc (length-addAll xs ys (omega arith))
@@ -53,19 +53,19 @@ constraints-after-wide f (c ∷ cs) h = (combine-wide (c .row .coefs) (f .rows) 
 
 -- ---- the identity after a map is the map
 
-scale-zero : (xs : List ℤ) → scale (pos 0) xs ≡ zeroes (length xs)
+pub scale-zero : (xs : List ℤ) → scale (pos 0) xs ≡ zeroes (length xs)
 scale-zero [] = refl
 scale-zero (x ∷ xs) = rw (zero-*ℤ x, scale-zero xs)
 
-scale-one : (xs : List ℤ) → scale (pos 1) xs ≡ xs
+pub scale-one : (xs : List ℤ) → scale (pos 1) xs ≡ xs
 scale-one [] = refl
 scale-one (x ∷ xs) = rw (one-*ℤ x, scale-one xs)
 
-add-zeroes-left : (ys : List ℤ) → addAll (zeroes (length ys)) ys ≡ ys
+pub add-zeroes-left : (ys : List ℤ) → addAll (zeroes (length ys)) ys ≡ ys
 add-zeroes-left [] = refl
 add-zeroes-left (y ∷ ys) = rw (+ℤ-idl y, add-zeroes-left ys)
 
-add-zeroes-right : (xs : List ℤ) → addAll xs (zeroes (length xs)) ≡ xs
+pub add-zeroes-right : (xs : List ℤ) → addAll xs (zeroes (length xs)) ≡ xs
 add-zeroes-right [] = refl
 add-zeroes-right (x ∷ xs) = rw (+ℤ-idr x, add-zeroes-right xs)
 
@@ -78,7 +78,7 @@ module _ (n : ℕ) where
   row-is v w p q = λ i. record { coefs = p i; const = q i }
 
   -- no times the first row
-  skip-row : (cs : List ℤ) (r : Row) (rs : List Row) → RowsWide n (r ∷ rs) → combine (pos 0 ∷ cs) (r ∷ rs) n ≡ combine cs rs n
+  pub skip-row : (cs : List ℤ) (r : Row) (rs : List Row) → RowsWide n (r ∷ rs) → combine (pos 0 ∷ cs) (r ∷ rs) n ≡ combine cs rs n
   skip-row cs r rs h =
       let rest = combine cs rs n in
       let long : length (r .coefs) ≡ length (rest .coefs) = h .0 ∙ sym (combine-wide cs rs n (h .1)) in
@@ -86,7 +86,7 @@ module _ (n : ℕ) where
       (rw (scale-zero (r .coefs), long) (add-zeroes-left (rest .coefs)))
       (rw (zero-*ℤ (r .const)) (+ℤ-idl (rest .const)))
 
-  no-rows : (k : ℕ) (rs : List Row) → RowsWide n rs → combine (zeroes k) rs n ≡ record { coefs = zeroes n; const = pos 0 }
+  pub no-rows : (k : ℕ) (rs : List Row) → RowsWide n rs → combine (zeroes k) rs n ≡ record { coefs = zeroes n; const = pos 0 }
   no-rows zero rs h = refl
   no-rows (suc k) [] h = refl
   no-rows (suc k) (r ∷ rs) h = skip-row (zeroes k) r rs h ∙ no-rows k rs (h .1)
@@ -133,7 +133,7 @@ append-wide : (n : ℕ) (xs ys : List Constraint) → ConstraintsWide n xs → C
 append-wide n [] ys h k = k
 append-wide n (x ∷ xs) ys h k = (h .0, append-wide n xs ys (h .1) k)
 
-idRows-wide : (n : ℕ) → RowsWide n (idRows n)
+pub idRows-wide : (n : ℕ) → RowsWide n (idRows n)
 idRows-wide zero = tt
 idRows-wide (suc n) = (ap suc (length-zeroes n), go (idRows n) (idRows-wide n))
   where

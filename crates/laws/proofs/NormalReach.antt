@@ -103,7 +103,7 @@ wider-reach : (r : ℕ) (rs : List Row) → mapReach r (map wider rs) ≡ mapRea
 wider-reach r [] = refl
 wider-reach r (w ∷ rs) = rw (zero-add (sizes (w .coefs)), wider-reach r rs)
 
-identity-reach : (r n : ℕ) → 1 ≤ r → mapReach r (idRows n) ≤ r
+pub identity-reach : (r n : ℕ) → 1 ≤ r → mapReach r (idRows n) ≤ r
 identity-reach r zero h = h
 identity-reach r (suc n) h = rw (wider-reach r (idRows n), sizes-zeroes n) (omega (arith, identity-reach r n h))
 

@@ -1,0 +1,200 @@
+-- Counting branches: a tree's count by its children's, counts that stop at 65, and the ways through the walks that count and choose.
+-- Assumes nothing.
+use mathlib.Core.Path.{_≡_, refl, sym, ap, _∙_, subst}
+use Prim.Native.Nat.{ℕ, zero, suc, _+_, _*_, _-_, _≤_, _<_, min}
+use native.Mathlib.Nat.{mul-one, one-mul, mul-zero, mul-assoc, mul-comm, mul-suc}
+use native.Mathlib.Omega.{arith}
+use mathlib.Core.Bool.{Bool, true, false}
+use mathlib.Core.List.{List}
+use mathlib.Core.Logic.{⊎-elim}
+use lib.IntN.{natAbs}
+use lib.Dec.{ltb, eqb}
+use borrow.Author.Tests.{lt-ltb, le-ltb}
+use Rattle.alpha.specs.Pick.{ifb}
+use Rattle.alpha.specs.Field.{field}
+use Rattle.alpha.specs.Sheet.{Node, Expr, Exprs}
+use Rattle.alpha.specs.Sheet.{Expr.var, Expr.int, Expr.boo, Expr.un, Expr.bin, Expr.ite, Expr.kase, Expr.restr, Expr.dep, Exprs.none, Exprs.more}
+use Rattle.alpha.specs.Read.{got, node}
+use Rattle.alpha.specs.Written.{branchCount, nodeCount, nodeCounts}
+use Rattle.laws.specs.At.{codeNumber, nodeLen, At, AllAt}
+use Rattle.laws.specs.Children.{childrenOf, arity}
+use Rattle.laws.specs.Sheets.{varsOf}
+use Rattle.laws.proofs.Shapes.{allAt-none, MoreAt}
+use Rattle.affine.proofs.Several.{lt-or-le}
+use Rattle.tree.specs.Standing.{Standing, StandingAll}
+use Rattle.tree.proofs.Standings.{children-at, children-counted, one-more}
+use Rattle.domain.proofs.Walks.{tree-code}
+use Rattle.normal.specs.declared.Chosen.{Chosen}
+use Rattle.normal.specs.Count.{countOf, sumOf, productOf, alone, joined, countsOf, capped, Picked, pick}
+use Rattle.normal.specs.Counted.{Counts, CountsAll, ChildrenAt, PicksOf, Picks}
+
+-- ---- by the children
+
+pub count-children : (e : Expr) → countOf e ≡ countsOf (eqb (codeNumber e) 6) (childrenOf e)
+unfolding countOf productOf
+count-children (var v) = refl
+count-children (int c) = refl
+count-children (boo b) = refl
+count-children (un o a) = sym (mul-one (countOf a))
+count-children (bin o a b) = ap (λ n. countOf a * n) (sym (mul-one (countOf b)))
+count-children (ite a b c) = ap (λ n. countOf a * (countOf b * n)) (sym (mul-one (countOf c)))
+count-children (kase es) = refl
+count-children (restr d cs a) = sym (mul-one (countOf a))
+count-children (dep f a) = sym (mul-one (countOf a))
+
+-- ---- up to 65
+
+cap-left : (a b : ℕ) → capped (capped a * b) ≡ capped (a * b)
+cap-left a zero = rw (mul-zero (min 65 a), mul-zero a) refl
+cap-left a (suc b) = ⊎-elim small large (lt-or-le a 65)
+  where
+    small : a < 65 → capped (capped a * suc b) ≡ capped (a * suc b)
+    small h = let e : min 65 a ≡ a = omega arith in rw e refl
+
+    large : 65 ≤ a → capped (capped a * suc b) ≡ capped (a * suc b)
+    large h = let e : min 65 a ≡ 65 = omega arith in rw (e, mul-suc a b, mul-suc 65 b) (omega arith)
+
+cap-right : (a b : ℕ) → capped (a * capped b) ≡ capped (a * b)
+cap-right a b = ap capped (mul-comm a (capped b)) ∙ cap-left b a ∙ ap capped (mul-comm b a)
+
+cap-joined : (t : Bool) (s x y : ℕ) → capped (joined t (capped (joined t s (capped x))) y) ≡ capped (joined t s (joined t x y))
+cap-joined true s x y = omega arith
+cap-joined false s x y = ap (λ n. capped (n * y)) (cap-right s x) ∙ cap-left (s * x) y ∙ ap capped (mul-assoc s x y)
+
+pub alone-low : (t : Bool) (n : ℕ) → n ≡ alone t → n ≤ 65
+alone-low true n e = omega arith
+alone-low false n e = omega arith
+
+alone-joined : (t : Bool) (x : ℕ) → joined t (alone t) x ≡ x
+alone-joined true x = omega arith
+alone-joined false x = one-mul x
+
+joined-alone : (t : Bool) (x : ℕ) → joined t x (alone t) ≡ x
+joined-alone true x = omega arith
+joined-alone false x = mul-one x
+
+-- ---- the ways through the count
+
+counts-none : (t : Bool) → countsOf t none ≡ alone t
+unfolding countOf productOf
+counts-none true = refl
+counts-none false = refl
+
+counts-more : (t : Bool) (e : Expr) (es : Exprs) → countsOf t (more e es) ≡ joined t (countOf e) (countsOf t es)
+unfolding countOf productOf
+counts-more true e es = refl
+counts-more false e es = refl
+
+module _ (bs : List ℕ) (p : ℕ) where
+  pub node-way : (k n code sofar r : ℕ) → k ≡ nodeLen bs p → ((nd : Node) (q : ℕ) → node (varsOf bs) bs p ≡ got nd q → n ≡ arity nd) →
+      code ≡ natAbs (field bs p) → sofar ≡ alone (eqb code 6) → CountsAll bs (p + k) n (eqb code 6) sofar r → Counts bs p r
+  node-way k n code sofar r long many is start h = (
+    h .0,
+    λ e q at.
+        let c = is ∙ tree-code bs p e q at in
+        h .1 (childrenOf e) q (children-at (varsOf bs) bs p k n long many e q at) (children-counted (varsOf bs) bs p k n long many e q at)
+        ∙ ap (λ x. capped (joined (eqb code 6) x (countsOf (eqb code 6) (childrenOf e)))) start
+        ∙ ap capped (alone-joined (eqb code 6) (countsOf (eqb code 6) (childrenOf e)))
+        ∙ ap (λ x. capped (countsOf (eqb x 6) (childrenOf e))) c
+        ∙ ap capped (sym (count-children e)),
+  )
+
+  pub none-way : (many : ℕ) (t : Bool) (sofar : ℕ) → many < 1 → sofar ≤ 65 → CountsAll bs p many t sofar sofar
+  none-way many t sofar l low = (
+    low,
+    λ es q h m.
+        let x = allAt-none (varsOf bs) bs es p q h (omega arith) in
+        let cap : sofar ≡ capped sofar = omega arith in
+        cap ∙ ap capped (sym (joined-alone t sofar) ∙ ap (joined t sofar) (sym (counts-none t) ∙ ap (countsOf t) (sym (x .is)))),
+  )
+
+  pub more-way : (many : ℕ) (t : Bool) (sofar first next both r : ℕ) → 1 ≤ many → Counts bs p first →
+      ((e : Expr) (q : ℕ) → At e (varsOf bs) bs p q → next ≡ q) → both ≡ capped (joined t sofar first) → CountsAll bs next (many - 1) t both r →
+      CountsAll bs p many t sofar r
+  more-way many t sofar first next both r some one ends sum rest = (
+    rest .0,
+    λ es q h m.
+        let x = one-more (varsOf bs) bs es p q many some h m in
+        let here = ends (x .first) (x .middle) (x .before) in
+        rest .1 (x .rest) q (subst (λ i. AllAt (x .rest) (varsOf bs) bs i q) (sym here) (x .after)) (x .many)
+        ∙ ap (λ n. capped (joined t n (countsOf t (x .rest)))) (sum ∙ ap (λ n. capped (joined t sofar n)) (one .1 (x .first) (x .middle) (x .before)))
+        ∙ cap-joined t sofar (countOf (x .first)) (countsOf t (x .rest))
+        ∙ ap (λ n. capped (joined t sofar n)) (sym (counts-more t (x .first) (x .rest)))
+        ∙ ap (λ l. capped (joined t sofar (countsOf t l))) (sym (x .is)),
+  )
+
+-- ---- the ways through the choice
+
+module _ (e : Expr) (es : Exprs) (b : ℕ) where
+  pick-first : b < countOf e → pick (more e es) b ≡ record { child = e; branch = b }
+  unfolding pick
+  pick-first l = ap {B = Picked} (λ t. ifb t (λ _. record { child = e; branch = b }) (λ _. pick es (b - countOf e))) (lt-ltb b (countOf e) l)
+
+  pick-later : countOf e ≤ b → pick (more e es) b ≡ pick es (b - countOf e)
+  unfolding pick
+  pick-later l = ap {B = Picked} (λ t. ifb t (λ _. record { child = e; branch = b }) (λ _. pick es (b - countOf e))) (le-ltb b (countOf e) l)
+
+sum-more : (es : Exprs) (f : Expr) (fs : Exprs) → es ≡ more f fs → sumOf es ≡ countOf f + sumOf fs
+unfolding countOf
+sum-more es f fs e = ap sumOf e
+
+module _ (bs : List ℕ) (p left many b : ℕ) (h : ChildrenAt bs p left many b) where
+  pub children-some : 1 ≤ many
+  children-some = go (h .trees) (h .some) (h .count)
+    where
+      go : (es : Exprs) → b < sumOf es → branchCount es ≡ many → 1 ≤ many
+      go none l e = unfold countOf in absurd (omega arith)
+      go (more f fs) l e = omega arith
+
+  pub children-standing : StandingAll (varsOf bs) bs p left many
+  children-standing = record { trees = h .trees; end = h .end; at = h .at; few = h .few; many = h .count }
+
+  module _ (n : ℕ) (counted : Counts bs p n) where
+    split : MoreAt (h .trees) (varsOf bs) bs p (h .end) (many - 1)
+    split = one-more (varsOf bs) bs (h .trees) p (h .end) many children-some (h .at) (h .count)
+
+    nodes : nodeCounts (h .trees) ≡ nodeCount (split .first) + nodeCounts (split .rest)
+    unfolding nodeCounts
+    nodes = ap nodeCounts (split .is)
+
+    -- the first child's branches come first
+    pub first-way : b < n → Picks bs p many b (record { at = p; b = b })
+    first-way l es q at m some =
+        let x = one-more (varsOf bs) bs es p q many children-some at m in
+        let low : b < countOf (x .first) = omega (arith, counted .1 (x .first) (x .middle) (x .before)) in
+        let is = ap (λ t. pick t b) (x .is) ∙ pick-first (x .first) (x .rest) b low in
+        record {
+          end = x .middle;
+          at = subst (λ t. At (t .child) (varsOf bs) bs p (x .middle)) (sym is) (x .before);
+          branch = ap (λ t. t .branch) (sym is);
+        }
+
+    module _ (past : n ≤ b) where
+      below : (e : Expr) (q : ℕ) → At e (varsOf bs) bs p q → n ≡ countOf e
+      below e q at = let c = counted .1 e q at in omega (arith, h .low)
+
+      -- the others, from where the first ends
+      pub children-rest : (next : ℕ) → ((e : Expr) (q : ℕ) → At e (varsOf bs) bs p q → next ≡ q) → ChildrenAt bs next left (many - 1) (b - n)
+      children-rest next ends = record {
+        trees = split .rest;
+        end = h .end;
+        at = rw (ends (split .first) (split .middle) (split .before)) (split .after);
+        few = omega (arith, nodes, h .few);
+        count = split .many;
+        low = omega (arith, h .low);
+        some = omega (arith, h .some, sum-more (h .trees) (split .first) (split .rest) (split .is), below (split .first) (split .middle) (split .before));
+      }
+
+      pub later-way : (next : ℕ) (r : Chosen) → ((e : Expr) (q : ℕ) → At e (varsOf bs) bs p q → next ≡ q) → Picks bs next (many - 1) (b - n) r → Picks bs p many b r
+      later-way next r ends rest es q at m some =
+          let x = one-more (varsOf bs) bs es p q many children-some at m in
+          let same = below (x .first) (x .middle) (x .before) in
+          let more : b - n < sumOf (x .rest) = omega (arith, sum-more es (x .first) (x .rest) (x .is)) in
+          let after = subst (λ i. AllAt (x .rest) (varsOf bs) bs i q) (sym (ends (x .first) (x .middle) (x .before))) (x .after) in
+          let found = rest (x .rest) q after (x .many) more in
+          let is = ap (λ t. pick t b) (x .is) ∙ pick-later (x .first) (x .rest) b (omega arith) ∙ ap (λ i. pick (x .rest) (b - i)) (sym same) in
+          record {
+            end = found .end;
+            at = subst (λ t. At (t .child) (varsOf bs) bs (r .at) (found .end)) (sym is) (found .at);
+            branch = found .branch ∙ ap (λ t. t .branch) (sym is);
+          }

@@ -1,0 +1,67 @@
+-- `normal::put_from` meets its contract: a branch, and then those after it. Assumes nothing.
+use borrow.Fn.Kinds.{In}
+use borrow.Fn.PlainCycle.{Measures, is, falls, and}
+use Rattle.normal.proofs.body.put_from.Reads as put-from
+use Rattle.normal.proofs.body.put_from.Kinds as put-from-kinds
+use Rattle.normal.proofs.body.+put_from.Lts-put_from as put-from-lts
+use Rattle.normal.proofs.body.put_branch.Reads as put-branch-reads
+use Rattle.normal.proofs.body.+put_from.{statement}
+use Rattle.normal.proofs.body.+put_from.Tie.{close}
+use Prim.Native.Nat.{ℕ, _+_, _*_, _-_, _^_, _<_, _≤_}
+use mathlib.Core.Path.{_≡_, refl, sym, ap, _∙_}
+use native.Mathlib.Omega.{arith}
+use borrow.Author.Needs.{needs}
+use Rattle.normal.proofs.Bodies.{is-body, store-none, first-room, rest-room, store-more}
+
+abbrev μ-put-from : Measures 2 put-from-kinds.ps ℕ
+μ-put-from κs a = a .1 .1 .1 .0 - a .1 .1 .1 .1 .0
+
+abbrev put-from-at : ℕ → In 2 put-from-kinds.ps
+put-from-at t = and 2 put-from-kinds.ps (is 2 put-from-kinds.ps μ-put-from t) put-from.Pre
+
+abbrev put-from-below : ℕ → In 2 put-from-kinds.ps
+put-from-below t =
+    and 2 put-from-kinds.ps (falls 2 put-from-kinds.ps _<_ μ-put-from t) put-from.Pre
+
+abbrev put-from-uses : ℕ → put-from-lts.Claims
+put-from-uses t = (put-branch-reads.Asked, put-branch-reads.Learnt, put-from-below t, put-from.Post)
+
+put-from-returns : (t : ℕ) → put-from-lts.Need-returns (put-from-uses t) (put-from-at t) put-from.Post
+put-from-returns t c = store-none _ _ _ _ _ _ (c .before .before .before .args .to) (c .if1 .taken)
+
+put-from-put-branch-requires : (t : ℕ) → put-from-lts.Need-put-branch-requires (put-from-uses t) (put-from-at t) put-from.Post
+put-from-put-branch-requires t c κs =
+    let s = c .before .before .before .before in
+    (s .pre .1 .0, c .before .if1 .left, first-room _ _ _ _ _ (s .args .out .now) _ (c .before .if1 .left) _ (s .pre .1 .2))
+
+put-from-add-put-from : (t : ℕ) → put-from-lts.Need-add-put-from (put-from-uses t) (put-from-at t) put-from.Post
+put-from-add-put-from t c = omega (arith, c .before .before .before .before .before .before .before .pre .1 .0 .low, c .before .before .before .before .if1 .left)
+
+put-from-put-from-requires : (t : ℕ) → put-from-lts.Need-put-from-requires (put-from-uses t) (put-from-at t) put-from.Post
+put-from-put-from-requires t c κs =
+    let s = c .before .before .before .before .before .before .before .before in
+    let more = c .before .before .before .before .before .if1 .left in
+    let is = s .pre .0 in (
+      omega arith,
+      (
+        s .pre .1 .0,
+        omega arith,
+        rest-room _ _ _ _ _ (s .args .out .now) _ more _ _ (c .before .before .before .put-branch .ensures) _ (is-body _ _ _ _ (s .pre .1 .0)) (s .pre .1 .2),
+      ),
+    )
+
+put-from-same-length : (t : ℕ) → put-from-lts.Need-same-length (put-from-uses t) (put-from-at t) put-from.Post
+put-from-same-length t c = search needs
+
+put-from-returns-2 : (t : ℕ) → put-from-lts.Need-returns-2 (put-from-uses t) (put-from-at t) put-from.Post
+put-from-returns-2 t c = store-more _ _ _ _ _ (c .before .before .before .before .before .before .before .before .before .before .before .args .out .now) _ (c .before .before .before .before .before .before .before .before .if1 .left) _ _ _ _ (c .before .before .before .before .before .before .put-branch .ensures) (c .before .before .put-from .ensures)
+
+pub +put-from-spec : {M : Type 1} → statement M
++put-from-spec = close μ-put-from λ t. put-from-lts.spec (put-from-uses t) (put-from-at t)
+    put-from.Post
+    (put-from-returns t)
+    (put-from-put-branch-requires t)
+    (put-from-add-put-from t)
+    (put-from-put-from-requires t)
+    (put-from-same-length t)
+    (put-from-returns-2 t)

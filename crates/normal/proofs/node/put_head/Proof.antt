@@ -1,0 +1,78 @@
+-- `normal::put_head` meets its contract: the code, and but for an if one field more. Assumes nothing.
+use mathlib.Core.Path.{_≡_, refl, sym, ap, _∙_}
+use Prim.Native.Nat.{_+_, _*_}
+use native.Mathlib.Omega.{arith}
+use mathlib.Core.List.{_++_}
+use lib.Seq.{sets}
+use lib.IntN.{natAbs}
+use Rattle.alpha.specs.Field.{field, nat, num}
+use Rattle.tree.proofs.Noding.{code-there, second-there}
+use Rattle.normal.proofs.Laying.{sets-after, length-nat}
+use Rattle.normal.proofs.Spots.{head-long, head-if, head-other, head-other-long}
+use borrow.Author.Needs.{needs}
+use Rattle.normal.proofs.node.put_head.Statement.{statement}
+use Rattle.normal.proofs.node.put_head.Tie as tie
+
+natural-requires : tie.Need-natural-requires
+natural-requires c κs = code-there _ _ _ (c .before .before .pre .0)
+
+put-nat-requires : tie.Need-put-nat-requires
+put-nat-requires c κs =
+    let five = sym (c .before .before .natural .ensures) ∙ c .before .if1 .taken in
+    omega (arith, c .before .before .before .before .before .pre .1, head-long (c .before .before .before .before .before .args .s .now) (c .before .before .before .before .before .args .at) five)
+
+same-length : tie.Need-same-length
+same-length c = search needs
+
+returns : tie.Need-returns
+returns c =
+    let s = c .before .before .before .before .before .before .before .before in
+    let code = c .before .before .before .before .before .natural .ensures in
+    c .before .before .put-nat .ensures ∙ ap (λ i. sets (s .args .out .now) (s .args .to) (nat i)) code
+    ∙ ap (sets (s .args .out .now) (s .args .to)) (head-if (s .args .s .now) (s .args .at) (sym code ∙ c .before .before .before .before .if1 .taken))
+
+put-nat-requires-2 : tie.Need-put-nat-requires-2
+put-nat-requires-2 c κs =
+    let s = c .before .before .before .before .before in
+    omega (arith, s .pre .1, head-other-long (s .args .s .now) (s .args .at) (λ e. c .before .if1 .left (c .before .before .natural .ensures ∙ e)))
+
+add-put : tie.Need-add-put
+add-put c = search needs
+
+add-number-at : tie.Need-add-number-at
+add-number-at c = omega (arith, second-there _ _ _ (c .before .before .before .before .before .before .before .before .before .pre .0) (λ e. c .before .before .before .before .before .if1 .left (c .before .before .before .before .before .before .natural .ensures ∙ e)))
+
+number-at-requires : tie.Need-number-at-requires
+number-at-requires c κs = omega (arith, second-there _ _ _ (c .before .before .before .before .before .before .before .before .before .pre .0) (λ e. c .before .before .before .before .before .if1 .left (c .before .before .before .before .before .before .natural .ensures ∙ e)))
+
+put-requires : tie.Need-put-requires
+put-requires c κs = omega (arith, c .before .before .before .before .before .before .before .before .before .before .pre .1, head-other-long (c .before .before .before .before .before .before .before .before .before .before .args .s .now) (c .before .before .before .before .before .before .before .before .before .before .args .at) (λ e. c .before .before .before .before .before .before .if1 .left (c .before .before .before .before .before .before .before .natural .ensures ∙ e)))
+
+same-length-2 : tie.Need-same-length-2
+same-length-2 c = search needs
+
+returns-2 : tie.Need-returns-2
+returns-2 c =
+    let s = c .before .before .before .before .before .before .before .before .before .before .before .before .before in
+    let code = c .before .before .before .before .before .before .before .before .before .before .natural in
+    let x = c .before .before .before .number-at in
+    sets-after (s .args .out .now) (s .args .to) 8 (nat (code .result)) (num (x .result .v)) (length-nat (code .result)) (c .before .before .before .before .before .before .before .put-nat2 .ensures) (c .before .before .put .ensures)
+    ∙ ap (λ i. sets (s .args .out .now) (s .args .to) (nat i ++ num (x .result .v))) (code .ensures)
+    ∙ ap (λ y. sets (s .args .out .now) (s .args .to) (nat (natAbs (field (s .args .s .now) (s .args .at))) ++ num y)) (x .ensures)
+    ∙ ap (sets (s .args .out .now) (s .args .to)) (head-other (s .args .s .now) (s .args .at) (λ e. c .before .before .before .before .before .before .before .before .before .if1 .left (code .ensures ∙ e)))
+
+pub put-head-spec : {M : Type 1} → statement M
+put-head-spec =
+    tie.close
+    (tie.spec
+    natural-requires
+    put-nat-requires
+    same-length
+    returns
+    put-nat-requires-2
+    add-put
+    add-number-at
+    number-at-requires
+    put-requires
+    same-length-2
+    returns-2)

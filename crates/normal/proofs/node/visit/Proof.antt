@@ -1,0 +1,57 @@
+-- `normal::visit` meets its contract: measured, and stored where it is not only measured. Assumes nothing.
+use mathlib.Core.Path.{_≡_, refl, sym, ap, _∙_, subst}
+use Prim.Native.Nat.{_+_, _*_, _≤_}
+use native.Mathlib.Omega.{arith}
+use mathlib.Core.Bool.{true, false}
+use Rattle.normal.specs.Followed.{laid}
+use Rattle.normal.proofs.Spots.{noded, visit-room, visit-is, stored-spot, dry-laid, stored-laid}
+use borrow.Author.Needs.{needs}
+use Rattle.normal.proofs.node.visit.Statement.{statement}
+use Rattle.normal.proofs.node.visit.Tie as tie
+
+size-of-requires : tie.Need-size-of-requires
+size-of-requires c κs =
+    let s = c .before .before in
+    (noded _ _ (s .args .m) _ _ _ (s .pre .0), s .pre .0 .neat, s .pre .1)
+
+moved-requires : tie.Need-moved-requires
+moved-requires c κs =
+    let s = c .before .before .before .before in
+    visit-room _ _ (s .args .m) (s .args .tree) (s .args .level) (s .args .pen) _ (c .before .size-of .ensures) (s .args .dry) (s .args .out .now) (s .pre .0) (s .pre .2)
+
+returns : tie.Need-returns
+returns c =
+    let s = c .before .before .before .before .before in
+    visit-is _ _ (s .args .m) (s .args .tree) (s .args .level) (s .args .pen) _ (c .before .before .size-of .ensures) (s .args .dry) (s .args .out .now) _ _ (c .moved .ensures)
+    (dry-laid _ _ (s .args .m) (s .args .tree) (s .args .dry) (s .args .pen .to) (s .args .out .now) (c .before .if1 .taken))
+
+put-own-requires : tie.Need-put-own-requires
+put-own-requires c κs =
+    let s = c .before .before .before .before .before in
+    stored-spot _ _ (s .args .m) (s .args .tree) (s .args .dry) (s .args .pen .to) (s .args .out .now) (c .before .if1 .left) (s .pre .0)
+
+moved-requires-2 : tie.Need-moved-requires-2
+moved-requires-2 c κs =
+    let s = c .before .before .before .before .before .before .before .before in
+    visit-room _ _ (s .args .m) (s .args .tree) (s .args .level) (s .args .pen) _ (c .before .before .before .before .before .size-of .ensures) (s .args .dry) (s .args .out .now) (s .pre .0) (s .pre .2)
+
+same-length : tie.Need-same-length
+same-length c = search needs
+
+returns-2 : tie.Need-returns-2
+returns-2 c =
+    let s = c .before .before .before .before .before .before .before .before .before in
+    visit-is _ _ (s .args .m) (s .args .tree) (s .args .level) (s .args .pen) _ (c .before .before .before .before .before .before .size-of .ensures) (s .args .dry) (s .args .out .now) _ _ (c .moved2 .ensures)
+    (stored-laid _ _ (s .args .m) (s .args .tree) (s .args .dry) (s .args .pen .to) (s .args .out .now) _ (c .before .before .before .before .before .if1 .left) (c .before .before .before .put-own .ensures))
+
+pub visit-spec : {M : Type 1} → statement M
+visit-spec =
+    tie.close
+    (tie.spec
+    size-of-requires
+    moved-requires
+    returns
+    put-own-requires
+    moved-requires-2
+    same-length
+    returns-2)

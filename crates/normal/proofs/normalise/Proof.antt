@@ -1,0 +1,80 @@
+-- `normal::normalise` keeps its promise: the sheet's refusals, then WIDE, then ROOM, or the normal form's bytes. Assumes nothing.
+use mathlib.Core.Path.{_≡_, refl, sym, ap, _∙_}
+use Prim.Native.Nat.{_+_, _≤_}
+use native.Mathlib.Omega.{arith}
+use borrow.Author.Needs.{needs}
+use Rattle.tree.proofs.Heading.{prepared-read}
+use Rattle.normal.proofs.Normalising.{check-refuses, front-there, wide-refuses, plan-holds}
+use Rattle.normal.proofs.normalise.Statement.{statement}
+use Rattle.normal.proofs.normalise.Tie as tie
+
+admit-requires : tie.Need-admit-requires
+admit-requires c κs = search needs
+
+enum-told : tie.Need-enum-told
+enum-told c = search needs
+
+enum-told-2 : tie.Need-enum-told-2
+enum-told-2 c = search needs
+
+returns : tie.Need-returns
+returns c = check-refuses _ (c .before .before .before .before .before .before .before .args .out .now) _ _ (c .enum-told2 .given .1) (c .before .before .admit .ensures .answer)
+
+third-place-requires : tie.Need-third-place-requires
+third-place-requires c κs = search needs
+
+add-plan-from : tie.Need-add-plan-from
+add-plan-from c =
+    let admitted = c .before .before .before .before .before .admit .ensures .admitted _ (c .before .before .before .enum-told .given .1) in
+    let third = c .third-place .ensures ∙ admitted .formed .placed .prepared .table .third in
+    omega (arith, third, front-there _ _ (admitted .formed) (admitted .sheet-is), prepared-read _ _ (admitted .formed .placed .prepared) .short)
+
+plan-from-requires : tie.Need-plan-from-requires
+plan-from-requires c κs =
+    let admitted = c .before .before .before .before .before .admit .ensures .admitted _ (c .before .before .before .enum-told .given .1) in
+    let third = c .third-place .ensures ∙ admitted .formed .placed .prepared .table .third in (
+      admitted .formed,
+      omega arith,
+      omega arith,
+      omega (arith, third, front-there _ _ (admitted .formed) (admitted .sheet-is), prepared-read _ _ (admitted .formed .placed .prepared) .short),
+    )
+
+enum-known-plan : tie.Need-enum-known-plan
+enum-known-plan c = search needs
+
+write-all-requires : tie.Need-write-all-requires
+write-all-requires c κs =
+    let admitted = c .before .before .before .before .before .before .before .before .before .before .before .admit .ensures .admitted _ (c .before .before .before .before .before .before .before .before .before .enum-told .given .1) in
+    plan-holds _ _ (admitted .formed) (admitted .sheet-is) _ (c .before .before .before .before .before .before .third-place .ensures) _ (c .before .before .before .before .before .plan-from .ensures) _ _ (c .before .before .before .plan .given .1)
+
+enum-known-plan-2 : tie.Need-enum-known-plan-2
+enum-known-plan-2 c = search needs
+
+same-length : tie.Need-same-length
+same-length c = search needs
+
+returns-2 : tie.Need-returns-2
+returns-2 c = c .before .before .write-all .ensures
+
+returns-3 : tie.Need-returns-3
+returns-3 c =
+    let admitted = c .before .before .before .before .before .before .before .before .before .admit .ensures .admitted _ (c .before .before .before .before .before .before .before .enum-told .given .1) in
+    wide-refuses _ _ (admitted .formed) (admitted .sheet-is) _ (c .before .before .before .before .third-place .ensures) _ (c .before .before .before .plan-from .ensures) (c .before .before .before .before .before .before .before .before .before .before .before .before .before .before .args .out .now) _ (c .before .plan2 .given .1)
+
+pub normalise-spec : {M : Type 1} → statement M
+normalise-spec =
+    tie.close
+    (tie.spec
+    admit-requires
+    enum-told
+    enum-told-2
+    returns
+    third-place-requires
+    add-plan-from
+    plan-from-requires
+    enum-known-plan
+    write-all-requires
+    enum-known-plan-2
+    same-length
+    returns-2
+    returns-3)

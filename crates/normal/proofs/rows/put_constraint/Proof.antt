@@ -1,0 +1,55 @@
+-- `normal::put_constraint` meets its contract: its relation, then its row after the map. Assumes nothing.
+use borrow.Author.Needs.{needs}
+use Rattle.normal.proofs.Composed.{constraint-fits, constraint-laid}
+use Rattle.normal.proofs.rows.put_constraint.Statement.{statement}
+use Rattle.normal.proofs.rows.put_constraint.Tie as tie
+
+natural-requires : tie.Need-natural-requires
+natural-requires c κs = search needs
+
+add-row-read : tie.Need-add-row-read
+add-row-read c = search needs
+
+row-read-requires : tie.Need-row-read-requires
+row-read-requires c κs = search needs
+
+row-after-requires : tie.Need-row-after-requires
+row-after-requires c κs =
+    let s = c .before .before .before .before in
+    let read = c .row-read .ensures in
+    (s .pre .0, rw (← s .pre .1) (read .1 .rest), constraint-fits _ _ _ _ (s .pre .2) (s .pre .0) (s .pre .1) _ read)
+
+put-nat-requires : tie.Need-put-nat-requires
+put-nat-requires c κs = search needs
+
+add-put-row : tie.Need-add-put-row
+add-put-row c = search needs
+
+put-row-requires : tie.Need-put-row-requires
+put-row-requires c κs = search needs
+
+same-length : tie.Need-same-length
+same-length c = search needs
+
+returns : tie.Need-returns
+returns c =
+    let s = c .before .before .before .before .before .before .before .before .before .before .before .before .before in
+    let read = c .before .before .before .before .before .before .before .before .before .row-read .ensures in
+    let relation = c .before .before .before .before .before .before .before .before .before .before .natural in
+    let after = c .before .before .before .before .before .before .before .before .row-after in
+    constraint-laid _ _ _ (s .args .m) (s .pre .2) (s .pre .0) (s .pre .1) _ read (s .args .out .now) (s .args .to) (relation .result) (after .result)
+    (relation .ensures) (after .ensures .is) (c .before .before .before .before .before .before .put-nat .ensures) (c .before .before .put-row .ensures)
+
+pub put-constraint-spec : {M : Type 1} → statement M
+put-constraint-spec =
+    tie.close
+    (tie.spec
+    natural-requires
+    add-row-read
+    row-read-requires
+    row-after-requires
+    put-nat-requires
+    add-put-row
+    put-row-requires
+    same-length
+    returns)

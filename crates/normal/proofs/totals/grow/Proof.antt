@@ -1,0 +1,101 @@
+-- `normal::grow` meets its contract: WIDE where the body breaks a limit, and else the totals with it. Assumes nothing.
+use mathlib.Core.Path.{_≡_, refl, sym, ap, _∙_}
+use Prim.Native.Nat.{_+_, _≤_}
+use native.Mathlib.Omega.{arith}
+use Rattle.tree.proofs.Passing.{few}
+use Rattle.normal.proofs.Plans.{body-standing, body-at, many-way, wide-way, fits-way}
+use borrow.Author.Needs.{needs}
+use Rattle.normal.proofs.totals.grow.Statement.{statement}
+use Rattle.normal.proofs.totals.grow.Tie as tie
+
+body-place-requires : tie.Need-body-place-requires
+body-place-requires c κs = few _ _ (c .before .pre .0 .placed) _ (c .before .pre .1)
+
+count-requires : tie.Need-count-requires
+count-requires c κs =
+    let s = c .before .before in
+    (body-standing _ _ (s .pre .0) _ (s .pre .1) (s .pre .2) _ _ (c .body-place .ensures) refl, omega arith)
+
+returns : tie.Need-returns
+returns c =
+    let s = c .before .before .before .before in
+    many-way _ _ (s .pre .0) _ (s .pre .1) (s .pre .2) _ _ (c .before .before .body-place .ensures) refl _ (c .before .count .ensures) _ _ (c .if1 .taken)
+
+dimension-of-requires : tie.Need-dimension-of-requires
+dimension-of-requires c κs = search needs
+
+measure-from-requires : tie.Need-measure-from-requires
+measure-from-requires c κs =
+    let s = c .before .before .before .before .before in
+    let dim = c .dimension-of .ensures in (
+      body-at _ _ (s .pre .0) _ (s .pre .1) (s .pre .2) _ _ (c .before .before .before .body-place .ensures) (dim .0) _ (c .before .before .count .ensures) (c .before .if1 .left) (dim .1),
+      omega arith,
+      omega arith,
+      omega arith,
+    )
+
+returns-2 : tie.Need-returns-2
+returns-2 c =
+    let s = c .before .before .before .before .before .before .before .before in
+    let dim = c .before .before .before .dimension-of .ensures in
+    wide-way _ _ (s .pre .0) _ (s .pre .1) (s .pre .2) _ _ (c .before .before .before .before .before .before .body-place .ensures) (dim .0) _ (c .before .before .before .before .before .count .ensures) (s .args .nodes) (s .args .size)
+    (c .before .before .before .before .if1 .left) (dim .1) _ (c .before .before .measure-from .ensures) (λ k l d b. omega (arith, c .if2 .taken))
+
+returns-3 : tie.Need-returns-3
+returns-3 c =
+    let s = c .before .before .before .before .before .before .before .before .before .before in
+    let dim = c .before .before .before .before .before .dimension-of .ensures in
+    wide-way _ _ (s .pre .0) _ (s .pre .1) (s .pre .2) _ _ (c .before .before .before .before .before .before .before .before .body-place .ensures) (dim .0) _ (c .before .before .before .before .before .before .before .count .ensures) (s .args .nodes) (s .args .size)
+    (c .before .before .before .before .before .before .if1 .left) (dim .1) _ (c .before .before .before .before .measure-from .ensures) (λ k l d b. omega (arith, c .if3 .taken))
+
+add-total : tie.Need-add-total
+add-total c = search needs
+
+add-total-2 : tie.Need-add-total-2
+add-total-2 c = search needs
+
+add-len : tie.Need-add-len
+add-len c = search needs
+
+add-len-2 : tie.Need-add-len-2
+add-len-2 c = search needs
+
+returns-4 : tie.Need-returns-4
+returns-4 c =
+    let s = c .before .before .before .before .before .before .before .before .before .before .before .before .before in
+    let dim = c .before .before .before .before .before .before .before .before .dimension-of .ensures in
+    wide-way _ _ (s .pre .0) _ (s .pre .1) (s .pre .2) _ _ (c .before .before .before .before .before .before .before .before .before .before .before .body-place .ensures) (dim .0) _ (c .before .before .before .before .before .before .before .before .before .before .count .ensures) (s .args .nodes) (s .args .size)
+    (c .before .before .before .before .before .before .before .before .before .if1 .left) (dim .1) _ (c .before .before .before .before .before .before .before .measure-from .ensures) (λ k l d b. omega (arith, c .if4 .taken))
+
+returns-5 : tie.Need-returns-5
+returns-5 c =
+    let s = c .before .before .before .before .before .before .before .before .before .before .before .before .before .before in
+    let dim = c .before .before .before .before .before .before .before .before .before .dimension-of .ensures in
+    wide-way _ _ (s .pre .0) _ (s .pre .1) (s .pre .2) _ _ (c .before .before .before .before .before .before .before .before .before .before .before .before .body-place .ensures) (dim .0) _ (c .before .before .before .before .before .before .before .before .before .before .before .count .ensures) (s .args .nodes) (s .args .size)
+    (c .before .before .before .before .before .before .before .before .before .before .if1 .left) (dim .1) _ (c .before .before .before .before .before .before .before .before .measure-from .ensures) (λ k l d b. omega (arith, c .if5 .taken))
+
+returns-6 : tie.Need-returns-6
+returns-6 c =
+    let s = c .before .before .before .before .before .before .before .before .before .before .before .before .before .before in
+    let dim = c .before .before .before .before .before .before .before .before .before .dimension-of .ensures in
+    fits-way _ _ (s .pre .0) _ (s .pre .1) (s .pre .2) _ _ (c .before .before .before .before .before .before .before .before .before .before .before .before .body-place .ensures) (dim .0) _ (c .before .before .before .before .before .before .before .before .before .before .before .count .ensures) (s .args .nodes) (s .args .size)
+    (c .before .before .before .before .before .before .before .before .before .before .if1 .left) (dim .1) _ (c .before .before .before .before .before .before .before .before .measure-from .ensures) (c .before .if4 .left) (c .before .before .before .before .before .before .if2 .left) (c .before .before .before .before .if3 .left) (c .if5 .left)
+
+pub grow-spec : {M : Type 1} → statement M
+grow-spec =
+    tie.close
+    (tie.spec
+    body-place-requires
+    count-requires
+    returns
+    dimension-of-requires
+    measure-from-requires
+    returns-2
+    returns-3
+    add-total
+    add-total-2
+    add-len
+    add-len-2
+    returns-4
+    returns-5
+    returns-6)

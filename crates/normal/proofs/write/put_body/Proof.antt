@@ -1,0 +1,92 @@
+-- `normal::put_body` meets its contract: the case's two numbers, then its branches. Assumes nothing.
+use mathlib.Core.Path.{_≡_, refl, sym, ap, _∙_}
+use Prim.Native.Nat.{_+_, _≤_}
+use native.Mathlib.Omega.{arith}
+use mathlib.Core.List.{_++_}
+use lib.ListN.{length}
+use lib.Seq.{sets, length-sets}
+use Rattle.alpha.specs.Field.{nat}
+use Rattle.tree.proofs.Passing.{few}
+use Rattle.normal.proofs.Laying.{sets-after, length-nat}
+use Rattle.normal.specs.Stored.{bodyOf}
+use Rattle.normal.proofs.Plans.{body-standing, body-at}
+use Rattle.normal.proofs.Storing.{few-branches, body-stored, head-room, branch-rooms}
+use borrow.Author.Needs.{needs}
+use Rattle.normal.proofs.write.put_body.Statement.{statement}
+use Rattle.normal.proofs.write.put_body.Tie as tie
+
+body-place-requires : tie.Need-body-place-requires
+body-place-requires c κs = few _ _ (c .before .before .pre .0 .formed .placed) _ (c .before .before .pre .0 .known)
+
+count-requires : tie.Need-count-requires
+count-requires c κs =
+    let s = c .before .before .before in
+    (body-standing _ _ (s .pre .0 .formed) _ (s .pre .0 .known) (s .pre .0 .body) _ _ (c .body-place .ensures) refl, omega arith)
+
+dimension-of-requires : tie.Need-dimension-of-requires
+dimension-of-requires c κs = (c .before .before .before .before .pre .0 .formed .placed .prepared, c .before .before .before .before .pre .0 .known)
+
+put-nat-requires : tie.Need-put-nat-requires
+put-nat-requires c κs =
+    let s = c .before .before .before .before .before .before in
+    omega (arith, head-room _ _ _ (s .pre .0) _ _ (c .before .before .before .body-place .ensures) refl _ (c .before .before .count .ensures) (s .args .out .now) (s .args .to) (s .pre .1))
+
+add-put-nat : tie.Need-add-put-nat
+add-put-nat c =
+    let s = c .before .before .before .before .before .before .before .before .before .before in
+    omega (arith, head-room _ _ _ (s .pre .0) _ _ (c .before .before .before .before .before .before .before .body-place .ensures) refl _ (c .before .before .before .before .before .before .count .ensures) (s .args .out .now) (s .args .to) (s .pre .1))
+
+put-nat-requires-2 : tie.Need-put-nat-requires-2
+put-nat-requires-2 c κs =
+    let s = c .before .before .before .before .before .before .before .before .before .before in
+    omega (arith, head-room _ _ _ (s .pre .0) _ _ (c .before .before .before .before .before .before .before .body-place .ensures) refl _ (c .before .before .before .before .before .before .count .ensures) (s .args .out .now) (s .args .to) (s .pre .1))
+
+add-put-from : tie.Need-add-put-from
+add-put-from c =
+    let s = c .before .before .before .before .before .before .before .before .before .before .before .before .before .before in
+    omega (arith, head-room _ _ _ (s .pre .0) _ _ (c .before .before .before .before .before .before .before .before .before .before .before .body-place .ensures) refl _ (c .before .before .before .before .before .before .before .before .before .before .count .ensures) (s .args .out .now) (s .args .to) (s .pre .1))
+
+put-from-requires : tie.Need-put-from-requires
+put-from-requires c κs =
+    let s = c .before .before .before .before .before .before .before .before .before .before .before .before .before .before in
+    let w = s .pre .0 in
+    let place = c .before .before .before .before .before .before .before .before .before .before .before .body-place .ensures in
+    let dim = c .before .before .before .before .before .before .before .before .before .dimension-of .ensures in
+    let counted = c .before .before .before .before .before .before .before .before .before .before .count .ensures in
+    let many = c .before .before .before .before .before .before .before .before .before .before .count .result in
+    let two = sets-after (s .args .out .now) (s .args .to) 8 (nat 6) (nat many) (length-nat 6) (c .before .before .before .before .before .before .before .put-nat .ensures) (c .before .before .before .put-nat2 .ensures) in
+    let same = ap length two ∙ length-sets (s .args .out .now) (s .args .to) (nat 6 ++ nat many) in (
+      body-at _ _ (w .formed) _ (w .known) (w .body) _ _ place (dim .0) _ counted (few-branches _ _ _ w _ _ place (dim .0) _ counted) (dim .1),
+      omega arith,
+      branch-rooms _ _ _ w _ _ place (dim .0) _ counted (s .args .out .now) (c .before .before .before .put-nat2 .last .0) (s .args .to) same (s .pre .1),
+    )
+
+same-length : tie.Need-same-length
+same-length c =
+    let s = c .before .before .before .before .before .before .before .before .before .before .before .before .before .before .before .before .before in
+    let dim = c .before .before .before .before .before .before .before .before .before .before .before .before .dimension-of .ensures in
+    let stored = body-stored _ _ _ (s .pre .0) _ _ (c .before .before .before .before .before .before .before .before .before .before .before .before .before .before .body-place .ensures) (dim .0) _ (c .before .before .before .before .before .before .before .before .before .before .before .before .before .count .ensures) (s .args .out .now) (s .args .to)
+    (c .before .before .before .before .before .before .before .before .before .before .put-nat .ensures) (c .before .before .before .before .before .before .put-nat2 .ensures) (c .before .before .put-from .ensures) in
+    ap length (stored .0) ∙ length-sets (s .args .out .now) (s .args .to) (bodyOf (s .args .s .now) (s .args .v))
+
+returns : tie.Need-returns
+returns c =
+    let s = c .before .before .before .before .before .before .before .before .before .before .before .before .before .before .before .before .before in
+    let dim = c .before .before .before .before .before .before .before .before .before .before .before .before .dimension-of .ensures in
+    body-stored _ _ _ (s .pre .0) _ _ (c .before .before .before .before .before .before .before .before .before .before .before .before .before .before .body-place .ensures) (dim .0) _ (c .before .before .before .before .before .before .before .before .before .before .before .before .before .count .ensures) (s .args .out .now) (s .args .to)
+    (c .before .before .before .before .before .before .before .before .before .before .put-nat .ensures) (c .before .before .before .before .before .before .put-nat2 .ensures) (c .before .before .put-from .ensures)
+
+pub put-body-spec : {M : Type 1} → statement M
+put-body-spec =
+    tie.close
+    (tie.spec
+    body-place-requires
+    count-requires
+    dimension-of-requires
+    put-nat-requires
+    add-put-nat
+    put-nat-requires-2
+    add-put-from
+    put-from-requires
+    same-length
+    returns)

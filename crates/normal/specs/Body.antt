@@ -1,0 +1,98 @@
+-- What the branches of a body take in the normal form: nodes, bytes, constraints and depth, of one branch and of all of them; and the body
+-- that stands at a place. Assumes nothing.
+use mathlib.Core.Path.{_≡_}
+use Prim.Native.Nat.{ℕ, _+_, _*_, _^_, _≤_, _<_, max}
+use mathlib.Core.Bool.{true}
+use mathlib.Core.List.{List, [], _∷_}
+use lib.ListN.{length, getD, drop}
+use lib.Seq.{sets}
+use Rattle.alpha.specs.Sheet.{Expr, Expr.restr, Expr.kase, Exprs.none}
+use Rattle.alpha.specs.Read.{dimension}
+use Rattle.alpha.specs.Shape.{fits}
+use Rattle.alpha.specs.Reach.{topReach, reach}
+use Rattle.alpha.specs.Written.{bytes, allBytes, nodeCount, depth}
+use Rattle.alpha.specs.Normal.{Branch, norm, asExprs}
+use Rattle.laws.specs.At.{At}
+use Rattle.laws.specs.Sheets.{headsOf, varsOf}
+use Rattle.normal.specs.declared.Taken.{Taken}
+use Rattle.normal.specs.Count.{countOf}
+
+-- ---- sizes
+
+-- a branch as it is written
+abbrev pub written : ℕ → Branch → Expr
+written n x = restr n (x .given) (x .term)
+
+abbrev pub takenBy : ℕ → Branch → Taken
+takenBy n x = record { nodes = nodeCount (written n x); bytes = length (bytes (written n x)); limits = length (x .given); deep = depth (x .term) }
+
+abbrev pub nothing : Taken
+nothing = record { nodes = 0; bytes = 0; limits = 0; deep = 0 }
+
+-- sums of nodes and bytes, and the most constraints and levels of the trees
+abbrev pub both : Taken → Taken → Taken
+both a b = record { nodes = a .nodes + b .nodes; bytes = a .bytes + b .bytes; limits = max (a .limits) (b .limits); deep = max (a .deep) (b .deep) }
+
+abbrev pub total : ℕ → List Branch → Taken
+total n [] = nothing
+total n (x ∷ xs) = both (takenBy n x) (total n xs)
+
+-- ---- the body
+
+-- the branches of e, where the sheet is bs
+abbrev pub branchesIn : List ℕ → Expr → List Branch
+branchesIn bs e = norm e (dimension (headsOf bs))
+
+-- branch b
+abbrev pub branchIn : List ℕ → Expr → ℕ → Branch
+branchIn bs e b = getD (branchesIn bs e) b (record { given = []; term = kase none })
+
+-- a body of dimension n stands at p, and has so many branches
+pub record BodyAt (bs : List ℕ) (p n many : ℕ) : Type 0 where
+  pub tree : Expr
+  pub end : ℕ
+  pub at : At tree (varsOf bs) bs p end
+  pub few : nodeCount tree ≤ 2048
+  pub fitting : fits tree (headsOf bs) n ≡ true
+  pub reaches : reach tree topReach ≡ true
+  pub narrow : n ≤ 4
+  pub count : countOf tree ≡ many
+  pub low : many ≤ 64
+
+-- any tree at p is such a body
+pub record IsBody (bs : List ℕ) (p n many : ℕ) (e : Expr) : Type 0 where
+  pub end : ℕ
+  pub at : At e (varsOf bs) bs p end
+  pub fitting : fits e (headsOf bs) n ≡ true
+  pub count : countOf e ≡ many
+
+-- what branch b takes
+pub record TakesBranch (bs : List ℕ) (p n many b : ℕ) (r : Taken) : Type 0 where
+  pub few-bytes : r .bytes ≤ 2 ^ 24
+  pub few-nodes : r .nodes ≤ 2 ^ 24
+  pub is : (e : Expr) → IsBody bs p n many e → r ≡ takenBy n (branchIn bs e b)
+
+-- the branches from number b on are added to those so far
+pub record TakesFrom (bs : List ℕ) (p n many b : ℕ) (sofar r : Taken) : Type 0 where
+  pub few-bytes : r .bytes ≤ 2 ^ 31
+  pub few-nodes : r .nodes ≤ 2 ^ 31
+  pub is : (e : Expr) → IsBody bs p n many e → r ≡ both sofar (total n (drop b (branchesIn bs e)))
+
+-- branch b is stored at `to`, up to r
+abbrev pub StoresBranch : List ℕ → ℕ → ℕ → ℕ → ℕ → ℕ → List ℕ → List ℕ → ℕ → Type 0
+StoresBranch bs p n many b to out out′ r =
+    (e : Expr) → IsBody bs p n many e →
+    (out′ ≡ sets out to (bytes (written n (branchIn bs e b)))) × (r ≡ to + length (bytes (written n (branchIn bs e b))))
+
+-- room for branch b, and for the branches from number b on
+abbrev pub RoomFor : List ℕ → ℕ → ℕ → ℕ → ℕ → ℕ → ℕ → Type 0
+RoomFor bs p n many b to room = (e : Expr) → IsBody bs p n many e → to + length (bytes (written n (branchIn bs e b))) ≤ room
+
+abbrev pub RoomFrom : List ℕ → ℕ → ℕ → ℕ → ℕ → ℕ → ℕ → Type 0
+RoomFrom bs p n many b to room = (e : Expr) → IsBody bs p n many e → to + length (allBytes (asExprs n (drop b (branchesIn bs e)))) ≤ room
+
+-- the branches from number b on are stored from `to` on, up to r
+abbrev pub StoresFrom : List ℕ → ℕ → ℕ → ℕ → ℕ → ℕ → List ℕ → List ℕ → ℕ → Type 0
+StoresFrom bs p n many b to out out′ r =
+    (e : Expr) → IsBody bs p n many e →
+    (out′ ≡ sets out to (allBytes (asExprs n (drop b (branchesIn bs e))))) × (r ≡ to + length (allBytes (asExprs n (drop b (branchesIn bs e)))))

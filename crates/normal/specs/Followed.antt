@@ -1,0 +1,98 @@
+-- What following a branch requires and answers: the node or the nodes at a place, with the map composed so far, and the pen with which
+-- the branch's constraints or its tree are written, or only measured. Assumes nothing.
+use mathlib.Core.Path.{_≡_}
+use Prim.Native.Nat.{ℕ, _+_, _*_, _^_, _≤_, _<_, min, max}
+use mathlib.Core.Bool.{Bool, true, false}
+use mathlib.Core.List.{List}
+use lib.ListN.{length}
+use lib.Seq.{sets}
+use Rattle.alpha.specs.Sheet.{Node, Expr, Exprs}
+use Rattle.alpha.specs.Read.{got, node}
+use Rattle.alpha.specs.Shape.{fits, allFit}
+use Rattle.alpha.specs.Reach.{limit, topReach, mapReach, reach, reachAll}
+use Rattle.alpha.specs.Written.{branchCount, nodeCount, nodeCounts}
+use Rattle.laws.specs.At.{At, AllAt}
+use Rattle.laws.specs.Sheets.{headsOf, varsOf}
+use Rattle.affine.specs.declared.Map.{Map}
+use Rattle.affine.specs.Value.{mapOf, Neat}
+use Rattle.normal.specs.declared.Pen.{Pen}
+use Rattle.normal.specs.Count.{countOf, productOf}
+use Rattle.normal.specs.Part.{Part, own, partOf, partsOf}
+
+-- ---- the pen
+
+-- after a part
+abbrev pub advance : Pen → Part → Pen
+advance z p = record { to = z .to + length (p .out); things = z .things + p .things; deep = max (z .deep) (p .deep) }
+
+-- what is lent, after bytes at a place: as it was where they are only measured
+abbrev pub laid : Bool → List ℕ → ℕ → List ℕ → List ℕ
+laid true out to new = out
+laid false out to new = sets out to new
+
+-- how far the pen may go
+abbrev pub roomOf : Bool → List ℕ → ℕ
+roomOf true out = 2 ^ 40
+roomOf false out = min (2 ^ 40) (length out)
+
+-- ---- the map composed so far
+
+-- m has the rows that it says, and reaches at most the bound from the top of a body, which keeps the limit
+pub record Carried (m : Map) (bound : ℕ) : Type 0 where
+  pub neat : Neat m
+  pub within : mapReach topReach (mapOf m .rows) ≤ bound
+  pub high : bound ≤ limit
+
+-- ---- what is required
+
+-- a tree of at most `left` nodes stands at p and has a branch b, whose part keeps within the room; t says which part
+pub record Route (bs : List ℕ) (p left : ℕ) (m : Map) (b : ℕ) (t : Bool) (level to room : ℕ) : Type 0 where
+  pub tree : Expr
+  pub end : ℕ
+  pub bound : ℕ
+  pub at : At tree (varsOf bs) bs p end
+  pub few : nodeCount tree ≤ left
+  pub fitting : fits tree (headsOf bs) (m .height) ≡ true
+  pub reaches : reach tree bound ≡ true
+  pub carried : Carried m bound
+  pub low : b ≤ 64
+  pub some : b < countOf tree
+  pub fits-room : to + length (partOf t tree (mapOf m) level b .out) ≤ room
+
+-- so many operands, which have a combination b
+pub record RouteAll (bs : List ℕ) (p left many : ℕ) (m : Map) (b : ℕ) (t : Bool) (level to room : ℕ) : Type 0 where
+  pub trees : Exprs
+  pub end : ℕ
+  pub bound : ℕ
+  pub at : AllAt trees (varsOf bs) bs p end
+  pub few : nodeCounts trees ≤ left
+  pub count : branchCount trees ≡ many
+  pub fitting : allFit trees (headsOf bs) (m .height) ≡ true
+  pub reaches : reachAll trees bound ≡ true
+  pub carried : Carried m bound
+  pub low : b ≤ 64
+  pub some : b < productOf trees
+  pub fits-room : to + length (partsOf t trees (mapOf m) level b .out) ≤ room
+
+-- ---- what is answered
+
+-- the pen and what is lent, after the part
+pub record Wrote (dry : Bool) (pen : Pen) (out out′ : List ℕ) (r : Pen) (part : Part) : Type 0 where
+  pub pen-is : r ≡ advance pen part
+  pub out-is : out′ ≡ laid dry out (pen .to) (part .out)
+
+-- of the node at p alone
+abbrev pub Visits : List ℕ → ℕ → Map → Bool → ℕ → Bool → Pen → List ℕ → List ℕ → Pen → Type 0
+Visits bs p m t level dry pen out out′ r =
+    (nd : Node) (q : ℕ) → node (varsOf bs) bs p ≡ got nd q → Wrote dry pen out out′ r (own t nd (mapOf m) level)
+
+-- of branch b of the tree at p
+abbrev pub Follows : List ℕ → ℕ → Map → ℕ → Bool → ℕ → Bool → Pen → List ℕ → List ℕ → Pen → Type 0
+Follows bs p m b t level dry pen out out′ r =
+    (e : Expr) (q : ℕ) → At e (varsOf bs) bs p q → b < countOf e → Wrote dry pen out out′ r (partOf t e (mapOf m) level b)
+
+-- of combination b of so many operands
+abbrev pub FollowsAll : List ℕ → ℕ → ℕ → Map → ℕ → Bool → ℕ → Bool → Pen → List ℕ → List ℕ → Pen → Type 0
+FollowsAll bs p many m b t level dry pen out out′ r =
+    (es : Exprs) (q : ℕ) → AllAt es (varsOf bs) bs p q → branchCount es ≡ many → b < productOf es →
+    Wrote dry pen out out′ r (partsOf t es (mapOf m) level b)

@@ -1,0 +1,19 @@
+// The child of a case that a branch comes from. Assumes nothing.
+use super::Chosen;
+use super::count::count;
+use tree::skip::skip;
+ghost use Prim.Native.Nat.{_≤_};
+ghost use Rattle.normal.specs.Counted.{ChildrenAt, Picks};
+
+// Branch b of a case whose `many` children stand from `at` on: the branches of the first child come first.
+pub fn choose(s: &[u8], at: usize, left: usize, many: usize, b: usize) -> Chosen
+    requires { ⌜ ChildrenAt (now s) at left many b × (left ≤ 2048) ⌝ }
+    ensures { λ r. ⌜ Picks (now (s .entry)) at many b r ⌝ }
+{
+    let n = count(s, at, left);
+    if b < n {
+        return Chosen { at, b };
+    }
+    let next = skip(s, at, left);
+    choose(s, next, left, many - 1, b - n)
+}

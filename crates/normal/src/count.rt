@@ -1,0 +1,83 @@
+// How many branches a tree has in normal form, counted up to 65: more than 64 anywhere are refused, and no rule lessens their number.
+// Assumes nothing.
+use tree::node::children;
+use tree::node::natural;
+use tree::node::node_len;
+use tree::skip::skip;
+ghost use mathlib.Core.Path.{_≡_};
+ghost use Prim.Native.Nat.{_≤_};
+ghost use Rattle.laws.specs.Sheets.{varsOf};
+ghost use Rattle.tree.specs.Standing.{Standing, StandingAll};
+ghost use Rattle.normal.specs.Count as Count;
+ghost use Rattle.normal.specs.Counted.{Counts, CountsAll};
+
+const MANY: usize = 65;
+
+fn capped(n: usize) -> usize
+    ensures { λ r. ⌜ r ≡ Count.capped n ⌝ }
+{
+    if MANY < n { MANY } else { n }
+}
+
+// Two counts together: of children of a case, or of operands.
+fn joined(branches: bool, a: usize, b: usize) -> usize
+    requires { ⌜ (a ≤ 65) × (b ≤ 65) ⌝ }
+    ensures { λ r. ⌜ r ≡ Count.capped (Count.joined branches a b) ⌝ }
+{
+    if branches {
+        capped(a + b)
+    } else {
+        capped(a * b)
+    }
+}
+
+// No children, or no operands.
+fn alone(branches: bool) -> usize
+    ensures { λ r. ⌜ r ≡ Count.alone branches ⌝ }
+{
+    if branches { 0 } else { 1 }
+}
+
+// The tree at `at`, of at most `left` nodes.
+pub fn count(s: &[u8], at: usize, left: usize) -> usize
+    requires { ⌜ Standing (varsOf (now s)) (now s) at left × (left ≤ 2048) ⌝ }
+    ensures { λ r. ⌜ Counts (now (s .entry)) at r ⌝ }
+{
+    let branches = natural(s, at) == 6;
+    let next = at + node_len(s, at);
+    count_all(
+        s,
+        next,
+        left - 1,
+        children(s, at),
+        branches,
+        alone(branches),
+    )
+}
+
+// `many` trees one after another, children of a case or operands, after others of which there are `sofar`.
+pub fn count_all(
+    s: &[u8],
+    at: usize,
+    left: usize,
+    many: usize,
+    branches: bool,
+    sofar: usize,
+) -> usize
+    requires { ⌜ StandingAll (varsOf (now s)) (now s) at left many × (left ≤ 2048) × (many ≤ 64) × (sofar ≤ 65) ⌝ }
+    ensures { λ r. ⌜ CountsAll (now (s .entry)) at many branches sofar r ⌝ }
+{
+    if many < 1 {
+        return sofar;
+    }
+    let first = count(s, at, left);
+    let next = skip(s, at, left);
+    count_all(
+        s,
+        next,
+        left,
+        many - 1,
+        branches,
+        joined(branches, sofar, first),
+    )
+}

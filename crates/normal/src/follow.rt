@@ -1,0 +1,105 @@
+// A branch of a tree's normal form, followed from the top down with the map composed so far: its constraints, or its tree, measured or
+// stored node by node. Assumes nothing.
+use super::Pen;
+use super::choose::choose;
+use super::count::count_all;
+use super::node::visit;
+use affine::Map;
+use affine::compose;
+use affine::map_read;
+use tree::node::children;
+use tree::node::natural;
+use tree::node::node_len;
+use tree::skip::skip;
+ghost use mathlib.Core.Path.{_≡_};
+ghost use Prim.Native.Nat.{_+_, _≤_};
+ghost use Rattle.alpha.specs.Sheet.{Node};
+ghost use Rattle.laws.specs.At.{codeOf};
+ghost use Rattle.normal.specs.Part.{levelBelow};
+ghost use Rattle.normal.specs.Followed.{roomOf, Route, RouteAll, Follows, FollowsAll};
+
+// How many nodes of the tree stand above the children of a node with such a code.
+fn level_below(code: usize, level: usize) -> usize
+    requires { ⌜ level ≤ 4096 ⌝ }
+    ensures { λ r. ⌜ ((nd : Node) → codeOf nd ≡ code → r ≡ levelBelow nd level) × (r ≤ level + 1) ⌝ }
+{
+    if code < 3 {
+        return level;
+    }
+    if 5 < code {
+        return level;
+    }
+    level + 1
+}
+
+// Branch b of the tree at `at`, of at most `left` nodes, below `level` nodes of the branch's own tree.
+pub fn follow(
+    s: &[u8],
+    at: usize,
+    left: usize,
+    b: usize,
+    m: Map,
+    tree: bool,
+    dry: bool,
+    level: usize,
+    out: &mut [u8],
+    pen: Pen,
+) -> Pen
+    requires { ⌜ Route (now s) at left m b tree level (pen .to) (roomOf dry (now out)) × (left ≤ 2048) × (level + left ≤ 4096) × (pen .things ≤ pen .to) ⌝ }
+    ensures { λ r. ⌜ Follows (now (s .entry)) at m b tree level dry pen (now (out .entry)) (now (out .exit)) r ⌝ }
+{
+    let code = natural(s, at);
+    let next = at + node_len(s, at);
+    let many = children(s, at);
+    if code == 6 {
+        let c = choose(s, next, left - 1, many, b);
+        let child = c.at;
+        let branch = c.b;
+        return follow(s, child, left - 1, branch, m, tree, dry, level, out, pen);
+    }
+    if code == 8 {
+        let w = compose(map_read(s, at + 8), m);
+        return follow(s, next, left - 1, b, w, tree, dry, level, out, pen);
+    }
+    let after = visit(s, at, m, tree, dry, level, out, pen);
+    let below = level_below(code, level);
+    follow_all(s, next, left - 1, many, b, m, tree, dry, below, out, after)
+}
+
+// Combination b of `many` operands one after another, the leftmost operand's branch changing slowest.
+fn follow_all(
+    s: &[u8],
+    at: usize,
+    left: usize,
+    many: usize,
+    b: usize,
+    m: Map,
+    tree: bool,
+    dry: bool,
+    level: usize,
+    out: &mut [u8],
+    pen: Pen,
+) -> Pen
+    requires { ⌜ RouteAll (now s) at left many m b tree level (pen .to) (roomOf dry (now out)) × (left ≤ 2048) × (level + left ≤ 4096) × (many ≤ 64) × (pen .things ≤ pen .to) ⌝ }
+    ensures { λ r. ⌜ FollowsAll (now (s .entry)) at many m b tree level dry pen (now (out .entry)) (now (out .exit)) r ⌝ }
+{
+    if many < 1 {
+        return pen;
+    }
+    let next = skip(s, at, left);
+    let n = count_all(s, next, left, many - 1, false, 1);
+    let after = follow(s, at, left, b / n, m, tree, dry, level, out, pen);
+    follow_all(
+        s,
+        next,
+        left,
+        many - 1,
+        b % n,
+        m,
+        tree,
+        dry,
+        level,
+        out,
+        after,
+    )
+}

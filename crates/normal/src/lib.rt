@@ -1,0 +1,63 @@
+// The normaliser: the sheet with every body in normal form (source document 002, 8.1 to 8.3), or WIDE or ROOM. Nothing is copied but the
+// first two sections: a branch is found by its number, counted over the body's tree, and followed from the top down with the map composed so
+// far, once for its constraints and once for its tree. Assumes nothing.
+use accept::admit;
+use alpha::Refusal;
+use alpha::Verdict;
+use sheet::table::third_place;
+use totals::plan_from;
+use write::write_all;
+ghost use Rattle.alpha.specs.Promise.{Normalises};
+
+mod body;
+mod choose;
+mod count;
+mod follow;
+mod node;
+mod rows;
+mod totals;
+mod write;
+
+// A branch of a case: where the child stands that it comes from, and which of the child's branches it is.
+pub struct Chosen {
+    pub at: usize,
+    pub b: usize,
+}
+
+// How far writing has come: the place, how many things are written (constraints, or nodes), and how deep the deepest lies.
+pub struct Pen {
+    pub to: usize,
+    pub things: usize,
+    pub deep: usize,
+}
+
+// What a branch, or several, take in the normal form: sums of nodes and bytes, and the most constraints and levels.
+pub struct Taken {
+    pub nodes: usize,
+    pub bytes: usize,
+    pub limits: usize,
+    pub deep: usize,
+}
+
+// The totals of the normal form: nodes, and bytes with the first two sections and the node count; or WIDE at a variable.
+pub enum Plan {
+    Total { nodes: usize, bytes: usize },
+    WideAt(usize),
+}
+
+// The length written, and the normal form's bytes from the start of `out`; or the sheet's refusals, then WIDE, then ROOM.
+pub fn normalise(s: &[u8], out: &mut [u8]) -> Verdict
+    ensures { λ r. ⌜ Normalises (now (s .entry)) (now (out .entry)) (now (out .exit)) r ⌝ }
+{
+    let mut tab = [0usize; 102];
+    let mut inside = [0u8; 4096];
+    let r = admit(s, &mut tab, &mut inside);
+    let Verdict::Accepted(_) = r else {
+        return r;
+    };
+    let plan = plan_from(s, &tab, 0, 0, third_place(&tab) + 8);
+    match plan {
+        Plan::Total { nodes, bytes } => write_all(s, &tab, nodes, bytes, out),
+        Plan::WideAt(v) => Verdict::Refused(Refusal::Wide(v)),
+    }
+}

@@ -1,0 +1,72 @@
+// The totals of the normal form, variable by variable, against the limits of document 01. Assumes nothing.
+use super::Plan;
+use super::Taken;
+use super::body::measure_from;
+use super::count::count;
+use sheet::table::body_place;
+use sheet::table::variable_count;
+use tree::variable::dimension_of;
+use tree::variable::kind_of;
+ghost use mathlib.Core.Path.{_≡_};
+ghost use mathlib.Core.Bool.{false};
+ghost use Prim.Native.Nat.{_≤_, _<_};
+ghost use Rattle.alpha.specs.Holds.{variable, isInput};
+ghost use Rattle.laws.specs.Sheets.{varsOf, sheetOf};
+ghost use Rattle.tree.specs.Formed.{Formed};
+ghost use Rattle.normal.specs.Plan.{Grows, PlansFrom};
+
+// The totals with the body of variable v, or WIDE at it.
+fn grow(s: &[u8], tab: &[usize; 102], v: usize, nodes: usize, size: usize) -> Plan
+    requires { ⌜ Formed (now s) (now tab) × (v < varsOf (now s)) × (isInput (variable (sheetOf (now s)) v) ≡ false) × (nodes ≤ 2048) × (size ≤ 65536) ⌝ }
+    ensures { λ r. ⌜ Grows (now (s .entry)) v nodes size r ⌝ }
+{
+    let at = body_place(tab, v);
+    let many = count(s, at, 2048);
+    if 64 < many {
+        return Plan::WideAt(v);
+    }
+    let n = dimension_of(s, tab, v);
+    let start = Taken {
+        nodes: 0,
+        bytes: 0,
+        limits: 0,
+        deep: 0,
+    };
+    let all = measure_from(s, at, n, many, 0, start);
+    if 64 < all.limits {
+        return Plan::WideAt(v);
+    }
+    if 30 < all.deep {
+        return Plan::WideAt(v);
+    }
+    let total = nodes + 1 + all.nodes;
+    let len = size + 16 + all.bytes;
+    if 2048 < total {
+        return Plan::WideAt(v);
+    }
+    if 65536 < len {
+        return Plan::WideAt(v);
+    }
+    Plan::Total {
+        nodes: total,
+        bytes: len,
+    }
+}
+
+// The totals with the bodies of the variables from number v on, or WIDE at the first that breaks a limit.
+pub fn plan_from(s: &[u8], tab: &[usize; 102], v: usize, nodes: usize, size: usize) -> Plan
+    requires { ⌜ Formed (now s) (now tab) × (v ≤ varsOf (now s)) × (nodes ≤ 2048) × (size ≤ 65536) ⌝ }
+    ensures { λ r. ⌜ PlansFrom (now (s .entry)) v nodes size r ⌝ }
+{
+    if variable_count(tab) <= v {
+        return Plan::Total { nodes, bytes: size };
+    }
+    if kind_of(s, tab, v) == 0 {
+        return plan_from(s, tab, v + 1, nodes, size);
+    }
+    let p = grow(s, tab, v, nodes, size);
+    let Plan::Total { nodes: x, bytes: y } = p else {
+        return p;
+    };
+    plan_from(s, tab, v + 1, x, y)
+}
