@@ -26,7 +26,7 @@ use Rattle.tree.proofs.Standings.{children-at, children-counted, one-more}
 use Rattle.domain.proofs.Walks.{tree-code}
 use Rattle.normal.specs.declared.Chosen.{Chosen}
 use Rattle.normal.specs.Count.{countOf, sumOf, productOf, alone, joined, countsOf, capped, Picked, pick}
-use Rattle.normal.specs.Counted.{Counts, CountsAll, ChildrenAt, PicksOf, Picks}
+use Rattle.normal.specs.Counted.{Counts, CountsAll, Ends, EndsAll, ChildrenAt, PicksOf, Picks}
 
 -- ---- by the children
 
@@ -122,6 +122,20 @@ module _ (bs : List ℕ) (p : ℕ) where
         ∙ ap (λ n. capped (joined t sofar n)) (sym (counts-more t (x .first) (x .rest)))
         ∙ ap (λ l. capped (joined t sofar (countsOf t l))) (sym (x .is)),
   )
+
+  -- ---- where they end
+
+  pub node-ends : (k n r : ℕ) → k ≡ nodeLen bs p → ((nd : Node) (q : ℕ) → node (varsOf bs) bs p ≡ got nd q → n ≡ arity nd) → EndsAll bs (p + k) n r → Ends bs p r
+  node-ends k n r long many h e q at =
+      h (childrenOf e) q (children-at (varsOf bs) bs p k n long many e q at) (children-counted (varsOf bs) bs p k n long many e q at)
+
+  pub none-ends : (many : ℕ) → many < 1 → EndsAll bs p many p
+  none-ends many l es q h m = allAt-none (varsOf bs) bs es p q h (omega arith) .end
+
+  pub more-ends : (many next r : ℕ) → 1 ≤ many → Ends bs p next → EndsAll bs next (many - 1) r → EndsAll bs p many r
+  more-ends many next r some first rest es q h m =
+      let x = one-more (varsOf bs) bs es p q many some h m in
+      rest (x .rest) q (subst (λ i. AllAt (x .rest) (varsOf bs) bs i q) (sym (first (x .first) (x .middle) (x .before))) (x .after)) (x .many)
 
 -- ---- the ways through the choice
 

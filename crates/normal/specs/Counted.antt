@@ -19,6 +19,13 @@ abbrev pub CountsAll : List ℕ → ℕ → ℕ → Bool → ℕ → ℕ → Typ
 CountsAll bs p many branches sofar r =
     (r ≤ 65) × ((es : Exprs) (q : ℕ) → AllAt es (varsOf bs) bs p q → branchCount es ≡ many → r ≡ capped (joined branches sofar (countsOf branches es)))
 
+-- r is where the tree at p ends, and where so many trees from p on end
+abbrev pub Ends : List ℕ → ℕ → ℕ → Type 0
+Ends bs p r = (e : Expr) (q : ℕ) → At e (varsOf bs) bs p q → r ≡ q
+
+abbrev pub EndsAll : List ℕ → ℕ → ℕ → ℕ → Type 0
+EndsAll bs p many r = (es : Exprs) (q : ℕ) → AllAt es (varsOf bs) bs p q → branchCount es ≡ many → r ≡ q
+
 -- so many children of a case, of at most `left` nodes in all, stand from p on, and have a branch b
 pub record ChildrenAt (bs : List ℕ) (p left many b : ℕ) : Type 0 where
   pub trees : Exprs

@@ -1,15 +1,16 @@
 // How many branches a tree has in normal form, counted up to 65: more than 64 anywhere are refused, and no rule lessens their number.
 // Assumes nothing.
+use super::Branches;
 use tree::node::children;
 use tree::node::natural;
 use tree::node::node_len;
-use tree::skip::skip;
 ghost use mathlib.Core.Path.{_≡_};
+ghost use mathlib.Core.Bool.{false};
 ghost use Prim.Native.Nat.{_≤_};
 ghost use Rattle.laws.specs.Sheets.{varsOf};
 ghost use Rattle.tree.specs.Standing.{Standing, StandingAll};
 ghost use Rattle.normal.specs.Count as Count;
-ghost use Rattle.normal.specs.Counted.{Counts, CountsAll};
+ghost use Rattle.normal.specs.Counted.{Counts, CountsAll, Ends, EndsAll};
 
 const MANY: usize = 65;
 
@@ -38,14 +39,14 @@ fn alone(branches: bool) -> usize
     if branches { 0 } else { 1 }
 }
 
-// The tree at `at`, of at most `left` nodes.
-pub fn count(s: &[u8], at: usize, left: usize) -> usize
+// The tree at `at`, of at most `left` nodes, and where it ends.
+fn count_tree(s: &[u8], at: usize, left: usize) -> Branches
     requires { ⌜ Standing (varsOf (now s)) (now s) at left × (left ≤ 2048) ⌝ }
-    ensures { λ r. ⌜ Counts (now (s .entry)) at r ⌝ }
+    ensures { λ r. ⌜ Counts (now (s .entry)) at (r .many) × Ends (now (s .entry)) at (r .next) ⌝ }
 {
     let branches = natural(s, at) == 6;
     let next = at + node_len(s, at);
-    count_all(
+    count_trees(
         s,
         next,
         left - 1,
@@ -55,29 +56,51 @@ pub fn count(s: &[u8], at: usize, left: usize) -> usize
     )
 }
 
-// `many` trees one after another, children of a case or operands, after others of which there are `sofar`.
-pub fn count_all(
+// `many` trees one after another, children of a case or operands, after others of which there are `sofar`; and where they end.
+fn count_trees(
     s: &[u8],
     at: usize,
     left: usize,
     many: usize,
     branches: bool,
     sofar: usize,
-) -> usize
+) -> Branches
     requires { ⌜ StandingAll (varsOf (now s)) (now s) at left many × (left ≤ 2048) × (many ≤ 64) × (sofar ≤ 65) ⌝ }
-    ensures { λ r. ⌜ CountsAll (now (s .entry)) at many branches sofar r ⌝ }
+    ensures { λ r. ⌜ CountsAll (now (s .entry)) at many branches sofar (r .many) × EndsAll (now (s .entry)) at many (r .next) ⌝ }
 {
     if many < 1 {
-        return sofar;
+        return Branches {
+            many: sofar,
+            next: at,
+        };
     }
-    let first = count(s, at, left);
-    let next = skip(s, at, left);
-    count_all(
+    let first = count_tree(s, at, left);
+    let n = first.many;
+    let next = first.next;
+    count_trees(
         s,
         next,
         left,
         many - 1,
         branches,
-        joined(branches, sofar, first),
+        joined(branches, sofar, n),
     )
+}
+
+// How many branches the tree at `at` has.
+pub fn count(s: &[u8], at: usize, left: usize) -> usize
+    requires { ⌜ Standing (varsOf (now s)) (now s) at left × (left ≤ 2048) ⌝ }
+    ensures { λ r. ⌜ Counts (now (s .entry)) at r ⌝ }
+{
+    let c = count_tree(s, at, left);
+    c.many
+}
+
+// How many combinations `many` operands have.
+pub fn count_all(s: &[u8], at: usize, left: usize, many: usize) -> usize
+    requires { ⌜ StandingAll (varsOf (now s)) (now s) at left many × (left ≤ 2048) × (many ≤ 64) ⌝ }
+    ensures { λ r. ⌜ CountsAll (now (s .entry)) at many false 1 r ⌝ }
+{
+    let c = count_trees(s, at, left, many, false, 1);
+    c.many
 }

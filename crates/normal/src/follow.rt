@@ -87,7 +87,7 @@ fn follow_all(
         return pen;
     }
     let next = skip(s, at, left);
-    let n = count_all(s, next, left, many - 1, false, 1);
+    let n = count_all(s, next, left, many - 1);
     let after = follow(s, at, left, b / n, m, tree, dry, level, out, pen);
     follow_all(
         s,

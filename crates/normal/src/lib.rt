@@ -24,6 +24,12 @@ pub struct Chosen {
     pub b: usize,
 }
 
+// How many branches a tree has, or several have, up to 65; and where they end.
+pub struct Branches {
+    pub many: usize,
+    pub next: usize,
+}
+
 // How far writing has come: the place, how many things are written (constraints, or nodes), and how deep the deepest lies.
 pub struct Pen {
     pub to: usize,

@@ -227,7 +227,7 @@ follow-all-count-all-requires : (t : ℕ) → follow-all-lts.Need-count-all-requ
 follow-all-count-all-requires t c κs =
     let s = c .before .before .before .before in
     let more = c .before .if1 .left in
-    (rest-standing _ _ _ _ _ more (operands-standing _ _ _ _ _ _ _ _ _ _ more (s .pre .1 .0)) _ (c .skip .ensures), s .pre .1 .1, omega (arith, s .pre .1 .3), omega arith)
+    (rest-standing _ _ _ _ _ more (operands-standing _ _ _ _ _ _ _ _ _ _ more (s .pre .1 .0)) _ (c .skip .ensures), s .pre .1 .1, omega (arith, s .pre .1 .3))
 
 follow-all-div-follow : (t : ℕ) → follow-all-lts.Need-div-follow (follow-all-uses t) (follow-all-at t) follow-all.Post
 follow-all-div-follow t c = omega (arith, count-some _ _ _ _ _ _ _ _ _ _ (c .before .before .if1 .left) (c .before .before .before .before .before .pre .1 .0) _ _ (c .before .skip .ensures) (c .count-all .ensures))
