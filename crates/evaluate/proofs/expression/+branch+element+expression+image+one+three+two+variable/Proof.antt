@@ -1,3 +1,6 @@
+-- The evaluators of `evaluate::expression` meet their contracts, together: each answer is the definition's outcome. The measure is the
+-- remaining depth, and then the remaining nodes. Each need cites one law: the ways through a node (proofs/Ways.antt), the operands' walks
+-- (proofs/Operands.antt), and elements with their bodies (proofs/Elements.antt). Assumes nothing.
 use borrow.Fn.Kinds.{In}
 use borrow.Fn.PlainCycle.{Measures, is, falls, and}
 use Rattle.evaluate.proofs.expression.branch.Reads as branch
@@ -66,7 +69,7 @@ use Rattle.domain.proofs.Walks.{walk-standing, walk-image, image-fits}
 use Rattle.domain.proofs.Records.{VariableLaid, laid-variable}
 use Rattle.domain.proofs.Restrictions.{restriction-walk}
 use Rattle.evaluate.specs.Memo as Memo
-use Rattle.evaluate.specs.Memo.{busy, noted}
+use Rattle.evaluate.specs.Memo.{busy, Memo, noted}
 use Rattle.evaluate.specs.Working.{memoOf, outcomes, Ready, Done, EvaluatesAt}
 use Rattle.evaluate.proofs.Entries.{no-value, noted-is}
 use Rattle.evaluate.proofs.Doing.{ready-kept}
@@ -74,6 +77,7 @@ use Rattle.evaluate.proofs.Operands.{not-zero, image-code, some-variabl
 use Rattle.evaluate.proofs.Ways.{constant-way, one-back, one-way, left-back, right-back, two-way, test-back, first-back, second-back, three-way, nowhere-way, branch-way, restriction-way, image-way}
 use Rattle.evaluate.proofs.Elements.{element-low, known-way, deep-way, ready-marked, walk-body, body-done, worked-way, variable-known, off-way, named-element, number-few, variable-way}
 
+-- a depth is worth more than all nodes of a body
 abbrev μ-branch : Measures 5 branch-kinds.ps ℕ
 μ-branch κs a = a .1 .1 .1 .1 .1 .1 .1 .1 .0 * 6150 + 3 * a .1 .1 .1 .1 .1 .1 .0 + 1
 
@@ -154,29 +158,53 @@ abbrev branch-uses : ℕ → branch-lts.Claims
 branch-uses t = (holding-reads.Asked, holding-reads.Learnt, expression-below t, expression.Post)
 
 abbrev element-uses : ℕ → element-lts.Claims
-element-uses t = (of32-reads.Asked, of32-reads.Learnt, known-reads.Asked, known-reads.Learnt, of-reads.Asked, of-reads.Learnt, note-reads.Asked, note-reads.Learnt, body-place-reads.Asked, body-place-reads.Learnt, expression-below t, expression.Post, code-of-reads.Asked, code-of-reads.Learnt, value-of-reads.Asked, value-of-reads.Learnt)
+element-uses t = (
+  of32-reads.Asked, of32-reads.Learnt, known-reads.Asked, known-reads.Learnt, of-reads.Asked, of-reads.Learnt, note-reads.Asked, note-reads.Learnt,
+  body-place-reads.Asked, body-place-reads.Learnt, expression-below t, expression.Post, code-of-reads.Asked, code-of-reads.Learnt, value-of-reads.Asked,
+  value-of-reads.Learnt,
+)
 
 abbrev expression-uses : ℕ → expression-lts.Claims
-expression-uses t = (natural-reads.Asked, natural-reads.Learnt, variable-below t, variable.Post, one-below t, one.Post, two-below t, two.Post, three-below t, three.Post, branch-below t, branch.Post, node-len-reads.Asked, node-len-reads.Learnt, expression-below t, expression.Post, constant-reads.Asked, constant-reads.Learnt, image-below t, image.Post)
+expression-uses t = (
+  natural-reads.Asked, natural-reads.Learnt, variable-below t, variable.Post, one-below t, one.Post, two-below t, two.Post, three-below t, three.Post,
+  branch-below t, branch.Post, node-len-reads.Asked, node-len-reads.Learnt, expression-below t, expression.Post, constant-reads.Asked,
+  constant-reads.Learnt, image-below t, image.Post,
+)
 
 abbrev image-uses : ℕ → image-lts.Claims
-image-uses t = (map-read-reads.Asked, map-read-reads.Learnt, apply-reads.Asked, apply-reads.Learnt, node-len-reads.Asked, node-len-reads.Learnt, expression-below t, expression.Post)
+image-uses t = (
+  map-read-reads.Asked, map-read-reads.Learnt, apply-reads.Asked, apply-reads.Learnt, node-len-reads.Asked, node-len-reads.Learnt, expression-below t,
+  expression.Post,
+)
 
 abbrev one-uses : ℕ → one-lts.Claims
-one-uses t = (expression-below t, expression.Post, natural-reads.Asked, natural-reads.Learnt, unary-reads.Asked, unary-reads.Learnt, work-of-reads.Asked, work-of-reads.Learnt)
+one-uses t = (
+  expression-below t, expression.Post, natural-reads.Asked, natural-reads.Learnt, unary-reads.Asked, unary-reads.Learnt, work-of-reads.Asked,
+  work-of-reads.Learnt,
+)
 
 abbrev three-uses : ℕ → three-lts.Claims
-three-uses t = (expression-below t, expression.Post, is-true-reads.Asked, is-true-reads.Learnt, choose-reads.Asked, choose-reads.Learnt, work-of-reads.Asked, work-of-reads.Learnt)
+three-uses t = (
+  expression-below t, expression.Post, is-true-reads.Asked, is-true-reads.Learnt, choose-reads.Asked, choose-reads.Learnt, work-of-reads.Asked,
+  work-of-reads.Learnt,
+)
 
 abbrev two-uses : ℕ → two-lts.Claims
-two-uses t = (expression-below t, expression.Post, natural-reads.Asked, natural-reads.Learnt, binary-reads.Asked, binary-reads.Learnt, work-of-reads.Asked, work-of-reads.Learnt)
+two-uses t = (
+  expression-below t, expression.Post, natural-reads.Asked, natural-reads.Learnt, binary-reads.Asked, binary-reads.Learnt, work-of-reads.Asked,
+  work-of-reads.Learnt,
+)
 
 abbrev variable-uses : ℕ → variable-lts.Claims
-variable-uses t = (natural-reads.Asked, natural-reads.Learnt, record-place-reads.Asked, record-place-reads.Learnt, index-reads.Asked, index-reads.Learnt, first-element-reads.Asked, first-element-reads.Learnt, element-below t, element.Post)
+variable-uses t = (
+  natural-reads.Asked, natural-reads.Learnt, record-place-reads.Asked, record-place-reads.Learnt, index-reads.Asked, index-reads.Learnt,
+  first-element-reads.Asked, first-element-reads.Learnt, element-below t, element.Post,
+)
 
 branch-holding-requires : (t : ℕ) → branch-lts.Need-holding-requires (branch-uses t) (branch-at t) branch.Post
 branch-holding-requires t c κs =
-    let p = c .before .pre .1 in
+    let s = c .before in
+    let p = s .pre .1 in
     (p .0 .placed, p .1, p .3, p .4, p .5)
 
 branch-enum-known-taken : (t : ℕ) → branch-lts.Need-enum-known-taken (branch-uses t) (branch-at t) branch.Post
@@ -187,25 +215,34 @@ branch-enum-told t c = search needs
 
 branch-returns : (t : ℕ) → branch-lts.Need-returns (branch-uses t) (branch-at t) branch.Post
 branch-returns t c =
-    let p = c .before .before .before .before .pre .1 in
-    nowhere-way _ _ (c .before .before .before .before .args .z) _ (p .5) _ (c .before .before .holding .ensures) _ (c .enum-told .given .1)
+    let at-holding = c .before .before in
+    let s = at-holding .before .before in
+    let p = s .pre .1 in
+    nowhere-way _ _ (s .args .z) _ (p .5) _ (at-holding .holding .ensures) _ (c .enum-told .given .1)
 
 branch-sub-expression : (t : ℕ) → branch-lts.Need-sub-expression (branch-uses t) (branch-at t) branch.Post
-branch-sub-expression t c =     omega (arith, walk-some _ _ _ _ (c .before .before .before .before .before .before .before .pre .1 .3))
+branch-sub-expression t c =
+    let s = c .before .before .before .before .before .before .before in
+    omega (arith, walk-some _ _ _ _ (s .pre .1 .3))
 
 branch-expression-requires : (t : ℕ) → branch-lts.Need-expression-requires (branch-uses t) (branch-at t) branch.Post
 branch-expression-requires t c κs =
-    let s = c .before .before .before .before .before .before .before in
+    let at-taken = c .before .before .before in
+    let at-holding = at-taken .before .before in
+    let s = at-holding .before .before in
     let p = s .pre .1 in
     let is = s .pre .0 in
     let some = walk-some _ _ _ _ (p .3) in
-    let walk = taken-walk _ _ _ _ _ (c .before .before .before .taken .given .1) (c .before .before .before .before .before .holding .ensures .walk) in
+    let walk = taken-walk _ _ _ _ _ (at-taken .taken .given .1) (at-holding .holding .ensures .walk) in
     (omega arith, (p .0, p .1, p .2, walk, omega (arith, p .4)))
 
 branch-returns-2 : (t : ℕ) → branch-lts.Need-returns-2 (branch-uses t) (branch-at t) branch.Post
 branch-returns-2 t c =
-    let p = c .before .before .before .before .before .before .before .before .pre .1 in
-    branch-way _ _ (c .before .before .before .before .before .before .before .before .args .z) _ (p .5) _ (c .before .before .before .before .before .before .holding .ensures) _ _ _ _ (c .before .before .before .before .taken .given .1) (c .expression .ensures)
+    let at-taken = c .before .before .before .before in
+    let at-holding = at-taken .before .before in
+    let s = at-holding .before .before in
+    let p = s .pre .1 in
+    branch-way _ _ (s .args .z) _ (p .5) _ (at-holding .holding .ensures) _ _ _ _ (at-taken .taken .given .1) (c .expression .ensures)
 
 element-element-copy-out-code : (t : ℕ) → element-lts.Need-element-copy-out-code (element-uses t) (element-at t) element.Post
 element-element-copy-out-code t c =
@@ -234,15 +271,19 @@ element-known-requires t c κs = c .of32 .ensures .1
 
 element-returns : (t : ℕ) → element-lts.Need-returns (element-uses t) (element-at t) element.Post
 element-returns t c =
-    let s = c .before .before .before .before .before .before in
+    let at-of32 = c .before in
+    let at-of32-arg = at-of32 .before in
+    let at-then1 = at-of32-arg .before in
+    let s = at-then1 .before .before .before in
     let p = s .pre .1 in
-    known-way _ _ (p .0) _ _ _ (p .3) _ (p .2) _ _ (c .before .before .before .if1 .taken) (c .before .of32 .ensures .0 ∙ toZ-ofZ (sfits-of (c .before .before .of32-arg .given))) (c .known .ensures .0) (c .known .ensures .1)
+    known-way _ _ (p .0) _ _ _ (p .3) _ (p .2) _ _ (at-then1 .if1 .taken) (at-of32 .of32 .ensures .0 ∙ toZ-ofZ (sfits-of (at-of32-arg .of32-arg .given))) (c .known .ensures .0) (c .known .ensures .1)
 
 element-returns-2 : (t : ℕ) → element-lts.Need-returns-2 (element-uses t) (element-at t) element.Post
 element-returns-2 t c =
-    let s = c .before .before .before .before in
+    let at-else1 = c .before in
+    let s = at-else1 .before .before .before in
     let p = s .pre .1 in
-    deep-way _ _ (p .0) _ _ _ (p .3) _ (p .2) (c .before .if1 .left)
+    deep-way _ _ (p .0) _ _ _ (p .3) _ (p .2) (at-else1 .if1 .left)
 
 element-of-requires : (t : ℕ) → element-lts.Need-of-requires (element-uses t) (element-at t) element.Post
 element-of-requires t c κs = search needs
@@ -261,144 +302,193 @@ element-body-place-requires t c κs =
 
 -- the memo in which the element is marked
 element-marked : (t : ℕ) (c : element-lts.After-note (element-uses t) (element-at t) element.Post) →
-    memoOf (c .note .last .0) (c .note .last .1 .0) ≡ noted (memoOf (now (c .before .before .before .before .before .before .before .before .args .codes)) (now (c .before .before .before .before .before .before .before .before .args .values))) (c .before .before .before .before .before .before .before .before .args .e) busy (pos 0)
+    let s = c .before .before .before .before .before .before .before .before in
+    memoOf (c .note .last .0) (c .note .last .1 .0) ≡ noted (memoOf (now (s .args .codes)) (now (s .args .values))) (s .args .e) busy (pos 0)
 element-marked t c =
-    noted-is (memoOf (now (c .before .before .before .before .before .before .before .before .args .codes)) (now (c .before .before .before .before .before .before .before .before .args .values))) _ _ _ _ _ _ (c .note .ensures .0) (c .note .ensures .1) (c .before .of .ensures)
-
+    let s = c .before .before .before .before .before .before .before .before in
+    noted-is (memoOf (now (s .args .codes)) (now (s .args .values))) _ _ _ _ _ _ (c .note .ensures .0) (c .note .ensures .1) (c .before .of .ensures)
 
 element-expression-requires : (t : ℕ) → element-lts.Need-expression-requires (element-uses t) (element-at t) element.Post
 element-expression-requires t c κs =
-    let s = c .before .before .before .before .before .before .before .before .before .before .before in
+    let at-body-place = c .before .before in
+    let at-note = at-body-place .before in
+    let at-else2 = at-note .before .before .before .before in
+    let at-else1 = at-else2 .before in
+    let s = at-else1 .before .before .before in
     let p = s .pre .1 in
     let is = s .pre .0 in
-    let some = c .before .before .before .before .before .before .before .if2 .left in
-    let late = c .before .before .before .before .before .before .before .before .if1 .left in
-    let ready = subst (Ready (sheetOf (now (s .args .s)))) (sym (element-marked t (c .before .before .before))) (ready-marked _ _ (p .0) _ _ _ (p .3) _ (p .2) late) in
-    let walk = walk-body _ _ (p .0) _ _ _ (p .3) _ (p .2) late _ (c .before .before .body-place .ensures) in
+    let some = at-else2 .if2 .left in
+    let late = at-else1 .if1 .left in
+    let ready = subst (Ready (sheetOf (now (s .args .s)))) (sym (element-marked t (at-note))) (ready-marked _ _ (p .0) _ _ _ (p .3) _ (p .2) late) in
+    let walk = walk-body _ _ (p .0) _ _ _ (p .3) _ (p .2) late _ (at-body-place .body-place .ensures) in
     (omega arith, (p .0, p .1, ready, walk, omega arith))
 
 element-code-of-requires : (t : ℕ) → element-lts.Need-code-of-requires (element-uses t) (element-at t) element.Post
 element-code-of-requires t c κs = search needs
 
+-- the memo after the body was worked out
+abbrev element-after : (t : ℕ) → element-lts.After-expression (element-uses t) (element-at t) element.Post → Memo
+element-after t c = memoOf (c .expression .last .1 .1 .1 .0) (c .expression .last .1 .1 .1 .1 .0)
+
 -- what was worked out of the body, from the memo in which the element is marked
 element-body : (t : ℕ) (c : element-lts.After-expression (element-uses t) (element-at t) element.Post) →
-    EvaluatesAt (now (c .before .before .before .before .before .before .before .before .before .before .before .before .args .s)) (c .before .before .before .body-place .result) (c .before .before .before .before .before .before .before .before .before .before .before .before .args .z)
-    (noted (memoOf (now (c .before .before .before .before .before .before .before .before .before .before .before .before .args .codes)) (now (c .before .before .before .before .before .before .before .before .before .before .before .before .args .values))) (c .before .before .before .before .before .before .before .before .before .before .before .before .args .e) busy (pos 0))
-    (memoOf (c .expression .last .1 .1 .1 .0) (c .expression .last .1 .1 .1 .1 .0)) (c .expression .result)
-element-body t c =
+    let place = c .before .before .before in
     let s = c .before .before .before .before .before .before .before .before .before .before .before .before in
-    subst (λ m. EvaluatesAt (now (s .args .s)) (c .before .before .before .body-place .result) (s .args .z) m
-    (memoOf (c .expression .last .1 .1 .1 .0) (c .expression .last .1 .1 .1 .1 .0)) (c .expression .result)) (element-marked t (c .before .before .before .before)) (c .expression .ensures)
-
+    EvaluatesAt (now (s .args .s)) (place .body-place .result) (s .args .z)
+    (noted (memoOf (now (s .args .codes)) (now (s .args .values))) (s .args .e) busy (pos 0)) (element-after t c) (c .expression .result)
+element-body t c =
+    let place = c .before .before .before in
+    let s = c .before .before .before .before .before .before .before .before .before .before .before .before in
+    subst (λ m. EvaluatesAt (now (s .args .s)) (place .body-place .result) (s .args .z) m (element-after t c) (c .expression .result))
+    (element-marked t (place .before)) (c .expression .ensures)
 
 element-value-of-requires : (t : ℕ) → element-lts.Need-value-of-requires (element-uses t) (element-at t) element.Post
 element-value-of-requires t c κs =
-    let s = c .before .before .before .before .before .before .before .before .before .before .before .before .before .before .before in
+    let at-expression = c .before .before .before in
+    let at-body-place = at-expression .before .before .before in
+    let at-else1 = at-body-place .before .before .before .before .before .before in
+    let s = at-else1 .before .before .before in
     let p = s .pre .1 in
-    let late = c .before .before .before .before .before .before .before .before .before .before .before .before .if1 .left in
-    let place = c .before .before .before .before .before .before .body-place .ensures in
-    let body = element-body t (c .before .before .before) in
+    let late = at-else1 .if1 .left in
+    let place = at-body-place .body-place .ensures in
+    let body = element-body t (at-expression) in
     body-done _ _ (p .0) _ _ _ (p .3) _ (p .2) late _ place _ _ body .small
 
 element-note-requires-2 : (t : ℕ) → element-lts.Need-note-requires-2 (element-uses t) (element-at t) element.Post
 element-note-requires-2 t c κs =
-    let s = c .before .before .before .before .before .before .before .before .before .before .before .before .before .before .before .before in
+    let at-expression = c .before .before .before .before in
+    let at-body-place = at-expression .before .before .before in
+    let at-else1 = at-body-place .before .before .before .before .before .before in
+    let s = at-else1 .before .before .before in
     let p = s .pre .1 in
-    let late = c .before .before .before .before .before .before .before .before .before .before .before .before .before .if1 .left in
-    let place = c .before .before .before .before .before .before .before .body-place .ensures in
-    let body = element-body t (c .before .before .before .before) in
+    let late = at-else1 .if1 .left in
+    let place = at-body-place .body-place .ensures in
+    let body = element-body t (at-expression) in
     let ready = ready-kept _ _ _ (ready-marked _ _ (p .0) _ _ _ (p .3) _ (p .2) late) (body-done _ _ (p .0) _ _ _ (p .3) _ (p .2) late _ place _ _ body .kept) in
     (omega (arith, element-low _ _ (p .0) _ _ _ (p .3), p .2 .few), ready .codes-long, ready .values-long, c .value-of .ensures .1)
 
 element-returns-3 : (t : ℕ) → element-lts.Need-returns-3 (element-uses t) (element-at t) element.Post
 element-returns-3 t c =
-    let s = c .before .before .before .before .before .before .before .before .before .before .before .before .before .before .before .before .before in
+    let at-value-of = c .before in
+    let at-code-of = at-value-of .before in
+    let at-expression = at-code-of .before .before .before in
+    let at-body-place = at-expression .before .before .before in
+    let at-else1 = at-body-place .before .before .before .before .before .before in
+    let s = at-else1 .before .before .before in
     let p = s .pre .1 in
-    let late = c .before .before .before .before .before .before .before .before .before .before .before .before .before .before .if1 .left in
-    let place = c .before .before .before .before .before .before .before .before .body-place .ensures in
-    let body = element-body t (c .before .before .before .before .before) in
+    let late = at-else1 .if1 .left in
+    let place = at-body-place .body-place .ensures in
+    let body = element-body t (at-expression) in
     let worked = worked-way _ _ (p .0) _ _ _ (p .3) _ (p .2) late _ place _ _ body in
-    let kept = memoOf (c .before .before .before .before .before .expression .last .1 .1 .1 .0) (c .before .before .before .before .before .expression .last .1 .1 .1 .1 .0) in
-    let code = c .note2 .ensures .0 ∙ ap (set (kept .codes) (s .args .e)) (c .before .before .code-of .ensures) in
-    let stored = noted-is kept _ _ _ _ _ _ code (c .note2 .ensures .1) (c .before .value-of .ensures .0) in
-    subst (λ m. Done (sheetOf (now (s .args .s))) (memoOf (now (s .args .codes)) (now (s .args .values))) m (λ ins. Memo.element (outcomes (sheetOf (now (s .args .s))) ins) (s .args .e)) (c .before .before .before .before .before .expression .result .out)) (sym stored) worked
+    let kept = element-after t (at-expression) in
+    let code = c .note2 .ensures .0 ∙ ap (set (kept .codes) (s .args .e)) (at-code-of .code-of .ensures) in
+    let stored = noted-is kept _ _ _ _ _ _ code (c .note2 .ensures .1) (at-value-of .value-of .ensures .0) in
+    let sheet = sheetOf (now (s .args .s)) in
+    let memo = memoOf (now (s .args .codes)) (now (s .args .values)) in
+    subst (λ m. Done sheet memo m (λ ins. Memo.element (outcomes sheet ins) (s .args .e)) (at-expression .expression .result .out)) (sym stored) worked
 
 expression-natural-requires : (t : ℕ) → expression-lts.Need-natural-requires (expression-uses t) (expression-at t) expression.Post
-expression-natural-requires t c κs =     code-there _ _ _ (walk-noded _ _ _ _ (c .before .pre .1 .3))
+expression-natural-requires t c κs =
+    let s = c .before in
+    code-there _ _ _ (walk-noded _ _ _ _ (s .pre .1 .3))
 
 expression-variable-requires : (t : ℕ) → expression-lts.Need-variable-requires (expression-uses t) (expression-at t) expression.Post
 expression-variable-requires t c κs =
-    let s = c .before .before .before .before .before in
+    let at-match-keys1 = c .before .before in
+    let at-natural = at-match-keys1 .before in
+    let s = at-natural .before .before in
     let p = s .pre .1 in
     let is = s .pre .0 in
-    let code = sym (c .before .before .before .natural .ensures) ∙ c .before .before .match .keys1 in
+    let code = sym (at-natural .natural .ensures) ∙ at-match-keys1 .match .keys1 in
     (omega arith, (p .0, p .1, p .2, p .3, p .4, code))
 
 expression-one-requires : (t : ℕ) → expression-lts.Need-one-requires (expression-uses t) (expression-at t) expression.Post
 expression-one-requires t c κs =
-    let s = c .before .before .before .before .before in
+    let at-match-keys2 = c .before .before in
+    let at-natural = at-match-keys2 .before in
+    let s = at-natural .before .before in
     let p = s .pre .1 in
     let is = s .pre .0 in
-    let code = sym (c .before .before .before .natural .ensures) ∙ c .before .before .match .keys2 in
+    let code = sym (at-natural .natural .ensures) ∙ at-match-keys2 .match .keys2 in
     (omega arith, (p .0, p .1, p .2, p .3, p .4, code))
 
 expression-two-requires : (t : ℕ) → expression-lts.Need-two-requires (expression-uses t) (expression-at t) expression.Post
 expression-two-requires t c κs =
-    let s = c .before .before .before .before .before in
+    let at-match-keys3 = c .before .before in
+    let at-natural = at-match-keys3 .before in
+    let s = at-natural .before .before in
     let p = s .pre .1 in
     let is = s .pre .0 in
-    let code = sym (c .before .before .before .natural .ensures) ∙ c .before .before .match .keys3 in
+    let code = sym (at-natural .natural .ensures) ∙ at-match-keys3 .match .keys3 in
     (omega arith, (p .0, p .1, p .2, p .3, p .4, code))
 
 expression-three-requires : (t : ℕ) → expression-lts.Need-three-requires (expression-uses t) (expression-at t) expression.Post
 expression-three-requires t c κs =
-    let s = c .before .before .before .before .before in
+    let at-match-keys4 = c .before .before in
+    let at-natural = at-match-keys4 .before in
+    let s = at-natural .before .before in
     let p = s .pre .1 in
     let is = s .pre .0 in
-    let code = sym (c .before .before .before .natural .ensures) ∙ c .before .before .match .keys4 in
+    let code = sym (at-natural .natural .ensures) ∙ at-match-keys4 .match .keys4 in
     (omega arith, (p .0, p .1, p .2, p .3, p .4, code))
 
 expression-branch-requires : (t : ℕ) → expression-lts.Need-branch-requires (expression-uses t) (expression-at t) expression.Post
 expression-branch-requires t c κs =
-    let s = c .before .before .before .before .before in
+    let at-match-keys5 = c .before .before in
+    let at-natural = at-match-keys5 .before in
+    let s = at-natural .before .before in
     let p = s .pre .1 in
     let is = s .pre .0 in
-    let code = sym (c .before .before .before .natural .ensures) ∙ c .before .before .match .keys5 in
+    let code = sym (at-natural .natural .ensures) ∙ at-match-keys5 .match .keys5 in
     (omega arith, (p .0, p .1, p .2, p .3, p .4, code))
 
 expression-node-len-requires : (t : ℕ) → expression-lts.Need-node-len-requires (expression-uses t) (expression-at t) expression.Post
-expression-node-len-requires t c κs =     walk-noded _ _ _ _ (c .before .before .before .pre .1 .3)
+expression-node-len-requires t c κs =
+    let s = c .before .before .before in
+    walk-noded _ _ _ _ (s .pre .1 .3)
 
 expression-add-next : (t : ℕ) → expression-lts.Need-add-next (expression-uses t) (expression-at t) expression.Post
-expression-add-next t c =     omega (arith, standing-there _ _ _ _ (walk-standing _ _ _ _ (c .before .before .before .before .pre .1 .3)), c .node-len .ensures)
+expression-add-next t c =
+    let s = c .before .before .before .before in
+    omega (arith, standing-there _ _ _ _ (walk-standing _ _ _ _ (s .pre .1 .3)), c .node-len .ensures)
 
 expression-sub-expression : (t : ℕ) → expression-lts.Need-sub-expression (expression-uses t) (expression-at t) expression.Post
-expression-sub-expression t c =     omega (arith, walk-some _ _ _ _ (c .before .before .before .before .before .before .pre .1 .3))
+expression-sub-expression t c =
+    let s = c .before .before .before .before .before .before in
+    omega (arith, walk-some _ _ _ _ (s .pre .1 .3))
 
 expression-expression-requires : (t : ℕ) → expression-lts.Need-expression-requires (expression-uses t) (expression-at t) expression.Post
 expression-expression-requires t c κs =
-    let s = c .before .before .before .before .before .before in
+    let at-node-len = c .before .before in
+    let at-match-keys6 = at-node-len .before in
+    let at-natural = at-match-keys6 .before in
+    let s = at-natural .before .before in
     let p = s .pre .1 in
     let is = s .pre .0 in
     let some = walk-some _ _ _ _ (p .3) in
-    let code = sym (c .before .before .before .before .natural .ensures) ∙ c .before .before .before .match .keys6 in
+    let code = sym (at-natural .natural .ensures) ∙ at-match-keys6 .match .keys6 in
     let walk = restriction-walk _ _ _ _ (p .3) code in
-    (omega arith, (p .0, p .1, p .2, rw (c .before .before .node-len .ensures) walk, omega (arith, p .4)))
+    (omega arith, (p .0, p .1, p .2, rw (at-node-len .node-len .ensures) walk, omega (arith, p .4)))
 
 expression-constant-requires : (t : ℕ) → expression-lts.Need-constant-requires (expression-uses t) (expression-at t) expression.Post
 expression-constant-requires t c κs =
-    let p = c .before .before .before .before .pre .1 in
-    let code = c .before .before .natural .ensures in
+    let at-natural = c .before .before in
+    let s = at-natural .before .before in
+    let p = s .pre .1 in
+    let code = at-natural .natural .ensures in
     there _ _ _ _ (p .3) _ refl (λ e. omega (arith, c .if1 .taken))
 
 expression-image-requires : (t : ℕ) → expression-lts.Need-image-requires (expression-uses t) (expression-at t) expression.Post
 expression-image-requires t c κs =
-    let s = c .before .before .before .before .before .before in
+    let at-else1 = c .before .before in
+    let at-match-rest = at-else1 .before in
+    let at-natural = at-match-rest .before in
+    let s = at-natural .before .before in
     let p = s .pre .1 in
     let is = s .pre .0 in
-    let code = c .before .before .before .before .natural .ensures in
-    let no = c .before .before .before .match .rest in
-    let eight = image-code _ _ _ _ (p .3) (omega (arith, c .before .before .if1 .left)) (λ e. no .0 .0 .0 .0 .1 (code ∙ e)) (λ e. no .0 .0 .0 .1 (code ∙ e)) (λ e. no .0 .0 .1 (code ∙ e)) (λ e. no .0 .1 (code ∙ e)) (λ e. no .1 (code ∙ e)) in
+    let code = at-natural .natural .ensures in
+    let no = at-match-rest .match .rest in
+    let eight = image-code _ _ _ _ (p .3) (omega (arith, at-else1 .if1 .left)) (λ e. no .0 .0 .0 .0 .1 (code ∙ e)) (λ e. no .0 .0 .0 .1 (code ∙ e)) (λ e. no .0 .0 .1 (code ∙ e)) (λ e. no .0 .1 (code ∙ e)) (λ e. no .1 (code ∙ e)) in
     (omega arith, (p .0, p .1, p .2, p .3, p .4, eight))
 
 expression-returns : (t : ℕ) → expression-lts.Need-returns (expression-uses t) (expression-at t) expression.Post
@@ -418,15 +508,23 @@ expression-returns-5 t c = c .branch .ensures
 
 expression-returns-6 : (t : ℕ) → expression-lts.Need-returns-6 (expression-uses t) (expression-at t) expression.Post
 expression-returns-6 t c =
-    let code = sym (c .before .before .before .before .before .natural .ensures) ∙ c .before .before .before .before .match .keys6 in
-    restriction-way _ _ (c .before .before .before .before .before .before .before .args .z) _ code (c .before .before .before .node-len .ensures) _ _ _ (c .expression .ensures)
+    let at-node-len = c .before .before .before in
+    let at-match-keys6 = at-node-len .before in
+    let at-natural = at-match-keys6 .before in
+    let s = at-natural .before .before in
+    let code = sym (at-natural .natural .ensures) ∙ at-match-keys6 .match .keys6 in
+    restriction-way _ _ (s .args .z) _ code (at-node-len .node-len .ensures) _ _ _ (c .expression .ensures)
 
 expression-returns-7 : (t : ℕ) → expression-lts.Need-returns-7 (expression-uses t) (expression-at t) expression.Post
 expression-returns-7 t c =
-    let is = c .before .before .before .natural .ensures in
-    let no = c .before .before .match .rest in
+    let at-then1 = c .before in
+    let at-match-rest = at-then1 .before in
+    let at-natural = at-match-rest .before in
+    let s = at-natural .before .before in
+    let is = at-natural .natural .ensures in
+    let no = at-match-rest .match .rest in
     let low = not-zero _ (no .0 .0 .0 .0 .0 .1) in
-    constant-way _ _ (c .before .before .before .before .before .args .z) (omega arith) (omega (arith, c .before .if1 .taken)) _ _ (c .constant .ensures)
+    constant-way _ _ (s .args .z) (omega arith) (omega (arith, at-then1 .if1 .taken)) _ _ (c .constant .ensures)
 
 expression-returns-8 : (t : ℕ) → expression-lts.Need-returns-8 (expression-uses t) (expression-at t) expression.Post
 expression-returns-8 t c = c .image .ensures
@@ -441,33 +539,47 @@ image-map-read-requires t c κs = search needs
 
 image-apply-requires : (t : ℕ) → image-lts.Need-apply-requires (image-uses t) (image-at t) image.Post
 image-apply-requires t c κs =
-    let p = c .before .before .pre .1 in
+    let s = c .before .before in
+    let p = s .pre .1 in
     let r = c .map-read .ensures in
     (r .neat, image-fits _ _ _ _ (p .3) (p .5) _ r)
 
 image-node-len-requires : (t : ℕ) → image-lts.Need-node-len-requires (image-uses t) (image-at t) image.Post
-image-node-len-requires t c κs =     walk-noded _ _ _ _ (c .before .before .before .pre .1 .3)
+image-node-len-requires t c κs =
+    let s = c .before .before .before in
+    walk-noded _ _ _ _ (s .pre .1 .3)
 
 image-add-next : (t : ℕ) → image-lts.Need-add-next (image-uses t) (image-at t) image.Post
-image-add-next t c =     omega (arith, standing-there _ _ _ _ (walk-standing _ _ _ _ (c .before .before .before .before .pre .1 .3)), c .node-len .ensures)
+image-add-next t c =
+    let s = c .before .before .before .before in
+    omega (arith, standing-there _ _ _ _ (walk-standing _ _ _ _ (s .pre .1 .3)), c .node-len .ensures)
 
 image-sub-expression : (t : ℕ) → image-lts.Need-sub-expression (image-uses t) (image-at t) image.Post
-image-sub-expression t c =     omega (arith, walk-some _ _ _ _ (c .before .before .before .before .before .before .pre .1 .3))
+image-sub-expression t c =
+    let s = c .before .before .before .before .before .before in
+    omega (arith, walk-some _ _ _ _ (s .pre .1 .3))
 
 image-expression-requires : (t : ℕ) → image-lts.Need-expression-requires (image-uses t) (image-at t) image.Post
 image-expression-requires t c κs =
-    let s = c .before .before .before .before .before .before in
+    let at-node-len = c .before .before in
+    let at-apply = at-node-len .before in
+    let at-map-read = at-apply .before in
+    let s = at-map-read .before .before in
     let p = s .pre .1 in
     let is = s .pre .0 in
     let some = walk-some _ _ _ _ (p .3) in
-    let y = c .before .before .before .apply .ensures in
-    let walk = walk-image _ _ _ _ (p .3) (p .5) _ (c .before .before .before .before .map-read .ensures) _ (y .0) (y .1) in
-    (omega arith, (p .0, p .1, p .2, rw (c .before .before .node-len .ensures) walk, omega (arith, p .4)))
+    let y = at-apply .apply .ensures in
+    let walk = walk-image _ _ _ _ (p .3) (p .5) _ (at-map-read .map-read .ensures) _ (y .0) (y .1) in
+    (omega arith, (p .0, p .1, p .2, rw (at-node-len .node-len .ensures) walk, omega (arith, p .4)))
 
 image-returns : (t : ℕ) → image-lts.Need-returns (image-uses t) (image-at t) image.Post
 image-returns t c =
-    let p = c .before .before .before .before .before .before .before .pre .1 in
-    image-way _ _ (c .before .before .before .before .before .before .before .args .z) _ _ (c .before .before .before .before .apply .result) (p .5) (c .before .before .before .node-len .ensures) (c .before .before .before .before .before .map-read .ensures) (c .before .before .before .before .apply .ensures .0) _ _ _ (c .expression .ensures)
+    let at-node-len = c .before .before .before in
+    let at-apply = at-node-len .before in
+    let at-map-read = at-apply .before in
+    let s = at-map-read .before .before in
+    let p = s .pre .1 in
+    image-way _ _ (s .args .z) _ _ (at-apply .apply .result) (p .5) (at-node-len .node-len .ensures) (at-map-read .map-read .ensures) (at-apply .apply .ensures .0) _ _ _ (c .expression .ensures)
 
 one-add-expression : (t : ℕ) → one-lts.Need-add-expression (one-uses t) (one-at t) one.Post
 one-add-expression t c =
@@ -475,7 +587,9 @@ one-add-expression t c =
     omega (arith, there _ _ _ _ (s .pre .1 .3) 3 (s .pre .1 .5) (λ e. omega arith))
 
 one-sub-expression : (t : ℕ) → one-lts.Need-sub-expression (one-uses t) (one-at t) one.Post
-one-sub-expression t c =     omega (arith, walk-some _ _ _ _ (c .before .before .before .pre .1 .3))
+one-sub-expression t c =
+    let s = c .before .before .before in
+    omega (arith, walk-some _ _ _ _ (s .pre .1 .3))
 
 one-expression-requires : (t : ℕ) → one-lts.Need-expression-requires (one-uses t) (one-at t) one.Post
 one-expression-requires t c κs =
@@ -490,8 +604,10 @@ one-enum-known-o t c = search needs
 
 one-returns : (t : ℕ) → one-lts.Need-returns (one-uses t) (one-at t) one.Post
 one-returns t c =
-    let p = c .before .before .before .before .before .pre .1 in
-    one-back _ _ (c .before .before .before .before .before .args .z) (p .5) _ _ _ (c .before .expression .ensures) (no-value _ (c .match .keys2))
+    let at-expression = c .before in
+    let s = at-expression .before .before .before .before in
+    let p = s .pre .1 in
+    one-back _ _ (s .args .z) (p .5) _ _ _ (at-expression .expression .ensures) (no-value _ (c .match .keys2))
 
 one-add-natural : (t : ℕ) → one-lts.Need-add-natural (one-uses t) (one-at t) one.Post
 one-add-natural t c =
@@ -505,9 +621,12 @@ one-natural-requires t c κs =
 
 one-unary-requires : (t : ℕ) → one-lts.Need-unary-requires (one-uses t) (one-at t) one.Post
 one-unary-requires t c κs =
-    let p = c .before .before .before .before .before .before .before .before .pre .1 in
-    let o = c .before .before .o .given in
-    let x = small-value _ _ _ _ (one-walk _ _ _ _ (p .3) (p .5)) _ _ _ (c .before .before .before .before .expression .ensures) _ (o .1) in
+    let at-o = c .before .before in
+    let at-expression = at-o .before .before in
+    let s = at-expression .before .before .before .before in
+    let p = s .pre .1 in
+    let o = at-o .o .given in
+    let x = small-value _ _ _ _ (one-walk _ _ _ _ (p .3) (p .5)) _ _ _ (at-expression .expression .ensures) _ (o .1) in
     (omega (arith, one-few _ _ _ _ (p .3) (p .5), c .natural .ensures), x)
 
 one-work-of-requires : (t : ℕ) → one-lts.Need-work-of-requires (one-uses t) (one-at t) one.Post
@@ -515,9 +634,14 @@ one-work-of-requires t c κs = search needs
 
 one-returns-2 : (t : ℕ) → one-lts.Need-returns-2 (one-uses t) (one-at t) one.Post
 one-returns-2 t c =
-    let p = c .before .before .before .before .before .before .before .before .before .before .pre .1 in
-    let o = c .before .before .before .before .o .given in
-    let way = one-way _ _ (c .before .before .before .before .before .before .before .before .before .before .args .z) (p .5) _ _ _ (c .before .before .before .before .before .before .expression .ensures) _ _ _ (o .1) (c .before .before .natural .ensures) (c .before .unary .ensures) in
+    let at-unary = c .before in
+    let at-natural = at-unary .before in
+    let at-o = at-natural .before .before in
+    let at-expression = at-o .before .before in
+    let s = at-expression .before .before .before .before in
+    let p = s .pre .1 in
+    let o = at-o .o .given in
+    let way = one-way _ _ (s .args .z) (p .5) _ _ _ (at-expression .expression .ensures) _ _ _ (o .1) (at-natural .natural .ensures) (at-unary .unary .ensures) in
     rw (c .work-of .ensures) way
 
 three-add-expression : (t : ℕ) → three-lts.Need-add-expression (three-uses t) (three-at t) three.Post
@@ -526,7 +650,9 @@ three-add-expression t c =
     omega (arith, code-there _ _ _ (walk-noded _ _ _ _ (s .pre .1 .3)))
 
 three-sub-expression : (t : ℕ) → three-lts.Need-sub-expression (three-uses t) (three-at t) three.Post
-three-sub-expression t c =     omega (arith, walk-some _ _ _ _ (c .before .before .before .pre .1 .3))
+three-sub-expression t c =
+    let s = c .before .before .before in
+    omega (arith, walk-some _ _ _ _ (s .pre .1 .3))
 
 three-expression-requires : (t : ℕ) → three-lts.Need-expression-requires (three-uses t) (three-at t) three.Post
 three-expression-requires t c κs =
@@ -541,21 +667,27 @@ three-enum-known-o t c = search needs
 
 three-returns : (t : ℕ) → three-lts.Need-returns (three-uses t) (three-at t) three.Post
 three-returns t c =
-    let p = c .before .before .before .before .before .pre .1 in
-    test-back _ _ (c .before .before .before .before .before .args .z) (p .5) _ _ _ (c .before .expression .ensures) (no-value _ (c .match .keys2))
+    let at-expression = c .before in
+    let s = at-expression .before .before .before .before in
+    let p = s .pre .1 in
+    test-back _ _ (s .args .z) (p .5) _ _ _ (at-expression .expression .ensures) (no-value _ (c .match .keys2))
 
 three-sub-expression-2 : (t : ℕ) → three-lts.Need-sub-expression-2 (three-uses t) (three-at t) three.Post
-three-sub-expression-2 t c =     omega (arith, walk-some _ _ _ _ (c .before .before .before .before .before .before .before .before .before .pre .1 .3))
+three-sub-expression-2 t c =
+    let s = c .before .before .before .before .before .before .before .before .before in
+    omega (arith, walk-some _ _ _ _ (s .pre .1 .3))
 
 three-expression-requires-2 : (t : ℕ) → three-lts.Need-expression-requires-2 (three-uses t) (three-at t) three.Post
 three-expression-requires-2 t c κs =
-    let s = c .before .before .before .before .before .before .before .before .before in
+    let at-o = c .before .before .before in
+    let at-expression = at-o .before .before in
+    let s = at-expression .before .before .before .before in
     let p = s .pre .1 in
     let is = s .pre .0 in
     let some = walk-some _ _ _ _ (p .3) in
-    let a = c .before .before .before .before .before .expression .ensures in
+    let a = at-expression .expression .ensures in
     let w = test-walk _ _ _ _ (p .3) (p .5) in
-    let tested = operand-ends _ _ _ _ w _ _ _ a _ (c .before .before .before .o .given .1) in
+    let tested = operand-ends _ _ _ _ w _ _ _ a _ (at-o .o .given .1) in
     let ready = ready-after _ _ _ _ w _ _ _ a (p .2) in
     (omega arith, (p .0, p .1, ready, first-walk _ _ _ _ (p .3) (p .5) _ tested, omega (arith, p .4)))
 
@@ -564,24 +696,34 @@ three-enum-known-p t c = search needs
 
 three-returns-2 : (t : ℕ) → three-lts.Need-returns-2 (three-uses t) (three-at t) three.Post
 three-returns-2 t c =
-    let p = c .before .before .before .before .before .before .before .before .before .before .before .pre .1 in
-    first-back _ _ (c .before .before .before .before .before .before .before .before .before .before .before .args .z) (p .5) _ _ _ (c .before .before .before .before .before .before .before .expression .ensures) _ (c .before .before .before .before .before .o .given .1) _ _ (c .before .expression2 .ensures) (no-value _ (c .match2 .keys2))
+    let at-expression2 = c .before in
+    let at-o = at-expression2 .before .before .before .before in
+    let at-expression = at-o .before .before in
+    let s = at-expression .before .before .before .before in
+    let p = s .pre .1 in
+    first-back _ _ (s .args .z) (p .5) _ _ _ (at-expression .expression .ensures) _ (at-o .o .given .1) _ _ (at-expression2 .expression2 .ensures) (no-value _ (c .match2 .keys2))
 
 three-sub-expression-3 : (t : ℕ) → three-lts.Need-sub-expression-3 (three-uses t) (three-at t) three.Post
-three-sub-expression-3 t c =     omega (arith, walk-some _ _ _ _ (c .before .before .before .before .before .before .before .before .before .before .before .before .before .before .before .pre .1 .3))
+three-sub-expression-3 t c =
+    let s = c .before .before .before .before .before .before .before .before .before .before .before .before .before .before .before in
+    omega (arith, walk-some _ _ _ _ (s .pre .1 .3))
 
 three-expression-requires-3 : (t : ℕ) → three-lts.Need-expression-requires-3 (three-uses t) (three-at t) three.Post
 three-expression-requires-3 t c κs =
-    let s = c .before .before .before .before .before .before .before .before .before .before .before .before .before .before .before in
+    let at-p = c .before .before .before in
+    let at-expression2 = at-p .before .before in
+    let at-o = at-expression2 .before .before .before .before in
+    let at-expression = at-o .before .before in
+    let s = at-expression .before .before .before .before in
     let p = s .pre .1 in
     let is = s .pre .0 in
     let some = walk-some _ _ _ _ (p .3) in
-    let a = c .before .before .before .before .before .before .before .before .before .before .before .expression .ensures in
+    let a = at-expression .expression .ensures in
     let w = test-walk _ _ _ _ (p .3) (p .5) in
-    let tested = operand-ends _ _ _ _ w _ _ _ a _ (c .before .before .before .before .before .before .before .before .before .o .given .1) in
-    let b = c .before .before .before .before .before .expression2 .ensures in
+    let tested = operand-ends _ _ _ _ w _ _ _ a _ (at-o .o .given .1) in
+    let b = at-expression2 .expression2 .ensures in
     let v = first-walk _ _ _ _ (p .3) (p .5) _ tested in
-    let first = operand-ends _ _ _ _ v _ _ _ b _ (c .before .before .before .p .given .1) in
+    let first = operand-ends _ _ _ _ v _ _ _ b _ (at-p .p .given .1) in
     let ready = ready-after _ _ _ _ v _ _ _ b (ready-after _ _ _ _ w _ _ _ a (p .2)) in
     (omega arith, (p .0, p .1, ready, second-walk _ _ _ _ (p .3) (p .5) _ tested _ first, omega (arith, p .4)))
 
@@ -590,37 +732,59 @@ three-enum-known-q t c = search needs
 
 three-returns-3 : (t : ℕ) → three-lts.Need-returns-3 (three-uses t) (three-at t) three.Post
 three-returns-3 t c =
-    let p = c .before .before .before .before .before .before .before .before .before .before .before .before .before .before .before .before .before .pre .1 in
-    let a = c .before .before .before .before .before .before .before .before .before .before .before .before .before .expression .ensures in
-    let b = c .before .before .before .before .before .before .before .expression2 .ensures in
-    second-back _ _ (c .before .before .before .before .before .before .before .before .before .before .before .before .before .before .before .before .before .args .z) (p .5) _ _ _ a _ (c .before .before .before .before .before .before .before .before .before .before .before .o .given .1) _ _ b _ (c .before .before .before .before .before .p .given .1) _ _ (c .before .expression3 .ensures) (no-value _ (c .match3 .keys2))
+    let at-expression3 = c .before in
+    let at-p = at-expression3 .before .before .before .before in
+    let at-expression2 = at-p .before .before in
+    let at-o = at-expression2 .before .before .before .before in
+    let at-expression = at-o .before .before in
+    let s = at-expression .before .before .before .before in
+    let p = s .pre .1 in
+    let a = at-expression .expression .ensures in
+    let b = at-expression2 .expression2 .ensures in
+    second-back _ _ (s .args .z) (p .5) _ _ _ a _ (at-o .o .given .1) _ _ b _ (at-p .p .given .1) _ _ (at-expression3 .expression3 .ensures) (no-value _ (c .match3 .keys2))
 
 three-is-true-requires : (t : ℕ) → three-lts.Need-is-true-requires (three-uses t) (three-at t) three.Post
 three-is-true-requires t c κs = search needs
 
 three-choose-requires : (t : ℕ) → three-lts.Need-choose-requires (three-uses t) (three-at t) three.Post
 three-choose-requires t c κs =
-    let p = c .before .before .before .before .before .before .before .before .before .before .before .before .before .before .before .before .before .before .before .before .pre .1 in
-    let a = c .before .before .before .before .before .before .before .before .before .before .before .before .before .before .before .before .expression .ensures in
+    let at-q = c .before .before in
+    let at-expression3 = at-q .before .before in
+    let at-p = at-expression3 .before .before .before .before in
+    let at-expression2 = at-p .before .before in
+    let at-o = at-expression2 .before .before .before .before in
+    let at-expression = at-o .before .before in
+    let s = at-expression .before .before .before .before in
+    let p = s .pre .1 in
+    let a = at-expression .expression .ensures in
     let w = test-walk _ _ _ _ (p .3) (p .5) in
-    let tested = operand-ends _ _ _ _ w _ _ _ a _ (c .before .before .before .before .before .before .before .before .before .before .before .before .before .before .o .given .1) in
-    let b = c .before .before .before .before .before .before .before .before .before .before .expression2 .ensures in
+    let tested = operand-ends _ _ _ _ w _ _ _ a _ (at-o .o .given .1) in
+    let b = at-expression2 .expression2 .ensures in
     let v = first-walk _ _ _ _ (p .3) (p .5) _ tested in
-    let first = operand-ends _ _ _ _ v _ _ _ b _ (c .before .before .before .before .before .before .before .before .p .given .1) in
+    let first = operand-ends _ _ _ _ v _ _ _ b _ (at-p .p .given .1) in
     let u = second-walk _ _ _ _ (p .3) (p .5) _ tested _ first in
-    (small-value _ _ _ _ v _ _ _ b _ (c .before .before .before .before .before .before .before .before .p .given .1), small-value _ _ _ _ u _ _ _ (c .before .before .before .before .expression3 .ensures) _ (c .before .before .q .given .1))
+    (small-value _ _ _ _ v _ _ _ b _ (at-p .p .given .1), small-value _ _ _ _ u _ _ _ (at-expression3 .expression3 .ensures) _ (at-q .q .given .1))
 
 three-work-of-requires : (t : ℕ) → three-lts.Need-work-of-requires (three-uses t) (three-at t) three.Post
 three-work-of-requires t c κs = search needs
 
 three-returns-4 : (t : ℕ) → three-lts.Need-returns-4 (three-uses t) (three-at t) three.Post
 three-returns-4 t c =
-    let p = c .before .before .before .before .before .before .before .before .before .before .before .before .before .before .before .before .before .before .before .before .before .before .pre .1 in
-    let a = c .before .before .before .before .before .before .before .before .before .before .before .before .before .before .before .before .before .before .expression .ensures in
-    let b = c .before .before .before .before .before .before .before .before .before .before .before .before .expression2 .ensures in
-    let d = c .before .before .before .before .before .before .expression3 .ensures in
-    let says = rw (c .before .before .is-true .ensures) at (c .before .choose .ensures) in
-    let way = three-way _ _ (c .before .before .before .before .before .before .before .before .before .before .before .before .before .before .before .before .before .before .before .before .before .before .args .z) (p .5) _ _ _ a _ (c .before .before .before .before .before .before .before .before .before .before .before .before .before .before .before .before .o .given .1) _ _ b _ (c .before .before .before .before .before .before .before .before .before .before .p .given .1) _ _ d _ _ (c .before .before .before .before .q .given .1) says in
+    let at-choose = c .before in
+    let at-is-true = at-choose .before in
+    let at-q = at-is-true .before .before in
+    let at-expression3 = at-q .before .before in
+    let at-p = at-expression3 .before .before .before .before in
+    let at-expression2 = at-p .before .before in
+    let at-o = at-expression2 .before .before .before .before in
+    let at-expression = at-o .before .before in
+    let s = at-expression .before .before .before .before in
+    let p = s .pre .1 in
+    let a = at-expression .expression .ensures in
+    let b = at-expression2 .expression2 .ensures in
+    let d = at-expression3 .expression3 .ensures in
+    let says = rw (at-is-true .is-true .ensures) at (at-choose .choose .ensures) in
+    let way = three-way _ _ (s .args .z) (p .5) _ _ _ a _ (at-o .o .given .1) _ _ b _ (at-p .p .given .1) _ _ d _ _ (at-q .q .given .1) says in
     rw (c .work-of .ensures) way
 
 two-add-expression : (t : ℕ) → two-lts.Need-add-expression (two-uses t) (two-at t) two.Post
@@ -629,7 +793,9 @@ two-add-expression t c =
     omega (arith, there _ _ _ _ (s .pre .1 .3) 4 (s .pre .1 .5) (λ e. omega arith))
 
 two-sub-expression : (t : ℕ) → two-lts.Need-sub-expression (two-uses t) (two-at t) two.Post
-two-sub-expression t c =     omega (arith, walk-some _ _ _ _ (c .before .before .before .pre .1 .3))
+two-sub-expression t c =
+    let s = c .before .before .before in
+    omega (arith, walk-some _ _ _ _ (s .pre .1 .3))
 
 two-expression-requires : (t : ℕ) → two-lts.Need-expression-requires (two-uses t) (two-at t) two.Post
 two-expression-requires t c κs =
@@ -644,22 +810,28 @@ two-enum-known-o t c = search needs
 
 two-returns : (t : ℕ) → two-lts.Need-returns (two-uses t) (two-at t) two.Post
 two-returns t c =
-    let p = c .before .before .before .before .before .pre .1 in
-    left-back _ _ (c .before .before .before .before .before .args .z) (p .5) _ _ _ (c .before .expression .ensures) (no-value _ (c .match .keys2))
+    let at-expression = c .before in
+    let s = at-expression .before .before .before .before in
+    let p = s .pre .1 in
+    left-back _ _ (s .args .z) (p .5) _ _ _ (at-expression .expression .ensures) (no-value _ (c .match .keys2))
 
 two-sub-expression-2 : (t : ℕ) → two-lts.Need-sub-expression-2 (two-uses t) (two-at t) two.Post
-two-sub-expression-2 t c =     omega (arith, walk-some _ _ _ _ (c .before .before .before .before .before .before .before .before .before .pre .1 .3))
+two-sub-expression-2 t c =
+    let s = c .before .before .before .before .before .before .before .before .before in
+    omega (arith, walk-some _ _ _ _ (s .pre .1 .3))
 
 two-expression-requires-2 : (t : ℕ) → two-lts.Need-expression-requires-2 (two-uses t) (two-at t) two.Post
 two-expression-requires-2 t c κs =
-    let s = c .before .before .before .before .before .before .before .before .before in
+    let at-o = c .before .before .before in
+    let at-expression = at-o .before .before in
+    let s = at-expression .before .before .before .before in
     let p = s .pre .1 in
     let is = s .pre .0 in
     let some = walk-some _ _ _ _ (p .3) in
-    let a = c .before .before .before .before .before .expression .ensures in
+    let a = at-expression .expression .ensures in
     let w = left-walk _ _ _ _ (p .3) (p .5) in
     let ready = ready-after _ _ _ _ w _ _ _ a (p .2) in
-    let ends = operand-ends _ _ _ _ w _ _ _ a _ (c .before .before .before .o .given .1) in
+    let ends = operand-ends _ _ _ _ w _ _ _ a _ (at-o .o .given .1) in
     (omega arith, (p .0, p .1, ready, right-walk _ _ _ _ (p .3) (p .5) _ ends, omega (arith, p .4)))
 
 two-enum-known-p : (t : ℕ) → two-lts.Need-enum-known-p (two-uses t) (two-at t) two.Post
@@ -667,8 +839,12 @@ two-enum-known-p t c = search needs
 
 two-returns-2 : (t : ℕ) → two-lts.Need-returns-2 (two-uses t) (two-at t) two.Post
 two-returns-2 t c =
-    let p = c .before .before .before .before .before .before .before .before .before .before .before .pre .1 in
-    right-back _ _ (c .before .before .before .before .before .before .before .before .before .before .before .args .z) (p .5) _ _ _ (c .before .before .before .before .before .before .before .expression .ensures) _ (c .before .before .before .before .before .o .given .1) _ _ (c .before .expression2 .ensures) (no-value _ (c .match2 .keys2))
+    let at-expression2 = c .before in
+    let at-o = at-expression2 .before .before .before .before in
+    let at-expression = at-o .before .before in
+    let s = at-expression .before .before .before .before in
+    let p = s .pre .1 in
+    right-back _ _ (s .args .z) (p .5) _ _ _ (at-expression .expression .ensures) _ (at-o .o .given .1) _ _ (at-expression2 .expression2 .ensures) (no-value _ (c .match2 .keys2))
 
 two-add-natural : (t : ℕ) → two-lts.Need-add-natural (two-uses t) (two-at t) two.Post
 two-add-natural t c =
@@ -682,23 +858,35 @@ two-natural-requires t c κs =
 
 two-binary-requires : (t : ℕ) → two-lts.Need-binary-requires (two-uses t) (two-at t) two.Post
 two-binary-requires t c κs =
-    let p = c .before .before .before .before .before .before .before .before .before .before .before .before .before .before .pre .1 in
+    let at-p = c .before .before in
+    let at-expression2 = at-p .before .before in
+    let at-o = at-expression2 .before .before .before .before in
+    let at-expression = at-o .before .before in
+    let s = at-expression .before .before .before .before in
+    let p = s .pre .1 in
     let w = left-walk _ _ _ _ (p .3) (p .5) in
-    let a = c .before .before .before .before .before .before .before .before .before .before .expression .ensures in
-    let o = c .before .before .before .before .before .before .before .before .o .given in
+    let a = at-expression .expression .ensures in
+    let o = at-o .o .given in
     let v = right-walk _ _ _ _ (p .3) (p .5) _ (operand-ends _ _ _ _ w _ _ _ a _ (o .1)) in
-    let b = c .before .before .before .before .expression2 .ensures in
-    (omega (arith, two-few _ _ _ _ (p .3) (p .5), c .natural .ensures), small-value _ _ _ _ w _ _ _ a _ (o .1), small-value _ _ _ _ v _ _ _ b _ (c .before .before .p .given .1))
+    let b = at-expression2 .expression2 .ensures in
+    (omega (arith, two-few _ _ _ _ (p .3) (p .5), c .natural .ensures), small-value _ _ _ _ w _ _ _ a _ (o .1), small-value _ _ _ _ v _ _ _ b _ (at-p .p .given .1))
 
 two-work-of-requires : (t : ℕ) → two-lts.Need-work-of-requires (two-uses t) (two-at t) two.Post
 two-work-of-requires t c κs = search needs
 
 two-returns-3 : (t : ℕ) → two-lts.Need-returns-3 (two-uses t) (two-at t) two.Post
 two-returns-3 t c =
-    let p = c .before .before .before .before .before .before .before .before .before .before .before .before .before .before .before .before .pre .1 in
-    let a = c .before .before .before .before .before .before .before .before .before .before .before .before .expression .ensures in
-    let b = c .before .before .before .before .before .before .expression2 .ensures in
-    let way = two-way _ _ (c .before .before .before .before .before .before .before .before .before .before .before .before .before .before .before .before .args .z) (p .5) _ _ _ a _ (c .before .before .before .before .before .before .before .before .before .before .o .given .1) _ _ b _ _ _ (c .before .before .before .before .p .given .1) (c .before .before .natural .ensures) (c .before .binary .ensures) in
+    let at-binary = c .before in
+    let at-natural = at-binary .before in
+    let at-p = at-natural .before .before in
+    let at-expression2 = at-p .before .before in
+    let at-o = at-expression2 .before .before .before .before in
+    let at-expression = at-o .before .before in
+    let s = at-expression .before .before .before .before in
+    let p = s .pre .1 in
+    let a = at-expression .expression .ensures in
+    let b = at-expression2 .expression2 .ensures in
+    let way = two-way _ _ (s .args .z) (p .5) _ _ _ a _ (at-o .o .given .1) _ _ b _ _ _ (at-p .p .given .1) (at-natural .natural .ensures) (at-binary .binary .ensures) in
     rw (c .work-of .ensures) way
 
 -- a sheet that is formed has a variable
@@ -750,45 +938,64 @@ variable-enum-told t c = search needs
 
 variable-returns : (t : ℕ) → variable-lts.Need-returns (variable-uses t) (variable-at t) variable.Post
 variable-returns t c =
-    let n = c .before .before .before .before in
+    let at-index = c .before .before in
+    let at-record-place = at-index .before in
+    let at-natural = at-record-place .before in
+    let n = at-natural in
     let p = n .before .before .pre .1 in
     let known = variable-number t n in
     let number = n .natural .ensures in
-    let off = rw (c .before .before .before .record-place .ensures) at (sym (c .enum-told .given .1) ∙ c .before .before .index .ensures) in
+    let off = rw (at-record-place .record-place .ensures) at (sym (c .enum-told .given .1) ∙ at-index .index .ensures) in
     off-way _ _ (p .0) _ _ _ (p .3) (p .5) _ number known _ off
 
 variable-first-element-requires : (t : ℕ) → variable-lts.Need-first-element-requires (variable-uses t) (variable-at t) variable.Post
-variable-first-element-requires t c κs = omega (arith, variable-laid t (c .before .before .before .before .before) .low)
+variable-first-element-requires t c κs =
+    let at-natural = c .before .before .before .before .before in
+    omega (arith, variable-laid t (at-natural) .low)
 
 variable-add-e : (t : ℕ) → variable-lts.Need-add-e (variable-uses t) (variable-at t) variable.Post
 variable-add-e t c =
-    let n = c .before .before .before .before .before .before in
+    let at-found = c .before .before in
+    let at-index = at-found .before .before in
+    let at-record-place = at-index .before in
+    let at-natural = at-record-place .before in
+    let n = at-natural in
     let p = n .before .before .pre .1 in
     let known = variable-number t n in
     let number = n .natural .ensures in
-    let found = rw (c .before .before .before .before .before .record-place .ensures) at (sym (c .before .before .found .given .1) ∙ c .before .before .before .before .index .ensures) in
+    let found = rw (at-record-place .record-place .ensures) at (sym (at-found .found .given .1) ∙ at-index .index .ensures) in
     omega (arith, number-few _ _ (p .0) _ _ _ (p .3) (p .5) _ number known _ found, c .first-element .ensures)
 
 variable-element-requires : (t : ℕ) → variable-lts.Need-element-requires (variable-uses t) (variable-at t) variable.Post
 variable-element-requires t c κs =
-    let n = c .before .before .before .before .before .before .before .before in
+    let at-first-element = c .before .before in
+    let at-found = at-first-element .before .before in
+    let at-index = at-found .before .before in
+    let at-record-place = at-index .before in
+    let at-natural = at-record-place .before in
+    let n = at-natural in
     let p = n .before .before .pre .1 in
     let known = variable-number t n in
     let number = n .natural .ensures in
-    let found = rw (c .before .before .before .before .before .before .before .record-place .ensures) at (sym (c .before .before .before .before .found .given .1) ∙ c .before .before .before .before .before .before .index .ensures) in
+    let found = rw (at-record-place .record-place .ensures) at (sym (at-found .found .given .1) ∙ at-index .index .ensures) in
     let is = n .before .before .pre .0 in
-    let here = ap (λ x. x + c .before .before .before .before .found .given .0 .0) (c .before .before .first-element .ensures) in
+    let here = ap (λ x. x + at-found .found .given .0 .0) (at-first-element .first-element .ensures) in
     let element = named-element _ _ (p .0) _ _ _ (p .3) (p .5) _ number known _ found _ here in
     (omega arith, (p .0, p .1, p .2, element))
 
 variable-returns-2 : (t : ℕ) → variable-lts.Need-returns-2 (variable-uses t) (variable-at t) variable.Post
 variable-returns-2 t c =
-    let n = c .before .before .before .before .before .before .before .before .before in
+    let at-first-element = c .before .before .before in
+    let at-found = at-first-element .before .before in
+    let at-index = at-found .before .before in
+    let at-record-place = at-index .before in
+    let at-natural = at-record-place .before in
+    let n = at-natural in
     let p = n .before .before .pre .1 in
     let known = variable-number t n in
     let number = n .natural .ensures in
-    let found = rw (c .before .before .before .before .before .before .before .before .record-place .ensures) at (sym (c .before .before .before .before .before .found .given .1) ∙ c .before .before .before .before .before .before .before .index .ensures) in
-    let here = ap (λ x. x + c .before .before .before .before .before .found .given .0 .0) (c .before .before .before .first-element .ensures) in
+    let found = rw (at-record-place .record-place .ensures) at (sym (at-found .found .given .1) ∙ at-index .index .ensures) in
+    let here = ap (λ x. x + at-found .found .given .0 .0) (at-first-element .first-element .ensures) in
     variable-way _ _ (p .0) _ _ _ (p .3) (p .5) _ number known _ found _ here _ _ _ (c .element .ensures)
 
 pub +branch+element+expression+image+one+three+two+variable-spec : {M : Type 1} → statement M
