@@ -70,7 +70,8 @@ fn put_constraint(s: &[u8], at: usize, n: usize, m: Map, out: &mut [u8], to: usi
     ensures { λ _. ⌜ now (out .exit) ≡ sets (now (out .entry)) to (constraintBytes (constraintAfter (mapOf m) (constraintFields n (now (s .entry)) at))) ⌝ }
 {
     let relation = natural(s, at);
-    let row = row_after(m, row_read(s, at + 8, n));
+    let given = row_read(s, at + 8, n);
+    let row = row_after(m, given);
     put_nat(out, to, relation);
     put_row(out, to + 8, row, m.width);
 }
