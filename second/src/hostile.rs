@@ -357,7 +357,8 @@ fn staircase(levels: usize, branch: Part, wide: usize, last: Part) -> Part {
     body
 }
 
-/// All branches hold, none of thousands does, or the very last one alone.
+/// All branches hold, none of thousands does, the very last one alone, or that
+/// one below other elements.
 fn staircases() -> Vec<Named> {
     let never = || restrict(1, &[at_least(&[0], -1)], variable(0));
     let last = Draft::default().integer("e", LOCAL, &[(0, 0)]).declare(0, at_least(&[0], -1));
@@ -367,5 +368,17 @@ fn staircases() -> Vec<Named> {
         ("all-branches-hold", single(&[], staircase(31, integer(0), 63, integer(0)))),
         ("no-branch-holds", single(&[(0, 9)], staircase(30, never(), 31, never()))),
         ("last-branch-holds", last.body(stairs).bytes()),
+        ("stairs-below-deep-bodies", stairs_below()),
     ]
+}
+
+/// Bodies as deep as they go from element to element, and stairs below them.
+fn stairs_below() -> Vec<u8> {
+    let draft = Draft::default().integer("y", OUTPUT, &[(0, 3)]).integer("e", LOCAL, &[(99, 99)]);
+    let draft = draft.integer("u", OUTPUT, &[(0, 3)]).declare(1, at_least(&[0], -1));
+    let next = restrict(1, &[at_least(&[-1], 2)], shifted(0, 1));
+    let below = restrict(1, &[equal(&[1], -3)], variable(2));
+    let deep = (0..28).fold(case(&[next, below]), |part, _| negate(part));
+    let stairs = staircase(30, variable(1), 62, everywhere(1, integer(1)));
+    draft.body(deep).body(everywhere(1, integer(0))).body(stairs).bytes()
 }

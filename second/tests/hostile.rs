@@ -6,7 +6,7 @@ use second::{check, normalise, Refusal};
 /// A number, or a refusal and its place.
 type Answer = Result<u64, (u32, u64)>;
 
-const ANSWERS: [(&str, Answer, Answer); 52] = [
+const ANSWERS: [(&str, Answer, Answer); 53] = [
     ("box-of-2-to-64", Err((3, 8)), Err((3, 8))),
     ("box-of-2-to-48", Err((3, 8)), Err((3, 8))),
     ("box-of-4096", Ok(4096), Ok(152)),
@@ -59,6 +59,7 @@ const ANSWERS: [(&str, Answer, Answer); 52] = [
     ("all-branches-hold", Err((11, 0)), Err((11, 0))),
     ("no-branch-holds", Err((10, 0)), Err((10, 0))),
     ("last-branch-holds", Ok(10), Err((13, 1))),
+    ("stairs-below-deep-bodies", Ok(9), Err((13, 2))),
 ];
 
 fn plain(answer: Result<u64, Refusal>) -> Answer {

@@ -2,11 +2,11 @@
 //! sheets, in a thread with 1 MiB of stack; or, with the word `bench`, timed
 //! beside it.
 
+mod bench;
 mod calls;
 
 use calls::Told;
 use second::{Case, Refusal};
-use std::time::Instant;
 
 const STACK: usize = 1 << 20;
 
@@ -130,31 +130,10 @@ fn compare(seed: u64, count: usize) {
     assert!(bad == 0 && met, "an answer differs, or a refusal or a code was not met");
 }
 
-fn seconds(work: impl Fn()) -> f64 {
-    let start = Instant::now();
-    work();
-    start.elapsed().as_secs_f64()
-}
-
-fn bench() {
-    for c in second::hostile() {
-        let ours = seconds(|| {
-            calls::check(&c.sheet);
-        }) / 2.0;
-        let theirs = seconds(|| {
-            let _ = second::check(&c.sheet);
-        });
-        if theirs > 0.001 || ours > 0.001 {
-            let ratio = ours / theirs;
-            println!("check {:40} {ours:.4} s, second {theirs:.4} s, ratio {ratio:.2}", c.name);
-        }
-    }
-}
-
 fn main() {
     let words: Vec<String> = std::env::args().skip(1).collect();
     let work = move || match words.as_slice() {
-        [word] if word == "bench" => bench(),
+        [word] if word == "bench" => bench::bench(),
         [seed, count] => compare(seed.parse().expect("a seed"), count.parse().expect("a count")),
         _ => panic!("usage: compiled SEED COUNT, or compiled bench"),
     };
