@@ -19,6 +19,7 @@ pub fn hostile() -> Vec<Case> {
     sheets.extend(products());
     sheets.extend(wide_counts());
     sheets.extend(wide_totals());
+    sheets.extend(staircases());
     let case = |(name, sheet): (&str, Vec<u8>)| complete(&mut rng, name.to_string(), sheet);
     sheets.into_iter().map(case).collect()
 }
@@ -342,4 +343,42 @@ fn two_bodies() -> Vec<u8> {
     let half = || balanced(5, vec![integer(1); 400]);
     let draft = Draft::default().integer("p", OUTPUT, &[]).integer("q", OUTPUT, &[]);
     draft.body(half()).body(half()).bytes()
+}
+
+/// Cases in the last branch of cases: as many walks above one another as the
+/// nodes allow.
+fn staircase(levels: usize, branch: Part, wide: usize, last: Part) -> Part {
+    let mut body = last;
+    for _ in 0..levels {
+        let mut branches = vec![branch.clone(); wide];
+        branches.push(body);
+        body = case(&branches);
+    }
+    body
+}
+
+/// All branches hold, none of thousands does, the very last one alone, or that
+/// one below other elements.
+fn staircases() -> Vec<Named> {
+    let never = || restrict(1, &[at_least(&[0], -1)], variable(0));
+    let last = Draft::default().integer("e", LOCAL, &[(0, 0)]).declare(0, at_least(&[0], -1));
+    let last = last.integer("u", OUTPUT, &[(1, 9)]).body(everywhere(1, integer(0)));
+    let stairs = staircase(30, variable(0), 63, everywhere(1, integer(1)));
+    vec![
+        ("all-branches-hold", single(&[], staircase(31, integer(0), 63, integer(0)))),
+        ("no-branch-holds", single(&[(0, 9)], staircase(30, never(), 31, never()))),
+        ("last-branch-holds", last.body(stairs).bytes()),
+        ("stairs-below-deep-bodies", stairs_below()),
+    ]
+}
+
+/// Bodies as deep as they go from element to element, and stairs below them.
+fn stairs_below() -> Vec<u8> {
+    let draft = Draft::default().integer("y", OUTPUT, &[(0, 3)]).integer("e", LOCAL, &[(99, 99)]);
+    let draft = draft.integer("u", OUTPUT, &[(0, 3)]).declare(1, at_least(&[0], -1));
+    let next = restrict(1, &[at_least(&[-1], 2)], shifted(0, 1));
+    let below = restrict(1, &[equal(&[1], -3)], variable(2));
+    let deep = (0..28).fold(case(&[next, below]), |part, _| negate(part));
+    let stairs = staircase(30, variable(1), 62, everywhere(1, integer(1)));
+    draft.body(deep).body(everywhere(1, integer(0))).body(stairs).bytes()
 }

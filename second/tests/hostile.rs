@@ -6,7 +6,7 @@ use second::{check, normalise, Refusal};
 /// A number, or a refusal and its place.
 type Answer = Result<u64, (u32, u64)>;
 
-const ANSWERS: [(&str, Answer, Answer); 49] = [
+const ANSWERS: [(&str, Answer, Answer); 53] = [
     ("box-of-2-to-64", Err((3, 8)), Err((3, 8))),
     ("box-of-2-to-48", Err((3, 8)), Err((3, 8))),
     ("box-of-4096", Ok(4096), Ok(152)),
@@ -56,6 +56,10 @@ const ANSWERS: [(&str, Answer, Answer); 49] = [
     ("bytes-past-65536", Ok(31), Err((13, 30))),
     ("first-body-wide-at-second", Ok(2), Err((13, 1))),
     ("unreached-clash", Ok(1), Ok(296)),
+    ("all-branches-hold", Err((11, 0)), Err((11, 0))),
+    ("no-branch-holds", Err((10, 0)), Err((10, 0))),
+    ("last-branch-holds", Ok(10), Err((13, 1))),
+    ("stairs-below-deep-bodies", Ok(9), Err((13, 2))),
 ];
 
 fn plain(answer: Result<u64, Refusal>) -> Answer {

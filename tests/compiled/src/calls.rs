@@ -1,5 +1,5 @@
 //! The compiled calls: number and place of an answer, 0 and the answer where it
-//! is accepted; start and length of a body.
+//! is accepted; start and length of a body; a run's number and place, both tables filled.
 
 mod linked {
     extern "C" {
@@ -10,6 +10,17 @@ mod linked {
         pub fn body_start(sheet: *const u8, len: usize, v: u64) -> usize;
         pub fn body_len(sheet: *const u8, len: usize, v: u64) -> usize;
         pub fn slice_len(sheet: *const u8, len: usize, v: u64) -> usize;
+        pub fn run_told(
+            sheet: *const u8,
+            len: usize,
+            inputs: *const i32,
+            count: usize,
+            codes: *mut u8,
+            code_count: usize,
+            values: *mut i32,
+            value_count: usize,
+            told: *mut [u64; 2],
+        );
     }
 }
 
@@ -33,4 +44,23 @@ pub fn body(s: &[u8], v: u64) -> (usize, usize, usize) {
     unsafe {
         (linked::body_start(at, len, v), linked::body_len(at, len, v), linked::slice_len(at, len, v))
     }
+}
+
+/// The run with both tables lent.
+pub fn run(s: &[u8], inputs: &[i32], codes: &mut [u8], values: &mut [i32]) -> Told {
+    let mut told = [u64::MAX; 2];
+    unsafe {
+        linked::run_told(
+            s.as_ptr(),
+            s.len(),
+            inputs.as_ptr(),
+            inputs.len(),
+            codes.as_mut_ptr(),
+            codes.len(),
+            values.as_mut_ptr(),
+            values.len(),
+            &mut told,
+        );
+    }
+    (told[0], told[1])
 }
