@@ -5,7 +5,8 @@ mod linked {
     extern "C" {
         pub fn check_number(sheet: *const u8, len: usize) -> u64;
         pub fn check_place(sheet: *const u8, len: usize) -> u64;
-        pub fn element_number(sheet: *const u8, len: usize, v: u64, z: *const i64, n: usize) -> u64;
+        pub fn element_number(sheet: *const u8, len: usize, v: u64, z: *const i64, n: usize)
+            -> u64;
         pub fn element_place(sheet: *const u8, len: usize, v: u64, z: *const i64, n: usize) -> u64;
         pub fn body_start(sheet: *const u8, len: usize, v: u64) -> usize;
         pub fn body_len(sheet: *const u8, len: usize, v: u64) -> usize;
@@ -42,7 +43,11 @@ pub fn element(s: &[u8], v: u64, z: &[i64]) -> Told {
 pub fn body(s: &[u8], v: u64) -> (usize, usize, usize) {
     let (at, len) = (s.as_ptr(), s.len());
     unsafe {
-        (linked::body_start(at, len, v), linked::body_len(at, len, v), linked::slice_len(at, len, v))
+        (
+            linked::body_start(at, len, v),
+            linked::body_len(at, len, v),
+            linked::slice_len(at, len, v),
+        )
     }
 }
 

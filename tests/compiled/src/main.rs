@@ -123,7 +123,10 @@ fn compare(seed: u64, count: usize) {
     }
     println!("compiled: seed {seed}, {} cases, {bad} answers differ", all.len());
     println!("compiled: accepted, and each refusal 1 to 15: {refused:?}");
-    println!("compiled: runs, the same: {:?}; elements of each code {:?}", runs.refused, runs.codes);
+    println!(
+        "compiled: runs, the same: {:?}; elements of each code {:?}",
+        runs.refused, runs.codes
+    );
     let met = (1..=11).chain([15]).all(|n| refused[n] > 0)
         && (0..=12).chain([14]).all(|n| runs.refused[n] > 0)
         && runs.codes.iter().all(|n| *n > 0);

@@ -17,7 +17,8 @@ pub const LONGEST: usize = 208_910;
 /// So many generated cases and as many tiny ones, then the made ones.
 pub fn inputs(seed: u64, count: usize) -> Vec<Named> {
     let mut list = Vec::new();
-    let generated = [("case", second::cases(seed, count)), ("small", second::small_cases(seed, count))];
+    let generated =
+        [("case", second::cases(seed, count)), ("small", second::small_cases(seed, count))];
     for (kind, cases) in generated {
         for (index, c) in cases.into_iter().enumerate() {
             list.push((format!("{kind}-{index:04}-{}", c.name), c.stdin));
@@ -134,8 +135,8 @@ fn full() -> Vec<u8> {
     while left > 0 {
         let fields = match (left, left % 2) {
             (..=135, 1) => left,
-            (..=270, 0) => left / 2 | 1,
-            (..=405, _) => left / 4 | 1,
+            (..=270, 0) => (left / 2) | 1,
+            (..=405, _) => (left / 4) | 1,
             _ => 135,
         };
         counts.push((fields - 7) / 2);

@@ -18,8 +18,7 @@ const LIMIT: Duration = Duration::from_secs(1);
 const TRIES: usize = 3;
 
 /// The ends of a line, by what they tell.
-const OUTCOMES: [&str; 7] =
-    ["outside", "integer", "true", "false", "DIVZERO", "OVERFLOW", "LOOP"];
+const OUTCOMES: [&str; 7] = ["outside", "integer", "true", "false", "DIVZERO", "OVERFLOW", "LOOP"];
 
 /// How often each refusal and each outcome was printed.
 #[derive(Default)]
