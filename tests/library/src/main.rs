@@ -43,7 +43,7 @@ fn compare_all(seed: u64, count: usize) {
     for c in &hostile {
         compare(&mut tally, &mut failed, seed, c);
     }
-    let limits = limits::wrong();
+    let limits = limits::wrong(&hostile);
     for line in &limits {
         println!("library: at a limit of the normal form: {line}");
     }
