@@ -12,10 +12,27 @@ use std::time::Duration;
 
 /// The second program's walks may go deep; the executable has the process's.
 const STACK: usize = 1 << 28;
-/// What a hostile sheet may take. The machine may have other work: a run past
-/// the limit is tried again, and the least of three counts.
+/// What a hostile sheet may take: a second where elements and nodes make it
+/// large, and ten where cases nest too, since time grows with their depth. The
+/// machine may have other work: a run past the limit is tried again, and the
+/// least of three counts.
 const LIMIT: Duration = Duration::from_secs(1);
+const NESTED: Duration = Duration::from_secs(10);
+const LARGE: [&str; 4] = [
+    "reverse-chain-of-4096-deep-bodies",
+    "doubled-chain-of-4000",
+    "cycle-of-4096",
+    "thousand-leaves",
+];
 const TRIES: usize = 3;
+
+fn limit(name: &str) -> Duration {
+    if LARGE.contains(&name) {
+        LIMIT
+    } else {
+        NESTED
+    }
+}
 
 /// The ends of a line, by what they tell.
 const OUTCOMES: [&str; 7] = ["outside", "integer", "true", "false", "DIVZERO", "OVERFLOW", "LOOP"];
@@ -107,16 +124,21 @@ impl Comparison {
             second::hostile().into_iter().map(|c| (c.name, c.stdin)).collect();
         list.push(inputs::longest());
         for (name, input) in &list {
+            let limit = limit(name);
             let mut took = self.compare(name, input, usize::MAX);
             for _ in 1..TRIES {
-                if took >= LIMIT {
+                if took >= limit {
                     took = took.min(child::run(&self.executable, input, usize::MAX).took);
                 }
             }
             println!("program: {name:36} {:6.1} ms", took.as_secs_f64() * 1000.0);
-            if took >= LIMIT {
-                self.fail(name, input, &format!("{:.2} s, over 1 s", took.as_secs_f64()));
+            if took >= limit {
+                let (took, limit) = (took.as_secs_f64(), limit.as_secs());
+                self.fail(name, input, &format!("{took:.2} s, over {limit} s"));
             }
+        }
+        for name in LARGE {
+            assert!(list.iter().any(|(other, _)| other == name), "{name} is a hostile sheet");
         }
         println!("program: {} hostile sheets", list.len());
     }
