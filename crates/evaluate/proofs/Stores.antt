@@ -145,8 +145,12 @@ module _ (memo : Memo) (e : ℕ) (x : ℤ) (in-memo : e < length (memo .codes)) 
     kept-stored = record {
       long = simp length-set (K .long ∙ simp length-set);
       paired = simp length-set (K .paired ∙ simp length-set);
-      more = omega (arith, sum-store settledOne memo e unknown busy x in-memo fresh, K .more,
-          sum-store settledOne last e busy (codeOf r) (valueOf r) in-last still-busy);
+      more = omega (
+        arith,
+        sum-store settledOne memo e unknown busy x in-memo fresh,
+        K .more,
+        sum-store settledOne last e busy (codeOf r) (valueOf r) in-last still-busy,
+      );
       still = λ m h. decide m e (ℕ-discrete m e)
           (λ same. absurd (let b : codeAt memo e ≡ busy = rw same at h in omega (arith, b, fresh)))
           (λ other. code-other last e (codeOf r) (valueOf r) m other ∙ K .still m (code-other memo e busy x m other ∙ h));
@@ -159,10 +163,20 @@ module _ (memo : Memo) (e : ℕ) (x : ℤ) (in-memo : e < length (memo .codes)) 
       low = λ l m. decide m e (ℕ-discrete m e)
           (λ same. rw (same, code-same last e (codeOf r) (valueOf r) in-last) (answer-low r))
           (λ other. rw (code-other last e (codeOf r) (valueOf r) m other) (K .low (marked-low l) m));
-      marks = omega (arith, sum-store busyOne memo e unknown busy x in-memo fresh, K .marks,
-          sum-store busyOne last e busy (codeOf r) (valueOf r) in-last still-busy, answer-unmarked r);
-      less = omega (arith, sum-store toDo memo e unknown busy x in-memo fresh, K .less,
-          sum-store toDo last e busy (codeOf r) (valueOf r) in-last still-busy, answer-to-do r);
+      marks = omega (
+        arith,
+        sum-store busyOne memo e unknown busy x in-memo fresh,
+        K .marks,
+        sum-store busyOne last e busy (codeOf r) (valueOf r) in-last still-busy,
+        answer-unmarked r,
+      );
+      less = omega (
+        arith,
+        sum-store toDo memo e unknown busy x in-memo fresh,
+        K .less,
+        sum-store toDo last e busy (codeOf r) (valueOf r) in-last still-busy,
+        answer-to-do r,
+      );
     }
 
 -- an element that was wanted is still unknown where another entry is stored, or its own as unknown again

@@ -81,7 +81,17 @@ pub fn fill_all(
     while v < n {
         let from = first_element(tab, v);
         let to = first_element(tab, v + 1);
-        fill(s, tab, inside, known, found, &mut stack, v, &mut codes[from..to], &mut values[from..to]);
+        fill(
+            s,
+            tab,
+            inside,
+            known,
+            found,
+            &mut stack,
+            v,
+            &mut codes[from..to],
+            &mut values[from..to],
+        );
         v += 1;
     }
 }

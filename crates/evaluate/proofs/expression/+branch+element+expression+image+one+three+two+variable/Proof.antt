@@ -153,52 +153,113 @@ abbrev variable-below : ℕ → In 5 variable-kinds.ps
 variable-below t =
     and 5 variable-kinds.ps (falls 5 variable-kinds.ps _<_ μ-variable t) variable.Pre
 
-
 abbrev branch-uses : ℕ → branch-lts.Claims
 branch-uses t = (holding-reads.Asked, holding-reads.Learnt, expression-below t, expression.Post)
 
 abbrev element-uses : ℕ → element-lts.Claims
 element-uses t = (
-  of32-reads.Asked, of32-reads.Learnt, known-reads.Asked, known-reads.Learnt, of-reads.Asked, of-reads.Learnt, note-reads.Asked, note-reads.Learnt,
-  body-place-reads.Asked, body-place-reads.Learnt, expression-below t, expression.Post, code-of-reads.Asked, code-of-reads.Learnt, value-of-reads.Asked,
+  of32-reads.Asked,
+  of32-reads.Learnt,
+  known-reads.Asked,
+  known-reads.Learnt,
+  of-reads.Asked,
+  of-reads.Learnt,
+  note-reads.Asked,
+  note-reads.Learnt,
+  body-place-reads.Asked,
+  body-place-reads.Learnt,
+  expression-below t,
+  expression.Post,
+  code-of-reads.Asked,
+  code-of-reads.Learnt,
+  value-of-reads.Asked,
   value-of-reads.Learnt,
 )
 
 abbrev expression-uses : ℕ → expression-lts.Claims
 expression-uses t = (
-  natural-reads.Asked, natural-reads.Learnt, variable-below t, variable.Post, one-below t, one.Post, two-below t, two.Post, three-below t, three.Post,
-  branch-below t, branch.Post, node-len-reads.Asked, node-len-reads.Learnt, expression-below t, expression.Post, constant-reads.Asked,
-  constant-reads.Learnt, image-below t, image.Post,
+  natural-reads.Asked,
+  natural-reads.Learnt,
+  variable-below t,
+  variable.Post,
+  one-below t,
+  one.Post,
+  two-below t,
+  two.Post,
+  three-below t,
+  three.Post,
+  branch-below t,
+  branch.Post,
+  node-len-reads.Asked,
+  node-len-reads.Learnt,
+  expression-below t,
+  expression.Post,
+  constant-reads.Asked,
+  constant-reads.Learnt,
+  image-below t,
+  image.Post,
 )
 
 abbrev image-uses : ℕ → image-lts.Claims
 image-uses t = (
-  map-read-reads.Asked, map-read-reads.Learnt, apply-reads.Asked, apply-reads.Learnt, node-len-reads.Asked, node-len-reads.Learnt, expression-below t,
+  map-read-reads.Asked,
+  map-read-reads.Learnt,
+  apply-reads.Asked,
+  apply-reads.Learnt,
+  node-len-reads.Asked,
+  node-len-reads.Learnt,
+  expression-below t,
   expression.Post,
 )
 
 abbrev one-uses : ℕ → one-lts.Claims
 one-uses t = (
-  expression-below t, expression.Post, natural-reads.Asked, natural-reads.Learnt, unary-reads.Asked, unary-reads.Learnt, work-of-reads.Asked,
+  expression-below t,
+  expression.Post,
+  natural-reads.Asked,
+  natural-reads.Learnt,
+  unary-reads.Asked,
+  unary-reads.Learnt,
+  work-of-reads.Asked,
   work-of-reads.Learnt,
 )
 
 abbrev three-uses : ℕ → three-lts.Claims
 three-uses t = (
-  expression-below t, expression.Post, is-true-reads.Asked, is-true-reads.Learnt, choose-reads.Asked, choose-reads.Learnt, work-of-reads.Asked,
+  expression-below t,
+  expression.Post,
+  is-true-reads.Asked,
+  is-true-reads.Learnt,
+  choose-reads.Asked,
+  choose-reads.Learnt,
+  work-of-reads.Asked,
   work-of-reads.Learnt,
 )
 
 abbrev two-uses : ℕ → two-lts.Claims
 two-uses t = (
-  expression-below t, expression.Post, natural-reads.Asked, natural-reads.Learnt, binary-reads.Asked, binary-reads.Learnt, work-of-reads.Asked,
+  expression-below t,
+  expression.Post,
+  natural-reads.Asked,
+  natural-reads.Learnt,
+  binary-reads.Asked,
+  binary-reads.Learnt,
+  work-of-reads.Asked,
   work-of-reads.Learnt,
 )
 
 abbrev variable-uses : ℕ → variable-lts.Claims
 variable-uses t = (
-  natural-reads.Asked, natural-reads.Learnt, record-place-reads.Asked, record-place-reads.Learnt, index-reads.Asked, index-reads.Learnt,
-  first-element-reads.Asked, first-element-reads.Learnt, element-below t, element.Post,
+  natural-reads.Asked,
+  natural-reads.Learnt,
+  record-place-reads.Asked,
+  record-place-reads.Learnt,
+  index-reads.Asked,
+  index-reads.Learnt,
+  first-element-reads.Asked,
+  first-element-reads.Learnt,
+  element-below t,
+  element.Post,
 )
 
 branch-holding-requires : (t : ℕ) → branch-lts.Need-holding-requires (branch-uses t) (branch-at t) branch.Post
@@ -902,7 +963,6 @@ variable-number t c =
 variable-laid : (t : ℕ) (c : variable-lts.After-natural (variable-uses t) (variable-at t) variable.Post) →
     VariableLaid (now (c .before .before .args .s)) (now (c .before .before .args .tab)) (c .natural .result)
 variable-laid t c = laid-variable _ _ (c .before .before .pre .1 .0 .placed) _ (variable-number t c)
-
 
 variable-add-natural : (t : ℕ) → variable-lts.Need-add-natural (variable-uses t) (variable-at t) variable.Post
 variable-add-natural t c =
