@@ -40,7 +40,7 @@ fn alone(branches: bool) -> usize
 }
 
 // The tree at `at`, of at most `left` nodes, and where it ends.
-fn count_tree(s: &[u8], at: usize, left: usize) -> Branches
+pub fn count_tree(s: &[u8], at: usize, left: usize) -> Branches
     requires { ⌜ Standing (varsOf (now s)) (now s) at left × (left ≤ 2048) ⌝ }
     ensures { λ r. ⌜ Counts (now (s .entry)) at (r .many) × Ends (now (s .entry)) at (r .next) ⌝ }
 {

@@ -4,8 +4,7 @@ use borrow.Fn.PlainCycle.{Measures, is, falls, and}
 use Rattle.normal.proofs.choose.choose.Reads as choose
 use Rattle.normal.proofs.choose.choose.Kinds as choose-kinds
 use Rattle.normal.proofs.choose.+choose.Lts-choose as choose-lts
-use Rattle.normal.proofs.count.count.Reads as count-reads
-use Rattle.tree.proofs.skip.skip.Reads as skip-reads
+use Rattle.normal.proofs.count.count_tree.Reads as count-reads
 use Rattle.normal.proofs.choose.+choose.{statement}
 use Rattle.normal.proofs.choose.+choose.Tie.{close}
 use Prim.Native.Nat.{ℕ, _+_, _*_, _-_, _<_, _≤_}
@@ -24,41 +23,44 @@ abbrev choose-below : ℕ → In 1 choose-kinds.ps
 choose-below t = and 1 choose-kinds.ps (falls 1 choose-kinds.ps _<_ μ-choose t) choose.Pre
 
 abbrev choose-uses : ℕ → choose-lts.Claims
-choose-uses t = (count-reads.Asked, count-reads.Learnt, skip-reads.Asked, skip-reads.Learnt, choose-below t, choose.Post)
+choose-uses t = (count-reads.Asked, count-reads.Learnt, choose-below t, choose.Post)
 
-choose-count-requires : (t : ℕ) → choose-lts.Need-count-requires (choose-uses t) (choose-at t) choose.Post
-choose-count-requires t c κs =
+choose-count-tree-requires : (t : ℕ) → choose-lts.Need-count-tree-requires (choose-uses t) (choose-at t) choose.Post
+choose-count-tree-requires t c κs =
     let h = c .before .pre .1 .0 in
     (first-standing _ _ _ _ _ (children-some _ _ _ _ _ h) (children-standing _ _ _ _ _ h), c .before .pre .1 .1)
 
 choose-returns : (t : ℕ) → choose-lts.Need-returns (choose-uses t) (choose-at t) choose.Post
-choose-returns t c = first-way _ _ _ _ _ (c .before .before .before .pre .1 .0) _ (c .before .count .ensures) (c .if1 .taken)
-
-choose-skip-requires : (t : ℕ) → choose-lts.Need-skip-requires (choose-uses t) (choose-at t) choose.Post
-choose-skip-requires t c κs =
-    let h = c .before .before .before .pre .1 .0 in
-    (first-standing _ _ _ _ _ (children-some _ _ _ _ _ h) (children-standing _ _ _ _ _ h), c .before .before .before .pre .1 .1)
+choose-returns t c =
+    let counted = c .before in
+    let h = counted .before .before .pre .1 .0 in
+    first-way _ _ _ _ _ h _ (counted .count-tree .ensures .0) (c .if1 .taken)
 
 choose-sub-choose : (t : ℕ) → choose-lts.Need-sub-choose (choose-uses t) (choose-at t) choose.Post
-choose-sub-choose t c = omega (arith, children-some _ _ _ _ _ (c .before .before .before .before .pre .1 .0))
+choose-sub-choose t c = omega (arith, children-some _ _ _ _ _ (c .before .before .before .pre .1 .0))
 
 choose-choose-requires : (t : ℕ) → choose-lts.Need-choose-requires (choose-uses t) (choose-at t) choose.Post
 choose-choose-requires t c κs =
-    let s = c .before .before .before .before in
+    let counted = c .before in
+    let s = counted .before .before in
     let h = s .pre .1 .0 in
     let some = children-some _ _ _ _ _ h in
     let is = s .pre .0 in
-    (omega arith, (children-rest _ _ _ _ _ h _ (c .before .before .count .ensures) (c .before .if1 .left) _ (c .skip .ensures), s .pre .1 .1))
+    let found = counted .count-tree .ensures in
+    (omega arith, (children-rest _ _ _ _ _ h _ (found .0) (c .if1 .left) _ (found .1), s .pre .1 .1))
 
 choose-returns-2 : (t : ℕ) → choose-lts.Need-returns-2 (choose-uses t) (choose-at t) choose.Post
-choose-returns-2 t c = later-way _ _ _ _ _ (c .before .before .before .before .before .pre .1 .0) _ (c .before .before .before .count .ensures) (c .before .before .if1 .left) _ _ (c .before .skip .ensures) (c .choose .ensures)
+choose-returns-2 t c =
+    let counted = c .before .before in
+    let h = counted .before .before .pre .1 .0 in
+    let found = counted .count-tree .ensures in
+    later-way _ _ _ _ _ h _ (found .0) (c .before .if1 .left) _ _ (found .1) (c .choose .ensures)
 
 pub +choose-spec : {M : Type 1} → statement M
 +choose-spec = close μ-choose λ t. choose-lts.spec (choose-uses t) (choose-at t)
     choose.Post
-    (choose-count-requires t)
+    (choose-count-tree-requires t)
     (choose-returns t)
-    (choose-skip-requires t)
     (choose-sub-choose t)
     (choose-choose-requires t)
     (choose-returns-2 t)
