@@ -32,7 +32,7 @@ use Rattle.affine.proofs.Meaning.{height-length, width-cols}
 use Rattle.affine.proofs.Bounds.{image-near, mapReach-one, map-fits}
 use Rattle.tree.specs.Standing.{Standing, StandingAll}
 use Rattle.tree.proofs.Standings.{children-at, children-counted, one-more}
-use Rattle.domain.specs.Walk.{Bounded, Walk, WalkAll}
+use Rattle.domain.specs.Walk.{Ends, Bounded, Walk, WalkAll}
 
 -- only a dependence changes the point for its children
 pub same-below : (e : Expr) (n r : ℕ) → (codeNumber e ≡ 8 → ⊥) → (wanted (nodeOf e) n ≡ n) × (reachBelow (nodeOf e) r ≡ r)
@@ -153,6 +153,9 @@ module _ (bs : List ℕ) where
 
   -- ---- so many trees
 
+  pub walks-standing : (p left n : ℕ) (z : List Int) → WalkAll bs p left n z → StandingAll (varsOf bs) bs p left n
+  walks-standing p left n z h = record { trees = h .trees; end = h .end; at = h .at; few = h .few; many = h .many }
+
   module _ (p left n : ℕ) (z : List Int) (some : 1 ≤ n) (h : WalkAll bs p left n z) where
     split : MoreAt (h .trees) (varsOf bs) bs p (h .end) (n - 1)
     split = one-more (varsOf bs) bs (h .trees) p (h .end) n some (h .at) (h .many)
@@ -186,7 +189,7 @@ module _ (bs : List ℕ) where
     }
 
     -- the others, from where the first ends
-    pub walk-rest : (r : ℕ) → ((e : Expr) (q d : ℕ) → At e (varsOf bs) bs p q → fits e (headsOf bs) d ≡ true → r ≡ q) → WalkAll bs r left (n - 1) z
+    pub walk-rest : (r : ℕ) → Ends bs p r → WalkAll bs r left (n - 1) z
     walk-rest r ends = record {
       trees = split .rest;
       end = h .end;

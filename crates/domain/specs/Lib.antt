@@ -1,5 +1,6 @@
 -- The definitions that this crate's contracts cite, besides those of the crates below.
 pub mod Walk
+pub mod Held
 pub mod Standing
 pub mod Inside
 pub mod Constraints

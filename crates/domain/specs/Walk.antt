@@ -15,6 +15,10 @@ use Rattle.laws.specs.Sheets.{headsOf, varsOf}
 use Rattle.affine.specs.Value.{pointOf, Padded}
 use Rattle.affine.specs.Size.{Near}
 
+-- r is where every tree at p ends
+abbrev pub Ends : List ℕ → ℕ → ℕ → Type 0
+Ends bs p r = (e : Expr) (q n : ℕ) → At e (varsOf bs) bs p q → fits e (headsOf bs) n ≡ true → r ≡ q
+
 -- z has so many coordinates, each at most `bound` in size, and zeros beyond
 pub record Bounded (dims bound : ℕ) (z : List Int) : Type 0 where
   pub padded : Padded dims z

@@ -1,5 +1,4 @@
-// The branch that a case takes at a point. Assumes nothing.
-use super::Branch;
+// The branch that a case takes at a point where it holds. Assumes nothing.
 use super::Choice;
 use super::Standing;
 use super::stand::stand;
@@ -13,6 +12,7 @@ ghost use Rattle.laws.specs.Sheets.{sheetOf};
 ghost use Rattle.tree.specs.Formed.{BodiesPlaced};
 ghost use Rattle.domain.specs.Inside.{Inside};
 ghost use Rattle.domain.specs.Walk.{Walk, WalkAll};
+ghost use Rattle.domain.specs.Held.{Held};
 ghost use Rattle.domain.specs.Holding.{isHeld, TakesOf, Chooses};
 
 fn is_held(how: Standing) -> bool
@@ -25,7 +25,7 @@ fn is_held(how: Standing) -> bool
     }
 }
 
-// The first of `count` trees from `at` on that holds at z.
+// The first of `count` trees from `at` on that holds at z, where one does: the last where none before it holds.
 fn first_holding(
     s: &[u8],
     tab: &[usize; 102],
@@ -34,23 +34,24 @@ fn first_holding(
     left: usize,
     z: [Int; 4],
     count: usize,
-) -> Branch
-    requires { ⌜ BodiesPlaced (now s) (now tab) × Inside (sheetOf (now s)) (now inside) × WalkAll (now s) at left count z × (left ≤ 2048) ⌝ }
+) -> Choice
+    requires { ⌜ BodiesPlaced (now s) (now tab) × Inside (sheetOf (now s)) (now inside) × WalkAll (now s) at left count z × (left ≤ 2048) × (1 ≤ count) ⌝ }
     ensures { λ r. ⌜ TakesOf (now (s .entry)) at left count z r ⌝ }
 {
-    if count < 1 {
-        return Branch::Nowhere;
+    if count < 2 {
+        return Choice { at, rest: 0 };
     }
+    let rest = count - 1;
     let first = stand(s, tab, inside, at, left, z);
     let how = first.how;
     let next = first.next;
     if is_held(how) {
-        return Branch::At(at);
+        return Choice { at, rest };
     }
-    first_holding(s, tab, inside, next, left, z, count - 1)
+    first_holding(s, tab, inside, next, left, z, rest)
 }
 
-// The branch that the case at `at`, of at most `left` nodes, takes at z: the first that holds.
+// The branch that the case at `at`, of at most `left` nodes, takes at z, where the case holds: the first that holds.
 pub fn holding(
     s: &[u8],
     tab: &[usize; 102],
@@ -59,11 +60,9 @@ pub fn holding(
     left: usize,
     z: [Int; 4],
 ) -> Choice
-    requires { ⌜ BodiesPlaced (now s) (now tab) × Inside (sheetOf (now s)) (now inside) × Walk (now s) at left z × (left ≤ 2048) × (natAbs (field (now s) at) ≡ 6) ⌝ }
+    requires { ⌜ BodiesPlaced (now s) (now tab) × Inside (sheetOf (now s)) (now inside) × Walk (now s) at left z × (left ≤ 2048) × (natAbs (field (now s) at) ≡ 6) × Held (now s) at z ⌝ }
     ensures { λ r. ⌜ Chooses (now (s .entry)) at (left - 1) z r ⌝ }
 {
     let count = natural(s, at + 8);
-    let branch = first_holding(s, tab, inside, at + 16, left - 1, z, count);
-    let next = tree::skip::skip(s, at, left);
-    Choice { branch, next }
+    first_holding(s, tab, inside, at + 16, left - 1, z, count)
 }

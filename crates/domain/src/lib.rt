@@ -33,16 +33,10 @@ pub struct Stood {
     pub next: usize,
 }
 
-// Where the branch of a case stands that is taken, or that none holds.
-pub enum Branch {
-    At(usize),
-    Nowhere,
-}
-
-// The branch that a case takes, and the place after the case.
+// The place of the branch that a case takes, and how many branches follow it.
 pub struct Choice {
-    pub branch: Branch,
-    pub next: usize,
+    pub at: usize,
+    pub rest: usize,
 }
 
 // Which elements are inside their declared domain, and then GAP and CLASH over all elements: refusals 10 and 11 with their places.

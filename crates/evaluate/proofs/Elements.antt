@@ -35,6 +35,7 @@ use Rattle.points.specs.declared.Found.the-variants as Found
 use Rattle.points.specs.Number.{boxOf, numberIn, PointAt}
 use Rattle.tree.specs.Formed.{Formed}
 use Rattle.domain.specs.Walk.{Walk}
+use Rattle.domain.specs.Held.{Held}
 use Rattle.domain.proofs.Walks.{code-field}
 use Rattle.domain.proofs.Records.{VariableLaid, laid-variable}
 use Rattle.domain.proofs.Leaves.{Numbered, at-numbered, off-outside, number-is}
@@ -96,14 +97,29 @@ module _ (bs tab : List ℕ) (F : Formed bs tab) (v e : ℕ) (z : List Int) (I :
         })
         place is
 
-    -- what was worked out at its place
-    pub body-evaluated : (memo last : Memo) (place : ℕ) → place ≡ getD tab (69 + v) 0 → (r : Worked) → EvaluatesAt bs place z memo last r →
-        Done sheet memo last (λ ins. expression sheet ins (variable sheet v .body) point) (r .out)
-    body-evaluated memo last place place-is r E =
-        let b = F .placed .body v (I .known) no-input in
-        let at : At (variable sheet v .body) (varsOf bs) bs place (variable sheet v .end) = rw (place-is ∙ F .placed .starts v (I .known)) (b .at) in
-        let wide : length box ≡ dimension (headsOf bs) v = ap (λ x. length (x .box)) (laid .head-is) in
-        E (variable sheet v .body) (variable sheet v .end) (dimension (headsOf bs) v) at (rw wide at (b .fitting)) .done
+    -- it holds there, and what was worked out at its place
+    module _ (place : ℕ) (place-is : place ≡ getD tab (69 + v) 0) where
+      body-at : At (variable sheet v .body) (varsOf bs) bs place (variable sheet v .end)
+      body-at = rw (place-is ∙ F .placed .starts v (I .known)) (F .placed .body v (I .known) no-input .at)
+
+      body-fits : fits (variable sheet v .body) (headsOf bs) (dimension (headsOf bs) v) ≡ true
+      body-fits =
+          let wide : length box ≡ dimension (headsOf bs) v = ap (λ x. length (x .box)) (laid .head-is) in
+          rw wide at (F .placed .body v (I .known) no-input .fitting)
+
+      pub element-held : Held bs place z
+      element-held = record {
+        tree = variable sheet v .body;
+        end = variable sheet v .end;
+        dims = dimension (headsOf bs) v;
+        at = body-at;
+        fitting = body-fits;
+        holding = bodied .holding;
+      }
+
+      pub body-evaluated : (memo last : Memo) (r : Worked) → EvaluatesAt bs place z memo last r →
+          Done sheet memo last (λ ins. expression sheet ins (variable sheet v .body) point) (r .out)
+      body-evaluated memo last r E = E (variable sheet v .body) (variable sheet v .end) (dimension (headsOf bs) v) body-at body-fits .done
 
     pub body-by-number : (memo last : Memo) (r : Work) → Done sheet memo last (λ ins. expression sheet ins (variable sheet v .body) point) r → Done sheet memo last (bodyOf sheet e) r
     body-by-number memo last r D =
@@ -181,10 +197,13 @@ module _ (bs tab : List ℕ) (F : Formed bs tab) (v e : ℕ) (z : List Int) (I :
       pub walk-body : (place : ℕ) → place ≡ getD tab (69 + v) 0 → Walk bs place 2048 z
       walk-body place is = element-walk open-body place is
 
+      pub held-body : (place : ℕ) → place ≡ getD tab (69 + v) 0 → Held bs place z
+      held-body place is = element-held open-body place is
+
       -- that is worked out by its body
       module _ (place : ℕ) (place-is : place ≡ getD tab (69 + v) 0) (last : Memo) (r : Worked) (E : EvaluatesAt bs place z marked last r) where
         pub body-done : Done sheet marked last (λ ins. expression sheet ins (variable sheet v .body) point) (r .out)
-        body-done = body-evaluated open-body marked last place place-is r E
+        body-done = body-evaluated open-body place place-is marked last r E
 
         pub worked-way : Done sheet memo (noted last e (codeOf (r .out)) (valueOf (r .out))) (λ ins. element (outcomes sheet ins) e) (r .out)
         worked-way = record {

@@ -3,30 +3,27 @@
 use mathlib.Core.Path.{_≡_, refl, sym, ap, _∙_, subst}
 use Prim.Native.Nat.{ℕ, zero, suc, _+_, _-_, _≤_, _<_}
 use native.Mathlib.Omega.{arith}
-use mathlib.Core.Bool.{Bool, true, false, _&&_}
-use mathlib.Core.List.{List, [], _∷_}
-use mathlib.Core.Option.{Option, some}
-use mathlib.Core.Option as Option
-use lib.ListN.{length, getD}
-use lib.IntN.{ℤ, pos, natAbs}
+use mathlib.Core.Bool.{true, _&&_}
+use mathlib.Core.List.{List}
+use mathlib.Core.Option.{some}
+use lib.ListN.{length}
+use lib.IntN.{ℤ, natAbs}
 use lib.Dec.{eqb}
 use borrow.Author.Tests.{eqb-true}
 use Rattle.alpha.specs.declared.Int.{Int}
 use Rattle.alpha.specs.declared.Outcome as Outcomes
 use Rattle.alpha.specs.Field.{field}
-use Rattle.alpha.specs.Pick.{ifb}
-use Rattle.alpha.specs.Sheet.{Head, Expr, Exprs, Exprs.none, Exprs.more, Sheet, Point, Unary, Binary}
+use Rattle.alpha.specs.Sheet.{Expr, Exprs, Sheet, Point, Unary, Binary}
 use Rattle.alpha.specs.Sheet.{Expr.var, Expr.int, Expr.boo, Expr.un, Expr.bin, Expr.ite, Expr.kase, Expr.restr, Expr.dep}
 use Rattle.alpha.specs.Affine.{image}
-use Rattle.alpha.specs.Read.{dimension, unaryOf, binaryOf}
-use Rattle.alpha.specs.Shape.{fits, allFit}
-use Rattle.alpha.specs.Holds.{holds}
-use Rattle.alpha.specs.Outcome.{Outcome, outside, value, andThen, unary, binary, choose, isTrue, eval, outcome}
+use Rattle.alpha.specs.Read.{unaryOf, binaryOf}
+use Rattle.alpha.specs.Shape.{fits}
+use Rattle.alpha.specs.Outcome.{Outcome, value, andThen, unary, binary, choose, isTrue, eval, outcome}
+use Rattle.alpha.specs.Written.{branchCount}
 use Rattle.laws.specs.At.{nodeLen, At, AllAt}
 use Rattle.laws.specs.Sheets.{headsOf, varsOf, sheetOf}
 use Rattle.laws.proofs.Tests.{&&-left, &&-right}
-use Rattle.laws.proofs.Readers.{counted-is}
-use Rattle.laws.proofs.Shapes.{IntAt, BooAt, UnAt, BinAt, IteAt, KaseAt, RestrAt, DepAt, at-int, at-boo, at-un, at-bin, at-ite, at-kase, at-restr, at-dep}
+use Rattle.laws.proofs.Shapes.{UnAt, BinAt, IteAt, KaseAt, RestrAt, DepAt, at-int, at-boo, at-un, at-bin, at-ite, at-kase, at-restr, at-dep}
 use Rattle.integer.specs.Range.{In32}
 use Rattle.integer.specs.Range as Range
 use Rattle.integer.proofs.Order.{within-32}
@@ -34,18 +31,16 @@ use Rattle.affine.specs.declared.Map.{Map}
 use Rattle.affine.specs.Value.{pointOf, mapOf}
 use Rattle.affine.specs.Reading.{MapRead}
 use Rattle.affine.proofs.Meaning.{height-length, width-cols}
-use Rattle.domain.specs.declared.Branch.{Branch}
-use Rattle.domain.specs.declared.Branch.the-variants as Branch
 use Rattle.domain.specs.declared.Choice.{Choice}
-use Rattle.domain.specs.Holding.{firstHolding, Takes, Chooses}
+use Rattle.domain.specs.Holding.{firstHolding, Taken, Chooses}
 use Rattle.domain.proofs.Walks.{code-field}
 use Rattle.domain.proofs.Choices.{outcomeOf, first-outcome}
 use Rattle.evaluate.specs.declared.Work.{Work}
-use Rattle.evaluate.specs.declared.Work.the-variants.{Outside, Value, DivZero, Overflow, Loop, Deep}
+use Rattle.evaluate.specs.declared.Work.the-variants.{Value}
 use Rattle.evaluate.specs.declared.Worked.{Worked}
-use Rattle.evaluate.specs.Memo.{Thing, Memo, Kept}
+use Rattle.evaluate.specs.Memo.{Thing, Memo}
 use Rattle.evaluate.specs.Working.{workOf, expression, Done, ConstantRead, Evaluated, EvaluatesAt}
-use Rattle.evaluate.proofs.Doing.{expression-grows, done-same, done-known, done-value, done-outside, done-first, done-next}
+use Rattle.evaluate.proofs.Doing.{expression-grows, done-same, done-known, done-value, done-first, done-next}
 
 -- ---- what an expression's outcome is, by its operands'
 
@@ -71,9 +66,6 @@ module _ (s : Sheet) (ins : List ℤ) (z : Point) (k : ℕ) where
 taken-is : (s : Sheet) (es : Exprs) (z : Point) (t : Expr) → firstHolding es s z ≡ some t → (ins : List ℤ) (k : ℕ) → expression s ins (kase es) z k ≡ expression s ins t z k
 taken-is s es z t h ins k = case-is s ins z k es ∙ ap (λ o. outcomeOf o s (outcome k s ins) z) h
 
-nowhere-is : (s : Sheet) (es : Exprs) (z : Point) → firstHolding es s z ≡ Option.none → (ins : List ℤ) (k : ℕ) → expression s ins (kase es) z k ≡ outside
-nowhere-is s es z h ins k = case-is s ins z k es ∙ ap (λ o. outcomeOf o s (outcome k s ins) z) h
-
 restricted-is : (s : Sheet) (d : ℕ) (cs : List _) (a : Expr) (z : Point) (ins : List ℤ) (k : ℕ) → expression s ins (restr d cs a) z k ≡ expression s ins a z k
 unfolding eval
 restricted-is s d cs a z ins k = refl
@@ -81,20 +73,6 @@ restricted-is s d cs a z ins k = refl
 imaged-is : (s : Sheet) (f : _) (a : Expr) (z : Point) (ins : List ℤ) (k : ℕ) → expression s ins (dep f a) z k ≡ expression s ins a (image (f .rows) z) k
 unfolding eval
 imaged-is s f a z ins k = refl
-
--- the branch that is taken fits
-first-fits : (hs : List Head) (es : Exprs) (s : Sheet) (n : ℕ) (z : Point) (t : Expr) → firstHolding es s z ≡ some t → allFit es hs n ≡ true → fits t hs n ≡ true
-unfolding firstHolding fits
-first-fits hs none s n z t h g = absurd (none-not-some h)
-  where
-    none-not-some : {A : Type 0} {a : A} → _≡_ {A = Option A} Option.none (some a) → ⊥
-    none-not-some e = let x : _≡_ {A = ℕ} 0 1 = cc in omega arith
-first-fits hs (more e es) s n z t h g = go (holds e s z) h (&&-left (fits e hs n) (allFit es hs n) g) (first-fits hs es s n z t)
-  where
-    go : (b : Bool) → ifb b (λ _. some e) (λ _. firstHolding es s z) ≡ some t → fits e hs n ≡ true →
-        (firstHolding es s z ≡ some t → allFit es hs n ≡ true → fits t hs n ≡ true) → fits t hs n ≡ true
-    go true q fit rest = let same : e ≡ t = cc in rw (← same) fit
-    go false q fit rest = rest q (&&-right (fits e hs n) (allFit es hs n) g)
 
 -- ---- no value where a value's case is ruled out
 
@@ -389,34 +367,40 @@ module _ (bs : List ℕ) (p : ℕ) (z : List Int) where
     here-case : (e : Expr) (q : ℕ) → At e (varsOf bs) bs p q → KaseAt e (varsOf bs) bs p q
     here-case e q h = at-kase (varsOf bs) bs e p q h (code-field bs p e q 6 h code)
 
-    pub nowhere-way : (memo : Memo) → choice .branch ≡ Branch.Nowhere → EvaluatesAt bs p z memo memo (record { out = Outside; next = choice .next })
-    nowhere-way memo is e q n h f =
-        let x = here-case e q h in
-        let y = pointOf n z in
-        let found : Takes bs (x .branches) y Branch.Nowhere = subst (Takes bs (x .branches) y) is (C .says (x .branches) q n (rw (x .is) at h) (rw (x .is) at f)) in
-        evaluated-tree e (kase (x .branches)) q y memo memo _ (x .is) (record {
-          done = done-same sheet memo memo (λ ins. expression sheet ins (kase (x .branches)) y) (λ ins k. outside) Outside (nowhere-is sheet (x .branches) y found) (done-outside sheet memo);
-          ends = λ v g. C .ends e q h;
-        })
+    taken : (e : Expr) (q n : ℕ) (h : At e (varsOf bs) bs p q) → fits e (headsOf bs) n ≡ true → Taken bs (here-case e q h .branches) q n z choice
+    taken e q n h f = let x = here-case e q h in C .says (x .branches) q n (rw (x .is) at h) (rw (x .is) at f)
 
-    pub branch-way : (memo last : Memo) (at : ℕ) (r : Worked) → choice .branch ≡ Branch.At at → EvaluatesAt bs at z memo last r →
-        EvaluatesAt bs p z memo last (record { out = r .out; next = choice .next })
-    branch-way memo last at r is R e q n h f =
-        let x = here-case e q h in
-        let y = pointOf n z in
-        let taken : Takes bs (x .branches) y (Branch.At at) = subst (Takes bs (x .branches) y) is (C .says (x .branches) q n (rw (x .is) at h) (rw (x .is) at f)) in
-        let E = R (taken .tree) (taken .end) n (taken .at) (taken-fits (x .branches) n (taken .tree) (taken .first) (fit-case x f)) in
-        evaluated-tree e (kase (x .branches)) q y memo last _ (x .is) (record {
-          done = done-same sheet memo last (λ ins. expression sheet ins (kase (x .branches)) y) (λ ins. expression sheet ins (taken .tree) y) (r .out)
-              (taken-is sheet (x .branches) y (taken .tree) (taken .first)) (E .done);
-          ends = λ v g. C .ends e q h;
-        })
-      where
-        fit-case : (x : KaseAt e (varsOf bs) bs p q) → fits e (headsOf bs) n ≡ true → allFit (x .branches) (headsOf bs) n ≡ true
-        fit-case x g = unfold fits in rw (x .is) at g
+    module _ (memo last : Memo) (r : Worked) (R : EvaluatesAt bs (choice .at) z memo last r) where
+      -- the branch of any such tree
+      branch-done : (e : Expr) (q n : ℕ) (h : At e (varsOf bs) bs p q) (f : fits e (headsOf bs) n ≡ true) →
+          Evaluated bs (taken e q n h f .tree) (taken e q n h f .end) (pointOf n z) memo last r
+      branch-done e q n h f = let x = taken e q n h f in R (x .tree) (x .end) n (x .at) (x .fitting)
 
-        taken-fits : (es : Exprs) (n : ℕ) (t : Expr) → firstHolding es sheet (pointOf n z) ≡ some t → allFit es (headsOf bs) n ≡ true → fits t (headsOf bs) n ≡ true
-        taken-fits es n t h g = first-fits (headsOf bs) es sheet n (pointOf n z) t h g
+      -- the tree, which has the branch's outcome
+      case-done : (e : Expr) (q n : ℕ) (h : At e (varsOf bs) bs p q) (f : fits e (headsOf bs) n ≡ true) (o : Worked) → r .out ≡ o .out →
+          ((v : Int) → o .out ≡ Value v → o .next ≡ q) → Evaluated bs e q (pointOf n z) memo last o
+      case-done e q n h f o same ends =
+          let x = here-case e q h in
+          let y = pointOf n z in
+          let t = taken e q n h f in
+          let d = rw same at (branch-done e q n h f .done) in
+          evaluated-tree e (kase (x .branches)) q y memo last o (x .is) (record {
+            done = done-same sheet memo last (λ ins. expression sheet ins (kase (x .branches)) y) (λ ins. expression sheet ins (t .tree) y) (o .out)
+                (taken-is sheet (x .branches) y (t .tree) (t .first)) d;
+            ends = ends;
+          })
+
+      pub branch-back : None (r .out) → EvaluatesAt bs p z memo last r
+      branch-back lacks e q n h f = case-done e q n h f r refl (λ v g. absurd (lacks v g))
+
+      -- the branches after it are passed over
+      pub branch-way : (v : Int) (next : ℕ) → r .out ≡ Value v →
+          ((es : Exprs) (q : ℕ) → AllAt es (varsOf bs) bs (r .next) q → branchCount es ≡ choice .rest → next ≡ q) →
+          EvaluatesAt bs p z memo last (record { out = Value v; next = next })
+      branch-way v next is skips e q n h f =
+          let t = taken e q n h f in
+          let from : AllAt (t .others) (varsOf bs) bs (r .next) q = rw (branch-done e q n h f .ends v is) (t .after) in
+          case-done e q n h f (record { out = Value v; next = next }) is (λ w g. skips (t .others) q from (t .many))
 
   -- ---- a restriction
 

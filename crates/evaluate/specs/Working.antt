@@ -14,7 +14,7 @@ use Rattle.alpha.specs.Sheet.{Expr, Sheet, Point}
 use Rattle.alpha.specs.Box.{inBox}
 use Rattle.alpha.specs.Shape.{fits}
 use Rattle.alpha.specs.Read.{dimension}
-use Rattle.alpha.specs.Holds.{variable, isInput, inDomain}
+use Rattle.alpha.specs.Holds.{variable, isInput, inDomain, holds}
 use Rattle.alpha.specs.Check.{Element, elements, total}
 use Rattle.alpha.specs.Outcome.{Outcome, eval, outcome}
 use Rattle.alpha.specs.Ask.{numberOf}
@@ -60,11 +60,12 @@ expression s ins e z k = eval e s (outcome k s ins) z
 abbrev pub memoOf : List ℕ → List ℤ → Memo
 memoOf codes values = record { codes = codes; values = values }
 
--- an element that is worked out by its body
+-- an element that is worked out by its body, which holds there
 pub record Bodied (s : Sheet) (e : Element) : Type 0 where
   pub known : e .who < length s
   pub domain : inDomain (variable s (e .who)) (e .at) ≡ true
   pub no-input : isInput (variable s (e .who)) ≡ false
+  pub holding : holds (variable s (e .who) .body) s (e .at) ≡ true
 
 -- a memo to work with: two tables of 4,096 entries, in which each element that is not settled has a body
 pub record Ready (s : Sheet) (memo : Memo) : Type 0 where

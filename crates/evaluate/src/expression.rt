@@ -8,7 +8,6 @@ use super::memo::note;
 use super::memo::value_of;
 use super::memo::work_of;
 use alpha::Int;
-use domain::Branch;
 use domain::holding::holding;
 use points::Found;
 use sheet::table::body_place;
@@ -16,6 +15,7 @@ use sheet::table::first_element;
 use sheet::table::record_place;
 use tree::node::natural;
 use tree::node::node_len;
+use tree::skip::skip_all;
 ghost use mathlib.Core.Path.{_≡_};
 ghost use Prim.Native.Nat.{ℕ, _+_, _≤_};
 ghost use lib.ListN.{length};
@@ -25,6 +25,7 @@ ghost use Rattle.laws.specs.Sheets.{sheetOf};
 ghost use Rattle.tree.specs.Formed.{Formed};
 ghost use Rattle.domain.specs.Inside.{Inside};
 ghost use Rattle.domain.specs.Walk.{Walk};
+ghost use Rattle.domain.specs.Held.{Held};
 ghost use Rattle.evaluate.specs.Working.{memoOf, outcomes, Ready, Done, ElementIs, ConstantRead, EvaluatesAt};
 ghost use Rattle.evaluate.specs.Memo as Memo;
 
@@ -59,7 +60,7 @@ pub fn element(
     out
 }
 
-// The tree at `at`, of at most `left` nodes, at z.
+// The tree at `at`, of at most `left` nodes, at z, where it holds.
 pub fn expression(
     s: &[u8],
     tab: &[usize; 102],
@@ -71,7 +72,7 @@ pub fn expression(
     z: [Int; 4],
     depth: usize,
 ) -> Worked
-    requires { ⌜ Formed (now s) (now tab) × Inside (sheetOf (now s)) (now inside) × Ready (sheetOf (now s)) (memoOf (now codes) (now values)) × Walk (now s) at left z × (left ≤ 2048) ⌝ }
+    requires { ⌜ Formed (now s) (now tab) × Inside (sheetOf (now s)) (now inside) × Ready (sheetOf (now s)) (memoOf (now codes) (now values)) × Walk (now s) at left z × (left ≤ 2048) × Held (now s) at z ⌝ }
     ensures { λ r. ⌜ EvaluatesAt (now (s .entry)) at z (memoOf (now (codes .entry)) (now (values .entry))) (memoOf (now (codes .exit)) (now (values .exit))) r ⌝ }
 {
     let code = natural(s, at);
@@ -113,7 +114,7 @@ fn variable(
     z: [Int; 4],
     depth: usize,
 ) -> Worked
-    requires { ⌜ Formed (now s) (now tab) × Inside (sheetOf (now s)) (now inside) × Ready (sheetOf (now s)) (memoOf (now codes) (now values)) × Walk (now s) at left z × (left ≤ 2048) × (natAbs (field (now s) at) ≡ 0) ⌝ }
+    requires { ⌜ Formed (now s) (now tab) × Inside (sheetOf (now s)) (now inside) × Ready (sheetOf (now s)) (memoOf (now codes) (now values)) × Walk (now s) at left z × (left ≤ 2048) × (natAbs (field (now s) at) ≡ 0) × Held (now s) at z ⌝ }
     ensures { λ r. ⌜ EvaluatesAt (now (s .entry)) at z (memoOf (now (codes .entry)) (now (values .entry))) (memoOf (now (codes .exit)) (now (values .exit))) r ⌝ }
 {
     let v = natural(s, at + 8);
@@ -142,7 +143,7 @@ fn one(
     z: [Int; 4],
     depth: usize,
 ) -> Worked
-    requires { ⌜ Formed (now s) (now tab) × Inside (sheetOf (now s)) (now inside) × Ready (sheetOf (now s)) (memoOf (now codes) (now values)) × Walk (now s) at left z × (left ≤ 2048) × (natAbs (field (now s) at) ≡ 3) ⌝ }
+    requires { ⌜ Formed (now s) (now tab) × Inside (sheetOf (now s)) (now inside) × Ready (sheetOf (now s)) (memoOf (now codes) (now values)) × Walk (now s) at left z × (left ≤ 2048) × (natAbs (field (now s) at) ≡ 3) × Held (now s) at z ⌝ }
     ensures { λ r. ⌜ EvaluatesAt (now (s .entry)) at z (memoOf (now (codes .entry)) (now (values .entry))) (memoOf (now (codes .exit)) (now (values .exit))) r ⌝ }
 {
     let a = expression(s, tab, inside, codes, values, at + 16, left - 1, z, depth);
@@ -168,7 +169,7 @@ fn two(
     z: [Int; 4],
     depth: usize,
 ) -> Worked
-    requires { ⌜ Formed (now s) (now tab) × Inside (sheetOf (now s)) (now inside) × Ready (sheetOf (now s)) (memoOf (now codes) (now values)) × Walk (now s) at left z × (left ≤ 2048) × (natAbs (field (now s) at) ≡ 4) ⌝ }
+    requires { ⌜ Formed (now s) (now tab) × Inside (sheetOf (now s)) (now inside) × Ready (sheetOf (now s)) (memoOf (now codes) (now values)) × Walk (now s) at left z × (left ≤ 2048) × (natAbs (field (now s) at) ≡ 4) × Held (now s) at z ⌝ }
     ensures { λ r. ⌜ EvaluatesAt (now (s .entry)) at z (memoOf (now (codes .entry)) (now (values .entry))) (memoOf (now (codes .exit)) (now (values .exit))) r ⌝ }
 {
     let first = expression(s, tab, inside, codes, values, at + 16, left - 1, z, depth);
@@ -200,7 +201,7 @@ fn three(
     z: [Int; 4],
     depth: usize,
 ) -> Worked
-    requires { ⌜ Formed (now s) (now tab) × Inside (sheetOf (now s)) (now inside) × Ready (sheetOf (now s)) (memoOf (now codes) (now values)) × Walk (now s) at left z × (left ≤ 2048) × (natAbs (field (now s) at) ≡ 5) ⌝ }
+    requires { ⌜ Formed (now s) (now tab) × Inside (sheetOf (now s)) (now inside) × Ready (sheetOf (now s)) (memoOf (now codes) (now values)) × Walk (now s) at left z × (left ≤ 2048) × (natAbs (field (now s) at) ≡ 5) × Held (now s) at z ⌝ }
     ensures { λ r. ⌜ EvaluatesAt (now (s .entry)) at z (memoOf (now (codes .entry)) (now (values .entry))) (memoOf (now (codes .exit)) (now (values .exit))) r ⌝ }
 {
     let test = expression(s, tab, inside, codes, values, at + 8, left - 1, z, depth);
@@ -226,7 +227,7 @@ fn three(
     }
 }
 
-// A case: its holding branch.
+// A case, which holds: its first holding branch. The case ends after the branches that follow that one.
 fn branch(
     s: &[u8],
     tab: &[usize; 102],
@@ -238,21 +239,21 @@ fn branch(
     z: [Int; 4],
     depth: usize,
 ) -> Worked
-    requires { ⌜ Formed (now s) (now tab) × Inside (sheetOf (now s)) (now inside) × Ready (sheetOf (now s)) (memoOf (now codes) (now values)) × Walk (now s) at left z × (left ≤ 2048) × (natAbs (field (now s) at) ≡ 6) ⌝ }
+    requires { ⌜ Formed (now s) (now tab) × Inside (sheetOf (now s)) (now inside) × Ready (sheetOf (now s)) (memoOf (now codes) (now values)) × Walk (now s) at left z × (left ≤ 2048) × (natAbs (field (now s) at) ≡ 6) × Held (now s) at z ⌝ }
     ensures { λ r. ⌜ EvaluatesAt (now (s .entry)) at z (memoOf (now (codes .entry)) (now (values .entry))) (memoOf (now (codes .exit)) (now (values .exit))) r ⌝ }
 {
     let choice = holding(s, tab, inside, at, left, z);
-    let next = choice.next;
-    let taken = choice.branch;
-    let Branch::At(p) = taken else {
-        return Worked {
-            out: Work::Outside,
-            next,
-        };
+    let taken = choice.at;
+    let r = expression(s, tab, inside, codes, values, taken, left - 1, z, depth);
+    let o = r.out;
+    let Work::Value(x) = o else {
+        return r;
     };
-    let r = expression(s, tab, inside, codes, values, p, left - 1, z, depth);
-    let out = r.out;
-    Worked { out, next }
+    let rest = choice.rest;
+    Worked {
+        out: Work::Value(x),
+        next: skip_all(s, r.next, left - 1, rest),
+    }
 }
 
 // A dependence: its child at the image.
@@ -267,7 +268,7 @@ fn image(
     z: [Int; 4],
     depth: usize,
 ) -> Worked
-    requires { ⌜ Formed (now s) (now tab) × Inside (sheetOf (now s)) (now inside) × Ready (sheetOf (now s)) (memoOf (now codes) (now values)) × Walk (now s) at left z × (left ≤ 2048) × (natAbs (field (now s) at) ≡ 8) ⌝ }
+    requires { ⌜ Formed (now s) (now tab) × Inside (sheetOf (now s)) (now inside) × Ready (sheetOf (now s)) (memoOf (now codes) (now values)) × Walk (now s) at left z × (left ≤ 2048) × (natAbs (field (now s) at) ≡ 8) × Held (now s) at z ⌝ }
     ensures { λ r. ⌜ EvaluatesAt (now (s .entry)) at z (memoOf (now (codes .entry)) (now (values .entry))) (memoOf (now (codes .exit)) (now (values .exit))) r ⌝ }
 {
     let y = affine::apply(affine::map_read(s, at + 8), z);

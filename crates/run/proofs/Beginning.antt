@@ -15,8 +15,9 @@ use Rattle.alpha.specs.Pick.{ifb}
 use Rattle.alpha.specs.Sheet.{Range, Sheet, Point}
 use Rattle.alpha.specs.Affine.{meetsAll}
 use Rattle.alpha.specs.Box.{size, inBox, index, pointAt}
-use Rattle.alpha.specs.Holds.{variable, isInput, inDomain}
-use Rattle.alpha.specs.Check.{Element, elements, total}
+use Rattle.alpha.specs.Holds.{variable, isInput, inDomain, holds}
+use Rattle.alpha.specs.Answer.{accepted}
+use Rattle.alpha.specs.Check.{Element, elements, total, check}
 use Rattle.alpha.specs.Ask.{before, numberOf}
 use Rattle.alpha.specs.Outcome.{Outcome, outside, value, loop, inputsBefore, entry}
 use Rattle.laws.specs.Sheets.{sheetOf}
@@ -24,6 +25,7 @@ use Rattle.laws.proofs.Tests.{ifb-true, ifb-false}
 use Rattle.laws.proofs.Boxes.{index-pointAt, pointAt-inBox, readBox-ordered}
 use Rattle.laws.proofs.Elements.{element-at, before-fits, number-of-element}
 use Rattle.laws.proofs.Growth.{outcome-outside, outcome-input}
+use Rattle.laws.proofs.Checked.{check-accepts}
 use Rattle.domain.specs.Inside.{Inside, bit}
 use Rattle.domain.proofs.Records.{VariableLaid}
 use Rattle.evaluate.specs.Memo.{busy, unknown, Memo, codeAt, valueAt, decoded, sum, busyOne, count, Right, noted}
@@ -188,6 +190,13 @@ unmarked (suc (suc (suc (suc zero)))) n = refl
 unmarked (suc (suc (suc (suc (suc zero))))) n = absurd (n refl)
 unmarked (suc (suc (suc (suc (suc (suc c)))))) n = refl
 
+-- each body holds in its variable's declared domain
+abbrev Covered : Sheet → Type 0
+Covered s = (v : ℕ) (z : Point) → v < length s → isInput (variable s v) ≡ false → inDomain (variable s v) z ≡ true → holds (variable s v .body) s z ≡ true
+
+pub accepted-covered : (bs : List ℕ) → check bs ≡ accepted (sheetOf bs) → Covered (sheetOf bs)
+accepted-covered bs e = check-accepts e .holds-all .covered
+
 module _ (s : Sheet) (ins : List ℤ) (memo : Memo) (few : total s ≤ 4096) (S : Started s ins memo (total s)) where
   pub started-idle : Idle memo
   started-idle = sum-none busyOne (memo .codes) (λ m. unmarked (codeAt memo m) (S .idle m))
@@ -208,9 +217,11 @@ module _ (s : Sheet) (ins : List ℤ) (memo : Memo) (few : total s ≤ 4096) (S 
         go true true p q e = g p q e
         go true false p q e = k p q e
 
-    bodied : 4 < codeAt memo m → Bodied s here
-    bodied u = cases (λ d c. absurd (omega (arith, c, u))) (λ d i c. absurd (omega (arith, c, u)))
-        (λ d i c. record { known = number-of-element s m (record { who = 0; at = [] }) lt .known; domain = d; no-input = i })
+    bodied : Covered s → 4 < codeAt memo m → Bodied s here
+    bodied covered u = cases (λ d c. absurd (omega (arith, c, u))) (λ d i c. absurd (omega (arith, c, u)))
+        (λ d i c.
+        let known = number-of-element s m (record { who = 0; at = [] }) lt .known in
+        record { known = known; domain = d; no-input = i; holding = covered (here .who) (here .at) known i d })
 
     settled : codeAt memo m ≤ 3 → outcomes s ins (count memo) m ≡ decoded (codeAt memo m) (valueAt memo m)
     settled l = cases
@@ -221,8 +232,8 @@ module _ (s : Sheet) (ins : List ℤ) (memo : Memo) (few : total s ≤ 4096) (S 
     stuck : codeAt memo m ≡ 4 → (k : ℕ) → outcomes s ins k m ≡ loop
     stuck four k = cases (λ d c. absurd (omega (arith, c, four))) (λ d i c. absurd (omega (arith, c, four))) (λ d i c. absurd (omega (arith, c, four)))
 
-  pub started-ready : Ready s memo
-  started-ready = record { codes-long = S .codes-long; values-long = S .values-long; few = few; low = S .low; opens = λ m lt u. bodied m lt u }
+  pub started-ready : Covered s → Ready s memo
+  started-ready covered = record { codes-long = S .codes-long; values-long = S .values-long; few = few; low = S .low; opens = λ m lt u. bodied m lt covered u }
 
   pub started-right : Right (outcomes s ins) (total s) memo
   started-right = record { settled = λ m lt l. settled m lt l; stuck = λ m lt four k. stuck m lt four k }

@@ -18,7 +18,7 @@ pub fn skip(s: &[u8], at: usize, left: usize) -> usize
 }
 
 // The place after `count` trees.
-fn skip_all(s: &[u8], at: usize, left: usize, count: usize) -> usize
+pub fn skip_all(s: &[u8], at: usize, left: usize, count: usize) -> usize
     requires { ⌜ StandingAll (varsOf (now s)) (now s) at left count × (left ≤ 2048) × (count ≤ 64) ⌝ }
     ensures { λ r. ⌜ ((es : Exprs) (q : ℕ) → AllAt es (varsOf (now (s .entry))) (now (s .entry)) at q → branchCount es ≡ count → r ≡ q) ⌝ }
 {

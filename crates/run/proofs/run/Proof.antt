@@ -12,7 +12,7 @@ use Rattle.tree.specs.Ruled.{ruled}
 use Rattle.domain.proofs.Records.{laid-total}
 use Rattle.accept.specs.Admits.{Admitted}
 use Rattle.run.proofs.Listing.{inputs-length}
-use Rattle.run.proofs.Beginning.{started-none, started-ready, started-idle, started-right}
+use Rattle.run.proofs.Beginning.{started-none, accepted-covered, started-ready, started-idle, started-right}
 use Rattle.run.proofs.Running.{unread-runs, inputs-runs, total-is, codes-runs, values-runs, all-runs}
 use Rattle.run.proofs.run.Statement.{statement}
 use Rattle.run.proofs.run.Tie as tie
@@ -82,7 +82,8 @@ fill-all-requires c κs =
     let S = c .before .before .before .before .before .before .start .ensures in
     let few = laid-total _ _ (a .formed .placed) in
     let n = many j in
-    (a .formed, a .filled, started-ready _ _ _ few S, started-idle _ _ _ few S, omega (arith, n, c .before .before .before .before .before .before .before .before .before .before .before .before .if1 .left), omega (arith, n, c .before .before .before .before .before .before .before .before .before .before .before .if2 .left))
+    let covered = accepted-covered _ (a .sheet-is) in
+    (a .formed, a .filled, started-ready _ _ _ few S covered, started-idle _ _ _ few S, omega (arith, n, c .before .before .before .before .before .before .before .before .before .before .before .before .if1 .left), omega (arith, n, c .before .before .before .before .before .before .before .before .before .before .before .if2 .left))
 
 same-length : tie.Need-same-length
 same-length c = search needs

@@ -1,4 +1,4 @@
--- `domain::first_holding` meets its contract: the first branch, or else the first of the others. Assumes nothing.
+-- `domain::first_holding` meets its contract: the only tree, or the first, or else the first of the others. Assumes nothing.
 use borrow.Fn.Kinds.{In}
 use borrow.Fn.PlainCycle.{Measures, is, falls, and}
 use Rattle.domain.proofs.holding.first_holding.Reads as first-holding
@@ -13,7 +13,7 @@ use mathlib.Core.Path.{_≡_, refl, sym, ap, _∙_}
 use native.Mathlib.Omega.{arith}
 use borrow.Author.Needs.{needs}
 use Rattle.domain.proofs.Walks.{walk-first, walk-rest}
-use Rattle.domain.proofs.Choices.{takes-none, takes-first, takes-rest}
+use Rattle.domain.proofs.Choices.{takes-last, takes-first, takes-rest}
 
 abbrev μ-first-holding : Measures 3 first-holding-kinds.ps ℕ
 μ-first-holding κs a = a .1 .1 .1 .1 .1 .1 .0
@@ -34,12 +34,15 @@ abbrev first-holding-uses : ℕ → first-holding-lts.Claims
 first-holding-uses t = (stand-reads.Asked, stand-reads.Learnt, is-held-reads.Asked, is-held-reads.Learnt, first-holding-below t, first-holding.Post)
 
 first-holding-returns : (t : ℕ) → first-holding-lts.Need-returns (first-holding-uses t) (first-holding-at t) first-holding.Post
-first-holding-returns t c = takes-none _ _ _ _ (c .before .before .args .z) (c .if1 .taken)
+first-holding-returns t c = let s = c .before .before in takes-last _ _ _ _ (s .args .z) (s .pre .1 .4) (s .pre .1 .2) (c .if1 .taken)
+
+first-holding-sub-rest : (t : ℕ) → first-holding-lts.Need-sub-rest (first-holding-uses t) (first-holding-at t) first-holding.Post
+first-holding-sub-rest t c = omega (arith, c .if1 .left)
 
 first-holding-stand-requires : (t : ℕ) → first-holding-lts.Need-stand-requires (first-holding-uses t) (first-holding-at t) first-holding.Post
 first-holding-stand-requires t c κs =
     let s = c .before .before in
-    (s .pre .1 .0, s .pre .1 .1, walk-first _ _ _ _ _ (c .if1 .left) (s .pre .1 .2), s .pre .1 .3)
+    (s .pre .1 .0, s .pre .1 .1, walk-first _ _ _ _ _ (s .pre .1 .4) (s .pre .1 .2), s .pre .1 .3)
 
 first-holding-is-held-requires : (t : ℕ) → first-holding-lts.Need-is-held-requires (first-holding-uses t) (first-holding-at t) first-holding.Post
 first-holding-is-held-requires t c κs = search needs
@@ -47,26 +50,29 @@ first-holding-is-held-requires t c κs = search needs
 first-holding-returns-2 : (t : ℕ) → first-holding-lts.Need-returns-2 (first-holding-uses t) (first-holding-at t) first-holding.Post
 first-holding-returns-2 t c =
     let s = c .before .before .before .before .before in
-    takes-first _ _ _ _ (s .args .z) (c .before .before .before .if1 .left) (s .pre .1 .2) _ (c .before .before .stand .ensures) (sym (c .before .is-held .ensures) ∙ c .if2 .taken)
+    takes-first _ _ _ _ (s .args .z) (s .pre .1 .4) (s .pre .1 .2) _ (c .before .before .stand .ensures) (sym (c .before .is-held .ensures) ∙ c .if2 .taken)
 
 first-holding-first-holding-requires : (t : ℕ) → first-holding-lts.Need-first-holding-requires (first-holding-uses t) (first-holding-at t) first-holding.Post
 first-holding-first-holding-requires t c κs =
     let s = c .before .before .before .before .before in
+    let p = s .pre .1 in
     let more = c .before .before .before .if1 .left in
     let is = s .pre .0 in
     let first = c .before .before .stand .ensures in
-    (omega arith, (s .pre .1 .0, s .pre .1 .1, walk-rest _ _ _ _ _ more (s .pre .1 .2) _ (λ e q d h f. first e q d h f .0), s .pre .1 .3))
+    (omega arith, (p .0, p .1, walk-rest _ _ _ _ _ (p .4) (p .2) _ (λ e q d h f. first e q d h f .0), p .3, omega arith))
 
 first-holding-returns-3 : (t : ℕ) → first-holding-lts.Need-returns-3 (first-holding-uses t) (first-holding-at t) first-holding.Post
 first-holding-returns-3 t c =
     let s = c .before .before .before .before .before .before in
+    let p = s .pre .1 in
     let fails = sym (c .before .before .is-held .ensures) ∙ c .before .if2 .left in
-    takes-rest _ _ _ _ (s .args .z) (c .before .before .before .before .if1 .left) (s .pre .1 .2) _ (c .before .before .before .stand .ensures) _ fails (c .first-holding .ensures)
+    takes-rest _ _ _ _ (s .args .z) (p .4) (p .2) _ (c .before .before .before .stand .ensures) _ fails (c .first-holding .ensures)
 
 pub +first-holding-spec : {M : Type 1} → statement M
 +first-holding-spec = close μ-first-holding λ t. first-holding-lts.spec (first-holding-uses t) (first-holding-at t)
     first-holding.Post
     (first-holding-returns t)
+    (first-holding-sub-rest t)
     (first-holding-stand-requires t)
     (first-holding-is-held-requires t)
     (first-holding-returns-2 t)

@@ -1,14 +1,12 @@
--- `domain::holding` meets its contract: its branches stand after its code and their number, and the case ends where it is passed over.
--- Assumes nothing.
+-- `domain::holding` meets its contract: the branches of the case stand after its code and their number. Assumes nothing.
 use mathlib.Core.Path.{_≡_, sym, _∙_}
 use Prim.Native.Nat.{ℕ, _+_, _≤_}
 use native.Mathlib.Omega.{arith}
 use lib.ListN.{length}
-use borrow.Author.Needs.{needs}
 use Rattle.tree.proofs.Noding.{second-there}
 use Rattle.tree.proofs.Standings.{standing-noded, standing-some}
 use Rattle.domain.proofs.Walks.{walk-standing}
-use Rattle.domain.proofs.Choices.{walk-branches, chooses}
+use Rattle.domain.proofs.Choices.{walk-branches, some-branch, chooses}
 use Rattle.domain.proofs.holding.holding.Statement.{statement}
 use Rattle.domain.proofs.holding.holding.Tie as tie
 
@@ -33,16 +31,14 @@ sub-first-holding c = omega (arith, standing-some _ _ _ _ (walk-standing _ _ _ _
 first-holding-requires : tie.Need-first-holding-requires
 first-holding-requires c κs =
     let p = c .before .before .pre in
-    (p .0, p .1, walk-branches _ _ _ _ _ (p .2) (p .4) (c .natural .ensures), omega (arith, p .3))
-
-skip-requires : tie.Need-skip-requires
-skip-requires c κs = let p = c .before .before .before .pre in (walk-standing _ _ _ _ (p .2), p .3)
+    let n = c .natural .ensures in
+    (p .0, p .1, walk-branches _ _ _ _ _ (p .2) (p .4) n, omega (arith, p .3), some-branch _ _ _ _ _ (p .2) (p .4) n)
 
 returns : tie.Need-returns
 returns c =
-    let p = c .before .before .before .before .pre in
-    chooses _ _ _ _ _ (p .2) (p .4) (c .before .before .natural .ensures) _ _ (c .before .first-holding .ensures) (c .skip .ensures)
+    let p = c .before .before .before .pre in
+    chooses _ _ _ _ _ (p .2) (p .4) (c .before .natural .ensures) (p .5) _ (c .first-holding .ensures)
 
 pub holding-spec : {M : Type 1} → statement M
 holding-spec =
-    tie.close (tie.spec add-natural natural-requires add-first-holding sub-first-holding first-holding-requires skip-requires returns)
+    tie.close (tie.spec add-natural natural-requires add-first-holding sub-first-holding first-holding-requires returns)

@@ -48,6 +48,7 @@ use Rattle.sheet.proofs.table.first_element.Reads as first-element-reads
 use Rattle.sheet.proofs.table.record_place.Reads as record-place-reads
 use Rattle.tree.proofs.node.natural.Reads as natural-reads
 use Rattle.tree.proofs.node.node_len.Reads as node-len-reads
+use Rattle.tree.proofs.skip.skip_all.Reads as skip-all-reads
 use Rattle.evaluate.proofs.expression.+branch+element+expression+image+one+three+two+variable.{
   statement,
 }
@@ -68,14 +69,17 @@ use Rattle.tree.proofs.Standings.{standing-there}
 use Rattle.domain.proofs.Walks.{walk-standing, walk-image, image-fits}
 use Rattle.domain.proofs.Records.{VariableLaid, laid-variable}
 use Rattle.domain.proofs.Restrictions.{restriction-walk}
+use Rattle.domain.proofs.Carried.{held-restricted, held-image}
 use Rattle.evaluate.specs.Memo as Memo
 use Rattle.evaluate.specs.Memo.{busy, Memo, noted}
 use Rattle.evaluate.specs.Working.{memoOf, outcomes, Ready, Done, EvaluatesAt}
 use Rattle.evaluate.proofs.Entries.{no-value, noted-is}
 use Rattle.evaluate.proofs.Doing.{ready-kept}
-use Rattle.evaluate.proofs.Operands.{not-zero, image-code, some-variable, walk-noded, walk-some, there, one-few, one-walk, two-few, left-walk, right-walk, test-walk, first-walk, second-walk, taken-walk, ready-after, small-value, operand-ends}
-use Rattle.evaluate.proofs.Ways.{constant-way, one-back, one-way, left-back, right-back, two-way, test-back, first-back, second-back, three-way, nowhere-way, branch-way, restriction-way, image-way}
-use Rattle.evaluate.proofs.Elements.{element-low, known-way, deep-way, ready-marked, walk-body, body-done, worked-way, variable-known, off-way, named-element, number-few, variable-way}
+use Rattle.evaluate.proofs.Operands.{not-zero, image-code, some-variable, walk-noded, walk-some, there, one-few, two-few, ready-after, small-value, operand-ends}
+use Rattle.evaluate.proofs.Operands.{one-walk, left-walk, right-walk, test-walk, first-walk, second-walk}
+use Rattle.evaluate.proofs.Operands.{one-held, left-held, right-held, test-held, first-held, second-held}
+use Rattle.evaluate.proofs.Ways.{constant-way, one-back, one-way, left-back, right-back, two-way, test-back, first-back, second-back, three-way, branch-back, branch-way, restriction-way, image-way}
+use Rattle.evaluate.proofs.Elements.{element-low, known-way, deep-way, ready-marked, walk-body, held-body, body-done, worked-way, variable-known, off-way, named-element, number-few, variable-way}
 
 -- a depth is worth more than all nodes of a body
 abbrev μ-branch : Measures 5 branch-kinds.ps ℕ
@@ -154,7 +158,7 @@ variable-below t =
     and 5 variable-kinds.ps (falls 5 variable-kinds.ps _<_ μ-variable t) variable.Pre
 
 abbrev branch-uses : ℕ → branch-lts.Claims
-branch-uses t = (holding-reads.Asked, holding-reads.Learnt, expression-below t, expression.Post)
+branch-uses t = (holding-reads.Asked, holding-reads.Learnt, expression-below t, expression.Post, skip-all-reads.Asked, skip-all-reads.Learnt)
 
 abbrev element-uses : ℕ → element-lts.Claims
 element-uses t = (
@@ -266,44 +270,59 @@ branch-holding-requires : (t : ℕ) → branch-lts.Need-holding-requires (branch
 branch-holding-requires t c κs =
     let s = c .before in
     let p = s .pre .1 in
-    (p .0 .placed, p .1, p .3, p .4, p .5)
-
-branch-enum-known-taken : (t : ℕ) → branch-lts.Need-enum-known-taken (branch-uses t) (branch-at t) branch.Post
-branch-enum-known-taken t c = search needs
-
-branch-enum-told : (t : ℕ) → branch-lts.Need-enum-told (branch-uses t) (branch-at t) branch.Post
-branch-enum-told t c = search needs
-
-branch-returns : (t : ℕ) → branch-lts.Need-returns (branch-uses t) (branch-at t) branch.Post
-branch-returns t c =
-    let at-holding = c .before .before in
-    let s = at-holding .before .before in
-    let p = s .pre .1 in
-    nowhere-way _ _ (s .args .z) _ (p .5) _ (at-holding .holding .ensures) _ (c .enum-told .given .1)
+    (p .0 .placed, p .1, p .3, p .4, p .5, p .6)
 
 branch-sub-expression : (t : ℕ) → branch-lts.Need-sub-expression (branch-uses t) (branch-at t) branch.Post
 branch-sub-expression t c =
-    let s = c .before .before .before .before .before .before .before in
+    let s = c .before .before .before .before in
     omega (arith, walk-some _ _ _ _ (s .pre .1 .3))
 
 branch-expression-requires : (t : ℕ) → branch-lts.Need-expression-requires (branch-uses t) (branch-at t) branch.Post
 branch-expression-requires t c κs =
-    let at-taken = c .before .before .before in
-    let at-holding = at-taken .before .before in
+    let at-holding = c .before .before in
     let s = at-holding .before .before in
     let p = s .pre .1 in
     let is = s .pre .0 in
     let some = walk-some _ _ _ _ (p .3) in
-    let walk = taken-walk _ _ _ _ _ (at-taken .taken .given .1) (at-holding .holding .ensures .walk) in
-    (omega arith, (p .0, p .1, p .2, walk, omega (arith, p .4)))
+    let taken = at-holding .holding .ensures in
+    (omega arith, (p .0, p .1, p .2, taken .walk, omega (arith, p .4), taken .held))
+
+branch-enum-known-o : (t : ℕ) → branch-lts.Need-enum-known-o (branch-uses t) (branch-at t) branch.Post
+branch-enum-known-o t c = search needs
+
+branch-returns : (t : ℕ) → branch-lts.Need-returns (branch-uses t) (branch-at t) branch.Post
+branch-returns t c =
+    let at-expression = c .before in
+    let at-holding = at-expression .before .before .before in
+    let s = at-holding .before .before in
+    let p = s .pre .1 in
+    branch-back _ _ (s .args .z) _ (p .5) _ (at-holding .holding .ensures) _ _ _ (at-expression .expression .ensures) (no-value _ (c .match .keys2))
+
+branch-sub-skip-all : (t : ℕ) → branch-lts.Need-sub-skip-all (branch-uses t) (branch-at t) branch.Post
+branch-sub-skip-all t c =
+    let s = c .before .before .before .before .before .before .before .before in
+    omega (arith, walk-some _ _ _ _ (s .pre .1 .3))
+
+branch-skip-all-requires : (t : ℕ) → branch-lts.Need-skip-all-requires (branch-uses t) (branch-at t) branch.Post
+branch-skip-all-requires t c κs =
+    let at-o = c .before in
+    let at-expression = at-o .before .before in
+    let at-holding = at-expression .before .before .before in
+    let s = at-holding .before .before in
+    let p = s .pre .1 in
+    let taken = at-holding .holding .ensures in
+    let ends = operand-ends _ _ _ _ (taken .walk) _ _ _ (at-expression .expression .ensures) _ (at-o .o .given .1) in
+    (taken .after _ ends, omega (arith, p .4), taken .few)
 
 branch-returns-2 : (t : ℕ) → branch-lts.Need-returns-2 (branch-uses t) (branch-at t) branch.Post
 branch-returns-2 t c =
-    let at-taken = c .before .before .before .before in
-    let at-holding = at-taken .before .before in
+    let at-o = c .before .before in
+    let at-expression = at-o .before .before in
+    let at-holding = at-expression .before .before .before in
     let s = at-holding .before .before in
     let p = s .pre .1 in
-    branch-way _ _ (s .args .z) _ (p .5) _ (at-holding .holding .ensures) _ _ _ _ (at-taken .taken .given .1) (c .expression .ensures)
+    let a = at-expression .expression .ensures in
+    branch-way _ _ (s .args .z) _ (p .5) _ (at-holding .holding .ensures) _ _ _ a _ _ (at-o .o .given .1) (c .skip-all .ensures)
 
 element-element-copy-out-code : (t : ℕ) → element-lts.Need-element-copy-out-code (element-uses t) (element-at t) element.Post
 element-element-copy-out-code t c =
@@ -382,7 +401,8 @@ element-expression-requires t c κs =
     let late = at-else1 .if1 .left in
     let ready = subst (Ready (sheetOf (now (s .args .s)))) (sym (element-marked t (at-note))) (ready-marked _ _ (p .0) _ _ _ (p .3) _ (p .2) late) in
     let walk = walk-body _ _ (p .0) _ _ _ (p .3) _ (p .2) late _ (at-body-place .body-place .ensures) in
-    (omega arith, (p .0, p .1, ready, walk, omega arith))
+    let held = held-body _ _ (p .0) _ _ _ (p .3) _ (p .2) late _ (at-body-place .body-place .ensures) in
+    (omega arith, (p .0, p .1, ready, walk, omega arith, held))
 
 element-code-of-requires : (t : ℕ) → element-lts.Need-code-of-requires (element-uses t) (element-at t) element.Post
 element-code-of-requires t c κs = search needs
@@ -461,7 +481,7 @@ expression-variable-requires t c κs =
     let p = s .pre .1 in
     let is = s .pre .0 in
     let code = sym (at-natural .natural .ensures) ∙ at-match-keys1 .match .keys1 in
-    (omega arith, (p .0, p .1, p .2, p .3, p .4, code))
+    (omega arith, (p .0, p .1, p .2, p .3, p .4, code, p .5))
 
 expression-one-requires : (t : ℕ) → expression-lts.Need-one-requires (expression-uses t) (expression-at t) expression.Post
 expression-one-requires t c κs =
@@ -471,7 +491,7 @@ expression-one-requires t c κs =
     let p = s .pre .1 in
     let is = s .pre .0 in
     let code = sym (at-natural .natural .ensures) ∙ at-match-keys2 .match .keys2 in
-    (omega arith, (p .0, p .1, p .2, p .3, p .4, code))
+    (omega arith, (p .0, p .1, p .2, p .3, p .4, code, p .5))
 
 expression-two-requires : (t : ℕ) → expression-lts.Need-two-requires (expression-uses t) (expression-at t) expression.Post
 expression-two-requires t c κs =
@@ -481,7 +501,7 @@ expression-two-requires t c κs =
     let p = s .pre .1 in
     let is = s .pre .0 in
     let code = sym (at-natural .natural .ensures) ∙ at-match-keys3 .match .keys3 in
-    (omega arith, (p .0, p .1, p .2, p .3, p .4, code))
+    (omega arith, (p .0, p .1, p .2, p .3, p .4, code, p .5))
 
 expression-three-requires : (t : ℕ) → expression-lts.Need-three-requires (expression-uses t) (expression-at t) expression.Post
 expression-three-requires t c κs =
@@ -491,7 +511,7 @@ expression-three-requires t c κs =
     let p = s .pre .1 in
     let is = s .pre .0 in
     let code = sym (at-natural .natural .ensures) ∙ at-match-keys4 .match .keys4 in
-    (omega arith, (p .0, p .1, p .2, p .3, p .4, code))
+    (omega arith, (p .0, p .1, p .2, p .3, p .4, code, p .5))
 
 expression-branch-requires : (t : ℕ) → expression-lts.Need-branch-requires (expression-uses t) (expression-at t) expression.Post
 expression-branch-requires t c κs =
@@ -501,7 +521,7 @@ expression-branch-requires t c κs =
     let p = s .pre .1 in
     let is = s .pre .0 in
     let code = sym (at-natural .natural .ensures) ∙ at-match-keys5 .match .keys5 in
-    (omega arith, (p .0, p .1, p .2, p .3, p .4, code))
+    (omega arith, (p .0, p .1, p .2, p .3, p .4, code, p .5))
 
 expression-node-len-requires : (t : ℕ) → expression-lts.Need-node-len-requires (expression-uses t) (expression-at t) expression.Post
 expression-node-len-requires t c κs =
@@ -529,7 +549,9 @@ expression-expression-requires t c κs =
     let some = walk-some _ _ _ _ (p .3) in
     let code = sym (at-natural .natural .ensures) ∙ at-match-keys6 .match .keys6 in
     let walk = restriction-walk _ _ _ _ (p .3) code in
-    (omega arith, (p .0, p .1, p .2, rw (at-node-len .node-len .ensures) walk, omega (arith, p .4)))
+    let held = held-restricted _ _ _ (p .5) code in
+    let long = at-node-len .node-len .ensures in
+    (omega arith, (p .0, p .1, p .2, rw long walk, omega (arith, p .4), rw long held))
 
 expression-constant-requires : (t : ℕ) → expression-lts.Need-constant-requires (expression-uses t) (expression-at t) expression.Post
 expression-constant-requires t c κs =
@@ -550,7 +572,7 @@ expression-image-requires t c κs =
     let code = at-natural .natural .ensures in
     let no = at-match-rest .match .rest in
     let eight = image-code _ _ _ _ (p .3) (omega (arith, at-else1 .if1 .left)) (λ e. no .0 .0 .0 .0 .1 (code ∙ e)) (λ e. no .0 .0 .0 .1 (code ∙ e)) (λ e. no .0 .0 .1 (code ∙ e)) (λ e. no .0 .1 (code ∙ e)) (λ e. no .1 (code ∙ e)) in
-    (omega arith, (p .0, p .1, p .2, p .3, p .4, eight))
+    (omega arith, (p .0, p .1, p .2, p .3, p .4, eight, p .5))
 
 expression-returns : (t : ℕ) → expression-lts.Need-returns (expression-uses t) (expression-at t) expression.Post
 expression-returns t c = c .variable .ensures
@@ -631,7 +653,9 @@ image-expression-requires t c κs =
     let some = walk-some _ _ _ _ (p .3) in
     let y = at-apply .apply .ensures in
     let walk = walk-image _ _ _ _ (p .3) (p .5) _ (at-map-read .map-read .ensures) _ (y .0) (y .1) in
-    (omega arith, (p .0, p .1, p .2, rw (at-node-len .node-len .ensures) walk, omega (arith, p .4)))
+    let held = held-image _ _ _ (p .6) (p .5) _ (at-map-read .map-read .ensures) _ (y .0) in
+    let long = at-node-len .node-len .ensures in
+    (omega arith, (p .0, p .1, p .2, rw long walk, omega (arith, p .4), rw long held))
 
 image-returns : (t : ℕ) → image-lts.Need-returns (image-uses t) (image-at t) image.Post
 image-returns t c =
@@ -658,7 +682,7 @@ one-expression-requires t c κs =
     let p = s .pre .1 in
     let is = s .pre .0 in
     let some = walk-some _ _ _ _ (p .3) in
-    (omega arith, (p .0, p .1, p .2, one-walk _ _ _ _ (p .3) (p .5), omega (arith, p .4)))
+    (omega arith, (p .0, p .1, p .2, one-walk _ _ _ _ (p .3) (p .5), omega (arith, p .4), one-held _ _ _ _ (p .3) (p .5) (p .6)))
 
 one-enum-known-o : (t : ℕ) → one-lts.Need-enum-known-o (one-uses t) (one-at t) one.Post
 one-enum-known-o t c = search needs
@@ -721,7 +745,7 @@ three-expression-requires t c κs =
     let p = s .pre .1 in
     let is = s .pre .0 in
     let some = walk-some _ _ _ _ (p .3) in
-    (omega arith, (p .0, p .1, p .2, test-walk _ _ _ _ (p .3) (p .5), omega (arith, p .4)))
+    (omega arith, (p .0, p .1, p .2, test-walk _ _ _ _ (p .3) (p .5), omega (arith, p .4), test-held _ _ _ _ (p .3) (p .5) (p .6)))
 
 three-enum-known-o : (t : ℕ) → three-lts.Need-enum-known-o (three-uses t) (three-at t) three.Post
 three-enum-known-o t c = search needs
@@ -750,7 +774,8 @@ three-expression-requires-2 t c κs =
     let w = test-walk _ _ _ _ (p .3) (p .5) in
     let tested = operand-ends _ _ _ _ w _ _ _ a _ (at-o .o .given .1) in
     let ready = ready-after _ _ _ _ w _ _ _ a (p .2) in
-    (omega arith, (p .0, p .1, ready, first-walk _ _ _ _ (p .3) (p .5) _ tested, omega (arith, p .4)))
+    let held = first-held _ _ _ _ (p .3) (p .5) _ tested (p .6) in
+    (omega arith, (p .0, p .1, ready, first-walk _ _ _ _ (p .3) (p .5) _ tested, omega (arith, p .4), held))
 
 three-enum-known-p : (t : ℕ) → three-lts.Need-enum-known-p (three-uses t) (three-at t) three.Post
 three-enum-known-p t c = search needs
@@ -786,7 +811,8 @@ three-expression-requires-3 t c κs =
     let v = first-walk _ _ _ _ (p .3) (p .5) _ tested in
     let first = operand-ends _ _ _ _ v _ _ _ b _ (at-p .p .given .1) in
     let ready = ready-after _ _ _ _ v _ _ _ b (ready-after _ _ _ _ w _ _ _ a (p .2)) in
-    (omega arith, (p .0, p .1, ready, second-walk _ _ _ _ (p .3) (p .5) _ tested _ first, omega (arith, p .4)))
+    let held = second-held _ _ _ _ (p .3) (p .5) _ tested (p .6) _ first in
+    (omega arith, (p .0, p .1, ready, second-walk _ _ _ _ (p .3) (p .5) _ tested _ first, omega (arith, p .4), held))
 
 three-enum-known-q : (t : ℕ) → three-lts.Need-enum-known-q (three-uses t) (three-at t) three.Post
 three-enum-known-q t c = search needs
@@ -864,7 +890,7 @@ two-expression-requires t c κs =
     let p = s .pre .1 in
     let is = s .pre .0 in
     let some = walk-some _ _ _ _ (p .3) in
-    (omega arith, (p .0, p .1, p .2, left-walk _ _ _ _ (p .3) (p .5), omega (arith, p .4)))
+    (omega arith, (p .0, p .1, p .2, left-walk _ _ _ _ (p .3) (p .5), omega (arith, p .4), left-held _ _ _ _ (p .3) (p .5) (p .6)))
 
 two-enum-known-o : (t : ℕ) → two-lts.Need-enum-known-o (two-uses t) (two-at t) two.Post
 two-enum-known-o t c = search needs
@@ -893,7 +919,8 @@ two-expression-requires-2 t c κs =
     let w = left-walk _ _ _ _ (p .3) (p .5) in
     let ready = ready-after _ _ _ _ w _ _ _ a (p .2) in
     let ends = operand-ends _ _ _ _ w _ _ _ a _ (at-o .o .given .1) in
-    (omega arith, (p .0, p .1, ready, right-walk _ _ _ _ (p .3) (p .5) _ ends, omega (arith, p .4)))
+    let held = right-held _ _ _ _ (p .3) (p .5) (p .6) _ ends in
+    (omega arith, (p .0, p .1, ready, right-walk _ _ _ _ (p .3) (p .5) _ ends, omega (arith, p .4), held))
 
 two-enum-known-p : (t : ℕ) → two-lts.Need-enum-known-p (two-uses t) (two-at t) two.Post
 two-enum-known-p t c = search needs
@@ -1072,11 +1099,12 @@ pub +branch+element+expression+image+one+three+two+variable-spec : {M : Type 1} 
     (λ t. branch-lts.spec (branch-uses t) (branch-at t)
     branch.Post
     (branch-holding-requires t)
-    (branch-enum-known-taken t)
-    (branch-enum-told t)
-    (branch-returns t)
     (branch-sub-expression t)
     (branch-expression-requires t)
+    (branch-enum-known-o t)
+    (branch-returns t)
+    (branch-sub-skip-all t)
+    (branch-skip-all-requires t)
     (branch-returns-2 t))
     (λ t. element-lts.spec (element-uses t) (element-at t)
     element.Post

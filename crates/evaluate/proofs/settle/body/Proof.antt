@@ -9,7 +9,7 @@ use Rattle.domain.proofs.Records.{VariableLaid, laid-variable}
 use Rattle.evaluate.specs.Working.{elementAt, Bodied, ElementIs}
 use Rattle.evaluate.specs.Settling.{Owns}
 use Rattle.evaluate.proofs.Owning.{owned-low, size-is, place-low, owned-element}
-use Rattle.evaluate.proofs.Elements.{element-walk, body-evaluated, body-by-number}
+use Rattle.evaluate.proofs.Elements.{element-walk, element-held, body-evaluated, body-by-number}
 use borrow.Author.Needs.{needs}
 use Rattle.evaluate.proofs.settle.body.Statement.{statement}
 use Rattle.evaluate.proofs.settle.body.Tie as tie
@@ -70,13 +70,15 @@ expression-requires : tie.Need-expression-requires
 expression-requires c κs =
     let a = c .before .before in
     let s = start a in
-    (s .pre .0, s .pre .1, s .pre .2, element-walk _ _ (s .pre .0) _ _ _ (here (a .before)) (bodied a) _ (a .body-place .ensures), omega arith)
+    let walk = element-walk _ _ (s .pre .0) _ _ _ (here (a .before)) (bodied a) _ (a .body-place .ensures) in
+    let held = element-held _ _ (s .pre .0) _ _ _ (here (a .before)) (bodied a) _ (a .body-place .ensures) in
+    (s .pre .0, s .pre .1, s .pre .2, walk, omega arith, held)
 
 returns : tie.Need-returns
 returns c =
     let a = c .before .before .before in
     let s = start a in
-    let done = body-evaluated _ _ (s .pre .0) _ _ _ (here (a .before)) (bodied a) _ _ _ (a .body-place .ensures) _ (c .expression .ensures) in
+    let done = body-evaluated _ _ (s .pre .0) _ _ _ (here (a .before)) (bodied a) _ (a .body-place .ensures) _ _ _ (c .expression .ensures) in
     body-by-number _ _ (s .pre .0) _ _ _ (here (a .before)) (bodied a) _ _ _ done
 
 pub body-spec : {M : Type 1} → statement M
