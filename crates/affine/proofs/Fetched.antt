@@ -5,14 +5,16 @@ use mathlib.Core.Logic.{⊎-elim}
 use mathlib.Core.List.{List, [], _∷_}
 use native.Mathlib.Omega.{arith}
 use native.Mathlib.Nat.{suc-mul, mul-le-mul, mul-le-mul-right}
+use lib.ListN.{length}
 use lib.IntN.{ℤ, pos, natAbs}
 use Rattle.alpha.specs.declared.Int.{Int}
 use Rattle.alpha.specs.Field.{field}
 use Rattle.alpha.specs.Sheet as Sheet
+use Rattle.alpha.specs.Read.{got, dependence}
 use Rattle.affine.specs.declared.Row.{Row}
 use Rattle.affine.specs.declared.Map.{Map}
 use Rattle.affine.specs.Value.{at, line, rowOf, mapOf, NeatRow, Neat}
-use Rattle.affine.specs.Reading.{rowFields, rowsFields, mapFields, RowAmong, MapRead}
+use Rattle.affine.specs.Reading.{rowFields, rowsFields, mapFields, RowAmong, MapRead, MapThere}
 use Rattle.affine.proofs.Several.{lt-or-le, several-same, below-four, past-four}
 use Rattle.affine.proofs.Meaning.{padded-more, row-same, map-same, past-line}
 use Rattle.affine.proofs.Reader.{MapGot, dependence-got}
@@ -75,7 +77,7 @@ module _ (bs : List ℕ) (p : ℕ) (m : Map) (neat : Neat m) where
   no-map none =
       record { neat = neat; is = λ f q e. absurd (none f q (dependence-got bs p e)); next = λ f q e. absurd (none f q (dependence-got bs p e)) }
 
-  pub map-is :
+  map-is :
       (n k : ℕ) → mapOf m ≡ record { cols = n; rows = rowsFields k n bs (p + 16) } → m .width ≡ n → m .height ≡ k →
       n ≡ natAbs (field bs p) → k ≡ natAbs (field bs (p + 8)) → MapRead bs p m
   map-is n k e w h wide high =
@@ -89,3 +91,23 @@ module _ (bs : List ℕ) (p : ℕ) (m : Map) (neat : Neat m) where
         is = λ f q g. fields ∙ sym (dependence-got bs p g .is);
         next = λ f q g. dependence-got bs p g .next ∙ ap (λ i. p + 16 + i) (sym span);
       }
+
+-- ---- where a dependence stands
+
+-- m has the k rows of n coefficients that stand after its columns and its number of rows
+abbrev pub RowsMap : List ℕ → ℕ → ℕ → ℕ → Map → Type 0
+RowsMap bs p n k m = (mapOf m ≡ record { cols = n; rows = rowsFields k n bs (p + 16) }) × Neat m × (m .height ≡ k) × (m .width ≡ n)
+
+pub map-there : (bs : List ℕ) (p : ℕ) {f : Sheet.Map} {q : ℕ} → dependence bs p ≡ got (Sheet.Node.nDep f) q → MapThere bs p
+map-there bs p e =
+    let g = dependence-got bs p e in record { cols-few = g .cols-few; rows-few = g .rows-few; inside = rw (g .next) at (g .inside) }
+
+module _ (bs : List ℕ) (p n k : ℕ) (wide : n ≡ natAbs (field bs p)) (high : k ≡ natAbs (field bs (p + 8))) where
+  -- its rows can be read
+  pub rows-there : MapThere bs p → (n ≤ 4) × (k ≤ 4) × (p + 16 + k * (8 * n + 8) ≤ length bs)
+  rows-there t =
+      let low = t .cols-few in let few = t .rows-few in (omega arith, omega arith, omega (arith, span-same wide high, t .inside))
+
+  -- and the map of these is its map
+  pub rows-map : (m : Map) → RowsMap bs p n k m → MapRead bs p m
+  rows-map m e = map-is bs p m (e .1) n k (e .0) (e .3) (e .2) wide high

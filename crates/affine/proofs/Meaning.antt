@@ -16,7 +16,7 @@ use Rattle.affine.specs.declared.Row.{Row}
 use Rattle.affine.specs.declared.Map.{Map}
 use Rattle.affine.specs.Value.{several, at, line, pointOf, rowOf, mapOf, Padded, NeatRow, ZeroRow, Neat, After, markOf}
 use Rattle.affine.specs.Size.{column, constants}
-use Rattle.affine.proofs.Several.{lt-or-le, length-several, several-same, map-several, below-four, past-four, dot-nothing, dot-several, dot-origin, rowAt-zero}
+use Rattle.affine.proofs.Several.{lt-or-le, length-several, several-same, map-several, below-four, past-four, dot-nothing, dot-several, dot-origin}
 
 -- ---- padding
 
@@ -47,9 +47,10 @@ image-several : (n : ℕ) (f : ℕ → Sheet.Row) (z : Sheet.Point) → image (s
 image-several zero f z = refl
 image-several (suc n) f z = ap (λ l. rowAt (f 0) z ∷ l) (image-several n (λ i. f (suc i)) z)
 
--- x is row i at p
+-- x is row i at p, and 0 past the rows
 abbrev pub Valued : Map → List Int → ℕ → ℤ → Type 0
-Valued m p i x = (n : ℕ) → NeatRow n (line m i) → x ≡ rowAt (rowOf n (line m i)) (pointOf n p)
+Valued m p i x =
+    (i < m .height → (n : ℕ) → NeatRow n (line m i) → x ≡ rowAt (rowOf n (line m i)) (pointOf n p)) × (m .height ≤ i → x ≡ pos 0)
 
 module _ (m : Map) (p : List Int) (a b c d : Int) (h : Neat m) where
   pub image-is :
@@ -59,11 +60,9 @@ module _ (m : Map) (p : List Int) (a b c d : Int) (h : Neat m) where
       let y = a ∷ b ∷ c ∷ d ∷ [] in
       let each : (i : ℕ) → i < 4 → Valued m p i (at y i) = below-four (λ i. Valued m p i (at y i)) va vb vc vd in
       let same : pointOf (m .height) y ≡ several (m .height) (λ i. rowAt (rowOf (m .width) (line m i)) (pointOf (m .width) p)) =
-      several-same (m .height) (at y) _ (λ i k. each i (let f = h .rows-few in omega arith) (m .width) (neat-line m h i)) in
-      let zeros : (j : ℕ) → j < 4 → m .height ≤ j → at y j ≡ pos 0 =
-      λ j k l. each j k 4 (neat-four (line m j) (h .cols-few) (h .lines j)) ∙ rowAt-zero (line m j) (h .beyond j l) p in (
+      several-same (m .height) (at y) _ (λ i k. each i (let f = h .rows-few in omega arith) .0 k (m .width) (neat-line m h i)) in (
         same ∙ sym (image-several (m .height) (λ i. rowOf (m .width) (line m i)) (pointOf (m .width) p)),
-        λ j l. ⊎-elim (λ k. zeros j k l) (λ k. ap (λ (x : Int). x .v) (past-four a b c d (record { v = pos 0 }) j k)) (lt-or-le j 4),
+        λ j l. ⊎-elim (λ k. each j k .1 l) (λ k. ap (λ (x : Int). x .v) (past-four a b c d (record { v = pos 0 }) j k)) (lt-or-le j 4),
       )
 
 -- ---- a row after a map

@@ -129,9 +129,6 @@ module _ (n : ℕ) (r : Row) (h : NeatRow n r) where
   rowReach-neat reach = ap (λ t. t * reach + natAbs (r .constant .v)) (sizes-several 4 n (at (r .coef)) (h .few) (h .rest))
 
 -- a row of zeros is 0 everywhere
-pub rowAt-zero : (r : Row) → ZeroRow r → (p : List Int) → rowAt (rowOf 4 r) (pointOf 4 p) ≡ pos 0
-rowAt-zero r h p = rw (dot-nothing 4 (at (r .coef)) (at p) (h .coefs), h .const)
-
 pub rowSize-zero : (r : Row) → ZeroRow r → (z : ℕ → ℤ) → rowSize (rowOf 4 r) (several 4 z) ≡ 0
 rowSize-zero r h z = rw (dotSize-nothing 4 (at (r .coef)) z (h .coefs), h .const)
 

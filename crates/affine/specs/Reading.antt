@@ -2,13 +2,16 @@
 use Prim.Native.Nat.{ℕ, _+_, _*_, _≤_, _<_}
 use mathlib.Core.Path.{_≡_}
 use mathlib.Core.List.{List}
+use lib.ListN.{length}
 use lib.IntN.{natAbs}
+use Rattle.alpha.specs.declared.Int.{Int}
 use Rattle.alpha.specs.Field.{field}
 use Rattle.alpha.specs.Sheet as Sheet
+use Rattle.alpha.specs.Affine.{image}
 use Rattle.alpha.specs.Read.{got, dependence}
 use Rattle.affine.specs.declared.Row.{Row}
 use Rattle.affine.specs.declared.Map.{Map}
-use Rattle.affine.specs.Value.{several, rowOf, mapOf, Padded, ZeroRow, Neat}
+use Rattle.affine.specs.Value.{several, pointOf, rowOf, mapOf, Padded, ZeroRow, Neat}
 
 -- n coefficients from p on, then the constant
 abbrev pub rowFields : ℕ → List ℕ → ℕ → Sheet.Row
@@ -33,3 +36,16 @@ pub record MapRead (bs : List ℕ) (p : ℕ) (m : Map) : Type 0 where
   pub neat : Neat m
   pub is : (f : Sheet.Map) (q : ℕ) → dependence bs p ≡ got (Sheet.Node.nDep f) q → mapOf m ≡ f
   pub next : (f : Sheet.Map) (q : ℕ) → dependence bs p ≡ got (Sheet.Node.nDep f) q → q ≡ p + 16 + m .height * (8 * m .width + 8)
+
+-- the fields of a dependence stand at p: no more than four rows and columns, and all of them are there
+pub record MapThere (bs : List ℕ) (p : ℕ) : Type 0 where
+  pub cols-few : natAbs (field bs p) ≤ 4
+  pub rows-few : natAbs (field bs (p + 8)) ≤ 4
+  pub inside : p + 16 + natAbs (field bs (p + 8)) * (8 * natAbs (field bs p) + 8) ≤ length bs
+
+-- y is the image of z by the map of the dependence whose fields stand at p
+pub record ImageAt (bs : List ℕ) (p : ℕ) (z y : List Int) : Type 0 where
+  pub map : Map
+  pub read : MapRead bs p map
+  pub is : pointOf (map .height) y ≡ image (mapOf map .rows) (pointOf (map .width) z)
+  pub rest : Padded (map .height) y

@@ -11,9 +11,10 @@ ghost use lib.IntN.{ℤ, pos, natAbs, _+ℤ_, _*ℤ_};
 ghost use Rattle.alpha.specs.Affine as Affine;
 ghost use Rattle.alpha.specs.Reach.{sizes, rowReach, mapReach};
 ghost use Rattle.alpha.specs.Read as Read;
+ghost use Rattle.affine.specs.declared.Map.{Map};
 ghost use Rattle.affine.specs.Value.{several, at, line, pointOf, rowOf, mapOf, Padded, NeatRow, Neat, After, markOf};
 ghost use Rattle.affine.specs.Size.{dotSize, rowSize, Fit, column, constants, FitAfter, Tells};
-ghost use Rattle.affine.specs.Reading.{rowFields, rowsFields, RowAmong, MapRead};
+ghost use Rattle.affine.specs.Reading.{rowFields, rowsFields, RowAmong, MapRead, MapThere, ImageAt};
 ghost use Rattle.alpha.specs.Field.{field};
 
 pub struct Row {
@@ -85,16 +86,25 @@ pub fn meets(relation: usize, r: Row, p: [Int; 4]) -> bool
     }
 }
 
+// Coordinate i of an image by k rows, where r is row i of them: 0 past the k.
+fn coordinate(k: usize, i: usize, r: Row, p: [Int; 4]) -> Int
+    requires { ⌜ rowSize (rowOf 4 r) (pointOf 4 p) < 2 ^ 63 ⌝ }
+    ensures { λ x. ⌜ (i < k → (n : ℕ) → NeatRow n r → x .v ≡ Affine.rowAt (rowOf n r) (pointOf n p)) × (k ≤ i → x .v ≡ pos 0) ⌝ }
+{
+    if i < k { row_at(r, p) } else { Int { v: 0 } }
+}
+
 // The image of the point p.
 pub fn apply(m: Map, p: [Int; 4]) -> [Int; 4]
     requires { ⌜ Neat m × Fit m p ⌝ }
     ensures { λ y. ⌜ (pointOf (m .height) y ≡ Affine.image (mapOf m .rows) (pointOf (m .width) p)) × Padded (m .height) y ⌝ }
 {
     let rows = m.rows;
-    let y0 = row_at(rows[0], p);
-    let y1 = row_at(rows[1], p);
-    let y2 = row_at(rows[2], p);
-    let y3 = row_at(rows[3], p);
+    let k = m.height;
+    let y0 = coordinate(k, 0, rows[0], p);
+    let y1 = coordinate(k, 1, rows[1], p);
+    let y2 = coordinate(k, 2, rows[2], p);
+    let y3 = coordinate(k, 3, rows[3], p);
     [y0, y1, y2, y3]
 }
 
@@ -411,4 +421,24 @@ pub fn map_read(b: &[u8], p: usize) -> Map
         return identity(0);
     }
     rows_read(b, p + 16, k, n)
+}
+
+// The image of the point z by the map of the dependence whose fields stand at p, a case for each number of rows that is common: there
+// the rows past it are known to be zeros before any is read.
+pub fn image_at(b: &[u8], p: usize, z: [Int; 4]) -> [Int; 4]
+    requires { ⌜ MapThere (now b) p × ((m : Map) → MapRead (now b) p m → Fit m z) ⌝ }
+    ensures { λ y. ⌜ ImageAt (now (b .entry)) p z y ⌝ }
+{
+    let n = integer::to_usize(integer::number_at(b, p));
+    let k = integer::to_usize(integer::number_at(b, p + 8));
+    if k < 1 {
+        return apply(rows_read(b, p + 16, 0, n), z);
+    }
+    if k < 2 {
+        return apply(rows_read(b, p + 16, 1, n), z);
+    }
+    if k < 3 {
+        return apply(rows_read(b, p + 16, 2, n), z);
+    }
+    apply(rows_read(b, p + 16, k, n), z)
 }

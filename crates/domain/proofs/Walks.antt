@@ -27,8 +27,9 @@ use Rattle.laws.proofs.Children.{children-count, fits-children, reach-children}
 use Rattle.affine.specs.declared.Map.{Map}
 use Rattle.affine.specs.Value.{pointOf, mapOf, Padded}
 use Rattle.affine.specs.Size.{Near, Fit}
-use Rattle.affine.specs.Reading.{MapRead}
+use Rattle.affine.specs.Reading.{MapRead, MapThere}
 use Rattle.affine.proofs.Meaning.{height-length, width-cols}
+use Rattle.affine.proofs.Fetched.{map-there}
 use Rattle.affine.proofs.Bounds.{image-near, mapReach-one, map-fits}
 use Rattle.tree.specs.Standing.{Standing, StandingAll}
 use Rattle.tree.proofs.Standings.{children-at, children-counted, one-more}
@@ -112,6 +113,10 @@ module _ (bs : List ℕ) where
       within-limit : mapReach (h .bound) (below .by .rows) ≤ limit
       within-limit =
           leb-true _ _ (&&-left (leb (mapReach (h .bound) (below .by .rows)) limit) (reach (below .child) (mapReach (h .bound) (below .by .rows))) reach-below)
+
+      -- its map can be read
+      pub map-stands : MapThere bs (p + 8)
+      map-stands = map-there bs (p + 8) (below .fields .read)
 
       -- where its map is m
       module _ (m : Map) (r : MapRead bs (p + 8) m) where

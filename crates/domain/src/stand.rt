@@ -56,11 +56,21 @@ pub fn stand(
         );
     }
     if code == 8 {
-        let y = affine::apply(affine::map_read(s, at + 8), z);
-        return stand(s, tab, inside, next, left - 1, y);
+        let y = affine::image_at(s, at + 8, z);
+        let below = stand(s, tab, inside, next, left - 1, y);
+        let how = below.how;
+        return Stood {
+            how,
+            next: below.next,
+        };
     }
     if restriction_meets(s, at, z) {
-        stand(s, tab, inside, next, left - 1, z)
+        let below = stand(s, tab, inside, next, left - 1, z);
+        let how = below.how;
+        Stood {
+            how,
+            next: below.next,
+        }
     } else {
         Stood {
             how: Standing::Not,
@@ -81,27 +91,18 @@ fn stand_all(
     branches: bool,
     sofar: Standing,
 ) -> Stood
-    requires { ⌜ BodiesPlaced (now s) (now tab) × Inside (sheetOf (now s)) (now inside) × WalkAll (now s) at left count z × (left ≤ 2048) × (count ≤ 64) ⌝ }
+    requires { ⌜ BodiesPlaced (now s) (now tab) × Inside (sheetOf (now s)) (now inside) × WalkAll (now s) at left count z × (left ≤ 2048) ⌝ }
     ensures { λ r. ⌜ StandTogether (now (s .entry)) at count z branches sofar r ⌝ }
 {
-    if count < 1 {
-        return Stood {
-            how: sofar,
-            next: at,
-        };
+    let mut how = sofar;
+    let mut next = at;
+    let mut more = count;
+    while more > 0 {
+        let one = stand(s, tab, inside, next, left, z);
+        let its = one.how;
+        how = joined(branches, how, its);
+        next = one.next;
+        more -= 1;
     }
-    let first = stand(s, tab, inside, at, left, z);
-    let next = first.next;
-    let how = first.how;
-    stand_all(
-        s,
-        tab,
-        inside,
-        next,
-        left,
-        z,
-        count - 1,
-        branches,
-        joined(branches, sofar, how),
-    )
+    Stood { how, next }
 }

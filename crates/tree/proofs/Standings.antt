@@ -1,11 +1,11 @@
 -- What a walk knows of the tree that stands at a place: its first node, that its children stand after the node, and of so many trees the
--- first and the rest. Assumes nothing.
-use mathlib.Core.Path.{_≡_, sym, ap, _∙_}
+-- first and the rest, and what is left of them past a node. Assumes nothing.
+use mathlib.Core.Path.{_≡_, refl, sym, ap, _∙_}
 use Prim.Native.Nat.{ℕ, _+_, _-_, _≤_, _<_}
 use native.Mathlib.Omega.{arith}
 use mathlib.Core.List.{List}
 use lib.ListN.{length}
-use Rattle.alpha.specs.Sheet.{Node, Expr, Exprs}
+use Rattle.alpha.specs.Sheet.{Node, Expr, Exprs, Exprs.none, Exprs.more}
 use Rattle.alpha.specs.Read.{got, node}
 use Rattle.alpha.specs.Written.{branchCount, nodeCount, nodeCounts}
 use Rattle.laws.specs.At.{nodeOf, nodeLen, At, AllAt}
@@ -13,6 +13,33 @@ use Rattle.laws.specs.Children.{childrenOf, arity}
 use Rattle.laws.proofs.Shapes.{at-node, at-got, allAt-more, allAt-none, MoreAt}
 use Rattle.laws.proofs.Children.{arity-few, children-many, children-count, at-children}
 use Rattle.tree.specs.Standing.{Noded, Standing, StandingAll}
+
+-- ---- the trees of two lists
+
+abbrev followed : Exprs → Exprs → Exprs
+followed none fs = fs
+followed (more e es) fs = more e (followed es fs)
+
+followed-count : (es fs : Exprs) → branchCount (followed es fs) ≡ branchCount es + branchCount fs
+followed-count none fs = omega arith
+followed-count (more e es) fs = omega (arith, followed-count es fs)
+
+followed-nodes : (es fs : Exprs) → nodeCounts (followed es fs) ≡ nodeCounts es + nodeCounts fs
+unfolding nodeCounts
+followed-nodes none fs = omega arith
+followed-nodes (more e es) fs = omega (arith, followed-nodes es fs)
+
+followed-at : (vars : ℕ) (bs : List ℕ) (es fs : Exprs) (p m q : ℕ) → AllAt es vars bs p m → AllAt fs vars bs m q → AllAt (followed es fs) vars bs p q
+unfolding At
+followed-at vars bs none fs p m q h k = rw h k
+followed-at vars bs (more e es) fs p m q h k =
+    record { middle = h .middle; before = h .before; after = followed-at vars bs es fs (h .middle) m q (h .after) k }
+
+-- each tree has a node
+count-nodes : (es : Exprs) → branchCount es ≤ nodeCounts es
+unfolding nodeCounts
+count-nodes none = omega arith
+count-nodes (more e es) = omega (arith, count-nodes es, children-count e)
 
 module _ (vars : ℕ) (bs : List ℕ) where
   -- ---- a tree
@@ -29,6 +56,20 @@ module _ (vars : ℕ) (bs : List ℕ) where
 
     pub standing-there : p + nodeLen bs p ≤ length bs
     standing-there = at-node vars bs (h .tree) p (h .end) (h .at) .there
+
+    pub standing-long : 8 ≤ nodeLen bs p
+    standing-long = at-node vars bs (h .tree) p (h .end) (h .at) .long
+
+    -- it is one tree
+    pub standing-one : StandingAll vars bs p left 1
+    unfolding At nodeCounts
+    standing-one = record {
+      trees = more (h .tree) none;
+      end = h .end;
+      at = record { middle = h .end; before = h .at; after = refl };
+      few = omega (arith, h .few);
+      many = refl;
+    }
 
     -- the children of the node, where the code has n of them and its length is k
     module _ (k n : ℕ) (long : k ≡ nodeLen bs p) (many : (nd : Node) (q : ℕ) → node vars bs p ≡ got nd q → n ≡ arity nd) where
@@ -83,3 +124,56 @@ module _ (vars : ℕ) (bs : List ℕ) where
       few = omega (arith, counts, h .few);
       many = split .many;
     }
+
+    -- there are no more trees than nodes
+    pub trees-few : n ≤ left
+    trees-few = omega (arith, h .few, h .many, count-nodes (h .trees))
+
+  -- ---- past a node
+
+  -- any n trees at p end at r
+  abbrev pub Ends : ℕ → ℕ → ℕ → Type 0
+  Ends p n r = (es : Exprs) (q : ℕ) → AllAt es vars bs p q → branchCount es ≡ n → r ≡ q
+
+  pub one-ends : (p r : ℕ) → Ends p 1 r → (e : Expr) (q : ℕ) → At e vars bs p q → r ≡ q
+  unfolding At
+  one-ends p r t e q h = t (more e none) q (record { middle = q; before = h; after = refl }) refl
+
+  -- of n trees, after the first node, of k bytes, its c children and the other trees
+  module _ (p k n c : ℕ) (some : 1 ≤ n) (long : k ≡ nodeLen bs p) (many : (nd : Node) (q : ℕ) → node vars bs p ≡ got nd q → c ≡ arity nd) where
+    module _ (es : Exprs) (q : ℕ) (h : AllAt es vars bs p q) (m : branchCount es ≡ n) where
+      head : MoreAt es vars bs p q (n - 1)
+      head = one-more es p q n some h m
+
+      abbrev opened : Exprs
+      opened = followed (childrenOf (head .first)) (head .rest)
+
+      opened-at : AllAt opened vars bs (p + k) q
+      opened-at =
+          let below = children-at p k c long many (head .first) (head .middle) (head .before) in
+          followed-at vars bs (childrenOf (head .first)) (head .rest) (p + k) (head .middle) q below (head .after)
+
+      opened-many : branchCount opened ≡ n - 1 + c
+      opened-many =
+          let below = children-counted p k c long many (head .first) (head .middle) (head .before) in
+          omega (arith, followed-count (childrenOf (head .first)) (head .rest), below, head .many)
+
+      opened-nodes : nodeCounts opened ≤ nodeCounts es
+      unfolding nodeCounts
+      opened-nodes =
+          let all : nodeCounts es ≡ nodeCount (head .first) + nodeCounts (head .rest) = ap nodeCounts (head .is) in
+          omega (arith, followed-nodes (childrenOf (head .first)) (head .rest), children-count (head .first))
+
+    pub past-standing : (left : ℕ) → StandingAll vars bs p left n → StandingAll vars bs (p + k) left (n - 1 + c)
+    past-standing left h =
+        let es = h .trees in
+        record {
+          trees = opened es (h .end) (h .at) (h .many);
+          end = h .end;
+          at = opened-at es (h .end) (h .at) (h .many);
+          few = omega (arith, opened-nodes es (h .end) (h .at) (h .many), h .few);
+          many = opened-many es (h .end) (h .at) (h .many);
+        }
+
+    pub past-ends : (r : ℕ) → Ends (p + k) (n - 1 + c) r → Ends p n r
+    past-ends r t es q h m = t (opened es q h m) q (opened-at es q h m) (opened-many es q h m)

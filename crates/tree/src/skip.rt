@@ -1,4 +1,4 @@
-// Past a tree, or past so many trees: the place after them. Assumes nothing.
+// Past a tree, or past so many trees: the place after them, node by node. Assumes nothing.
 use super::node::children;
 use super::node::node_len;
 ghost use mathlib.Core.Path.{_≡_};
@@ -14,17 +14,19 @@ pub fn skip(s: &[u8], at: usize, left: usize) -> usize
     requires { ⌜ Standing (varsOf (now s)) (now s) at left × (left ≤ 2048) ⌝ }
     ensures { λ r. ⌜ ((e : Expr) (q : ℕ) → At e (varsOf (now (s .entry))) (now (s .entry)) at q → r ≡ q) ⌝ }
 {
-    skip_all(s, at + node_len(s, at), left - 1, children(s, at))
+    skip_all(s, at, left, 1)
 }
 
-// The place after `count` trees.
+// The place after `count` trees. Each node counts itself off and its children on.
 pub fn skip_all(s: &[u8], at: usize, left: usize, count: usize) -> usize
     requires { ⌜ StandingAll (varsOf (now s)) (now s) at left count × (left ≤ 2048) × (count ≤ 64) ⌝ }
     ensures { λ r. ⌜ ((es : Exprs) (q : ℕ) → AllAt es (varsOf (now (s .entry))) (now (s .entry)) at q → branchCount es ≡ count → r ≡ q) ⌝ }
 {
-    if count < 1 {
-        return at;
+    let mut p = at;
+    let mut need = count;
+    while need > 0 {
+        need = need - 1 + children(s, p);
+        p += node_len(s, p);
     }
-    let next = skip(s, at, left);
-    skip_all(s, next, left, count - 1)
+    p
 }

@@ -3,7 +3,7 @@ use borrow.Author.Needs.{needs}
 use native.Mathlib.Omega.{arith}
 use mathlib.Core.Path.{ap, _∙_}
 use lib.IntN.{natAbs}
-use Rattle.affine.proofs.Fetched.{span-small, span-same, no-map, map-is}
+use Rattle.affine.proofs.Fetched.{span-small, span-same, no-map, rows-map}
 use Rattle.affine.proofs.map_read.Statement.{statement}
 use Rattle.affine.proofs.map_read.Tie as tie
 
@@ -102,9 +102,7 @@ returns-6 c =
     let s = first .before .before .before .before .before in
     let wide = first .to-usize .ensures ∙ ap natAbs (first .before .number-at .ensures) in
     let high = second .to-usize2 .ensures ∙ ap natAbs (second .before .number-at2 .ensures) in
-    let e = c .rows-read .ensures in
-    map-is (s .args .b .now) (s .args .p) (c .rows-read .result) (e .1) (first .to-usize .result) (second .to-usize2 .result) (e .0) (e .3)
-    (e .2) wide high
+    rows-map (s .args .b .now) (s .args .p) (first .to-usize .result) (second .to-usize2 .result) wide high (c .rows-read .result) (c .rows-read .ensures)
 
 pub map-read-spec : {M : Type 1} → statement M
 map-read-spec =

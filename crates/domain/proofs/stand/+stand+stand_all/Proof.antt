@@ -7,8 +7,7 @@ use Rattle.domain.proofs.stand.+stand+stand_all.Lts-stand as stand-lts
 use Rattle.domain.proofs.stand.stand_all.Reads as stand-all
 use Rattle.domain.proofs.stand.stand_all.Kinds as stand-all-kinds
 use Rattle.domain.proofs.stand.+stand+stand_all.Lts-stand_all as stand-all-lts
-use Rattle.affine.proofs.apply.Reads as apply-reads
-use Rattle.affine.proofs.map_read.Reads as map-read-reads
+use Rattle.affine.proofs.image_at.Reads as image-at-reads
 use Rattle.domain.proofs.constraint.restriction_meets.Reads as restriction-meets-reads
 use Rattle.domain.proofs.join.alone.Reads as alone-reads
 use Rattle.domain.proofs.join.joined.Reads as joined-reads
@@ -30,17 +29,19 @@ use Rattle.tree.specs.Standing.{Noded}
 use Rattle.tree.proofs.Noding.{code-there, second-there, wide-fields}
 use Rattle.tree.proofs.Fitting.{variable-known}
 use Rattle.tree.proofs.Heading.{prepared-sections}
-use Rattle.tree.proofs.Standings.{standing-noded, standing-some, standing-there, children-few}
-use Rattle.domain.specs.Walk.{Walk}
-use Rattle.domain.proofs.Walks.{walk-standing, walk-seven, walk-children, image-fits, walk-image, walk-first, walk-rest}
+use Rattle.tree.proofs.Standings.{standing-noded, standing-some, standing-there}
+use Rattle.domain.specs.declared.Stood.{Stood}
+use Rattle.domain.specs.Walk.{WalkAll}
+use Rattle.domain.specs.Standing.{StandTogether}
+use Rattle.domain.proofs.Walks.{walk-standing, walk-seven, walk-children, map-stands, image-fits, walk-image, walk-first, walk-rest}
 use Rattle.domain.proofs.Restrictions.{restriction-testable, restriction-walk}
 use Rattle.domain.proofs.Ways.{variable-way, constant-way, children-way, image-way, restriction-way, restriction-off-way, none-way, more-way}
 
 abbrev μ-stand : Measures 3 stand-kinds.ps ℕ
-μ-stand κs a = 70 * a .1 .1 .1 .1 .0
+μ-stand κs a = 2 * a .1 .1 .1 .1 .0
 
 abbrev μ-stand-all : Measures 3 stand-all-kinds.ps ℕ
-μ-stand-all κs a = 70 * a .1 .1 .1 .1 .0 + (a .1 .1 .1 .1 .1 .1 .0 + 1)
+μ-stand-all κs a = 2 * a .1 .1 .1 .1 .0 + 1
 
 abbrev stand-at : ℕ → In 3 stand-kinds.ps
 stand-at t = and 3 stand-kinds.ps (is 3 stand-kinds.ps μ-stand t) stand.Pre
@@ -69,10 +70,8 @@ stand-uses t = (
   alone-reads.Learnt,
   stand-all-below t,
   stand-all.Post,
-  map-read-reads.Asked,
-  map-read-reads.Learnt,
-  apply-reads.Asked,
-  apply-reads.Learnt,
+  image-at-reads.Asked,
+  image-at-reads.Learnt,
   stand-below t,
   stand.Post,
   restriction-meets-reads.Asked,
@@ -82,7 +81,7 @@ stand-uses t = (
 )
 
 abbrev stand-all-uses : ℕ → stand-all-lts.Claims
-stand-all-uses t = (stand-below t, stand.Post, joined-reads.Asked, joined-reads.Learnt, stand-all-below t, stand-all.Post)
+stand-all-uses t = (stand-below t, stand.Post, joined-reads.Asked, joined-reads.Learnt)
 
 -- the node
 noded : (t : ℕ) (c : stand-lts.Start (stand-uses t) (stand-at t) stand.Post) → Noded (varsOf (c .args .s .now)) (c .args .s .now) (c .args .at)
@@ -148,9 +147,8 @@ stand-stand-all-requires t c κs =
     let code = c .before .before .before .before .before .before .natural .ensures in
     let high = c .before .before .if3 .taken in
     let left = some t s in
-    let few = children-few _ _ _ _ (walk-standing _ _ _ _ w) _ _ long many in
     let is = s .pre .0 in
-    (omega arith, (s .pre .1 .0, s .pre .1 .1, walk-children _ _ _ _ w _ _ long many (λ e. omega arith), omega (arith, s .pre .1 .3), few))
+    (omega arith, (s .pre .1 .0, s .pre .1 .1, walk-children _ _ _ _ w _ _ long many (λ e. omega arith), omega (arith, s .pre .1 .3)))
 
 stand-returns-3 : (t : ℕ) → stand-lts.Need-returns-3 (stand-uses t) (stand-at t) stand.Post
 stand-returns-3 t c =
@@ -161,41 +159,36 @@ stand-returns-3 t c =
     let low = c .before .before .before .before .if2 .left in
     children-way _ _ _ (s .args .z) long _ _ many code (omega arith) (c .before .before .before .if3 .taken) _ _ (c .before .alone .ensures) (c .stand-all .ensures)
 
-stand-add-map-read : (t : ℕ) → stand-lts.Need-add-map-read (stand-uses t) (stand-at t) stand.Post
-stand-add-map-read t c = omega (arith, code-there _ _ _ (noded t (c .before .before .before .before .before .before .before)))
+stand-add-image-at : (t : ℕ) → stand-lts.Need-add-image-at (stand-uses t) (stand-at t) stand.Post
+stand-add-image-at t c = omega (arith, code-there _ _ _ (noded t (c .before .before .before .before .before .before .before)))
 
-stand-map-read-requires : (t : ℕ) → stand-lts.Need-map-read-requires (stand-uses t) (stand-at t) stand.Post
-stand-map-read-requires t c κs = search needs
-
-stand-apply-requires : (t : ℕ) → stand-lts.Need-apply-requires (stand-uses t) (stand-at t) stand.Post
-stand-apply-requires t c κs =
-    let s = c .before .before .before .before .before .before .before .before in
-    let code = sym (c .before .before .before .before .before .before .natural .ensures) ∙ c .before .if4 .taken in
-    let read = c .map-read .ensures in
-    (read .neat, image-fits _ _ _ _ (s .pre .1 .2) code _ read)
+stand-image-at-requires : (t : ℕ) → stand-lts.Need-image-at-requires (stand-uses t) (stand-at t) stand.Post
+stand-image-at-requires t c κs =
+    let s = c .before .before .before .before .before .before .before in
+    let code = sym (c .before .before .before .before .before .natural .ensures) ∙ c .if4 .taken in
+    (map-stands _ _ _ _ (s .pre .1 .2) code, image-fits _ _ _ _ (s .pre .1 .2) code)
 
 stand-sub-stand : (t : ℕ) → stand-lts.Need-sub-stand (stand-uses t) (stand-at t) stand.Post
-stand-sub-stand t c = omega (arith, some t (c .before .before .before .before .before .before .before .before .before))
+stand-sub-stand t c = omega (arith, some t (c .before .before .before .before .before .before .before .before))
 
 stand-stand-requires : (t : ℕ) → stand-lts.Need-stand-requires (stand-uses t) (stand-at t) stand.Post
 stand-stand-requires t c κs =
-    let s = c .before .before .before .before .before .before .before .before .before in
-    let code = sym (c .before .before .before .before .before .before .before .natural .ensures) ∙ c .before .before .if4 .taken in
-    let read = c .before .map-read .ensures in
+    let s = c .before .before .before .before .before .before .before .before in
+    let code = sym (c .before .before .before .before .before .before .natural .ensures) ∙ c .before .if4 .taken in
     let left = some t s in
     let is = s .pre .0 in
-    let y = c .apply .ensures in
-    let long = c .before .before .before .before .before .before .node-len .ensures in
-    let walk = walk-image _ _ _ _ (s .pre .1 .2) code _ read _ (y .0) (y .1) in
+    let y = c .image-at .ensures in
+    let long = c .before .before .before .before .before .node-len .ensures in
+    let walk = walk-image _ _ _ _ (s .pre .1 .2) code _ (y .read) _ (y .is) (y .rest) in
     (omega arith, (s .pre .1 .0, s .pre .1 .1, rw long walk, omega (arith, s .pre .1 .3)))
 
 stand-returns-4 : (t : ℕ) → stand-lts.Need-returns-4 (stand-uses t) (stand-at t) stand.Post
 stand-returns-4 t c =
-    let s = c .before .before .before .before .before .before .before .before .before .before in
-    let code = sym (c .before .before .before .before .before .before .before .before .natural .ensures) ∙ c .before .before .before .if4 .taken in
-    let long = c .before .before .before .before .before .before .before .node-len .ensures in
-    let image = c .before .apply in
-    image-way _ _ _ (s .args .z) long _ (image .result) _ code (c .before .before .map-read .ensures) (image .ensures .0) (c .stand .ensures)
+    let s = c .before .before .before .before .before .before .before .before .before in
+    let code = sym (c .before .before .before .before .before .before .before .natural .ensures) ∙ c .before .before .if4 .taken in
+    let long = c .before .before .before .before .before .before .node-len .ensures in
+    let y = c .before .image-at in
+    image-way _ _ _ (s .args .z) long _ (y .result) _ code (y .ensures .read) (y .ensures .is) (c .stand .ensures)
 
 -- a restriction's code
 seven : (t : ℕ) (c : stand-lts.Else4 (stand-uses t) (stand-at t) stand.Post) →
@@ -242,33 +235,48 @@ stand-returns-6 t c =
     let met = c .before .before .restriction-meets .ensures in
     restriction-off-way _ _ _ (s .args .z) long (seven t (c .before .before .before)) _ met _ (c .before .if5 .left) (c .skip .ensures)
 
-stand-all-returns : (t : ℕ) → stand-all-lts.Need-returns (stand-all-uses t) (stand-all-at t) stand-all.Post
-stand-all-returns t c =
-    let s = c .before .before in
-    none-way _ _ _ (s .args .z) (s .args .branches) (s .args .sofar) (c .if1 .taken)
+-- what the trees from here on come to is what all of them do
+abbrev stand-all-Inv-loop : stand-all-lts.InvT-loop
+stand-all-Inv-loop s tab inside at left z count branches sofar next₀ more₀ how next more =
+    WalkAll s next left more z × ((r : Stood) → StandTogether s next more z branches how r → StandTogether s at count z branches sofar r)
 
-stand-all-stand-requires : (t : ℕ) → stand-all-lts.Need-stand-requires (stand-all-uses t) (stand-all-at t) stand-all.Post
+abbrev stand-all-μ-loop : stand-all-lts.MeasureT-loop
+stand-all-μ-loop s tab inside at left z count branches sofar next₀ more₀ how next more = more
+
+stand-all-loop-holds : (t : ℕ) → stand-all-lts.Need-loop-holds (stand-all-uses t) (stand-all-at t) stand-all.Post stand-all-Inv-loop stand-all-μ-loop
+stand-all-loop-holds t c = (c .before .pre .1 .2, λ r h. h)
+
+stand-all-stand-requires : (t : ℕ) → stand-all-lts.Need-stand-requires (stand-all-uses t) (stand-all-at t) stand-all.Post stand-all-Inv-loop stand-all-μ-loop
 stand-all-stand-requires t c κs =
-    let s = c .before .before in
+    let s = c .before .before .before in
     let is = s .pre .0 in
-    (omega arith, (s .pre .1 .0, s .pre .1 .1, walk-first _ _ _ _ _ (c .if1 .left) (s .pre .1 .2), s .pre .1 .3))
+    (omega arith, (s .pre .1 .0, s .pre .1 .1, walk-first _ _ _ _ _ (c .loop-test .taken) (c .before .loop .inv .0), s .pre .1 .3))
 
-stand-all-joined-requires : (t : ℕ) → stand-all-lts.Need-joined-requires (stand-all-uses t) (stand-all-at t) stand-all.Post
+stand-all-joined-requires : (t : ℕ) → stand-all-lts.Need-joined-requires (stand-all-uses t) (stand-all-at t) stand-all.Post stand-all-Inv-loop stand-all-μ-loop
 stand-all-joined-requires t c κs = search needs
 
-stand-all-stand-all-requires : (t : ℕ) → stand-all-lts.Need-stand-all-requires (stand-all-uses t) (stand-all-at t) stand-all.Post
-stand-all-stand-all-requires t c κs =
-    let s = c .before .before .before .before in
-    let more = c .before .before .if1 .left in
-    let is = s .pre .0 in
-    let first = c .before .stand .ensures in
-    (omega arith, (s .pre .1 .0, s .pre .1 .1, walk-rest _ _ _ _ _ more (s .pre .1 .2) _ (λ e q d h f. first e q d h f .0), s .pre .1 .3, omega (arith, s .pre .1 .4)))
+stand-all-sub-more : (t : ℕ) → stand-all-lts.Need-sub-more (stand-all-uses t) (stand-all-at t) stand-all.Post stand-all-Inv-loop stand-all-μ-loop
+stand-all-sub-more t c = omega (arith, c .before .before .loop-test .taken)
 
-stand-all-returns-2 : (t : ℕ) → stand-all-lts.Need-returns-2 (stand-all-uses t) (stand-all-at t) stand-all.Post
-stand-all-returns-2 t c =
-    let s = c .before .before .before .before .before in
-    let rest = rw (c .before .joined .ensures) at (c .stand-all .ensures) in
-    more-way _ _ _ (s .args .z) (s .args .branches) (s .args .sofar) (c .before .before .before .if1 .left) _ _ (c .before .before .stand .ensures) rest
+stand-all-loop-less : (t : ℕ) → stand-all-lts.Need-loop-less (stand-all-uses t) (stand-all-at t) stand-all.Post stand-all-Inv-loop stand-all-μ-loop
+stand-all-loop-less t c = omega (arith, c .before .before .loop-test .taken)
+
+stand-all-loop-again : (t : ℕ) → stand-all-lts.Need-loop-again (stand-all-uses t) (stand-all-at t) stand-all.Post stand-all-Inv-loop stand-all-μ-loop
+stand-all-loop-again t c =
+    let here = c .before .before in
+    let loop = here .before .loop in
+    let more = here .loop-test .taken in
+    let one = c .before .stand in
+    let s = here .before .before .before in (
+      walk-rest _ _ _ _ _ more (loop .inv .0) _ (λ e q d h f. one .ensures e q d h f .0),
+      λ r h. loop .inv .1 r (more-way _ _ _ (s .args .z) (s .args .branches) (loop .how) more _ _ (one .ensures) (rw (c .joined .ensures) at h)),
+    )
+
+stand-all-returns : (t : ℕ) → stand-all-lts.Need-returns (stand-all-uses t) (stand-all-at t) stand-all.Post stand-all-Inv-loop stand-all-μ-loop
+stand-all-returns t c =
+    let loop = c .before .loop in
+    let s = c .before .before .before in
+    loop .inv .1 _ (none-way _ _ _ (s .args .z) (s .args .branches) (loop .how) (omega (arith, c .loop-test .left)))
 
 pub +stand+stand-all-spec : {M : Type 1} → statement M
 +stand+stand-all-spec = close μ-stand μ-stand-all (λ t. stand-lts.spec (stand-uses t) (stand-at t)
@@ -286,9 +294,8 @@ pub +stand+stand-all-spec : {M : Type 1} → statement M
     (stand-alone-requires t)
     (stand-stand-all-requires t)
     (stand-returns-3 t)
-    (stand-add-map-read t)
-    (stand-map-read-requires t)
-    (stand-apply-requires t)
+    (stand-add-image-at t)
+    (stand-image-at-requires t)
     (stand-sub-stand t)
     (stand-stand-requires t)
     (stand-returns-4 t)
@@ -300,8 +307,12 @@ pub +stand+stand-all-spec : {M : Type 1} → statement M
     (stand-returns-6 t))
     λ t. stand-all-lts.spec (stand-all-uses t) (stand-all-at t)
     stand-all.Post
-    (stand-all-returns t)
+    stand-all-Inv-loop
+    stand-all-μ-loop
+    (stand-all-loop-holds t)
     (stand-all-stand-requires t)
     (stand-all-joined-requires t)
-    (stand-all-stand-all-requires t)
-    (stand-all-returns-2 t)
+    (stand-all-sub-more t)
+    (stand-all-loop-less t)
+    (stand-all-loop-again t)
+    (stand-all-returns t)
