@@ -62,7 +62,7 @@ held-is e s z = go (holds e s z) (clashes e s z)
     go true false = refl
     go true true = refl
 
--- of one tree that holds, or several of which one does
+-- where one of some trees holds: that one, if there is one only
 only-holds : (e : Expr) (es : Exprs) (s : Sheet) (z : Point) → branchCount es ≡ 0 → someHolds (more e es) s z ≡ true → holds e s z ≡ true
 unfolding holds
 only-holds e none s z m h = go (holds e s z) h
@@ -72,6 +72,7 @@ only-holds e none s z m h = go (holds e s z) h
     go false t = t
 only-holds e (more f es) s z m h = absurd (omega arith)
 
+-- one of the others, if the first does not
 later-holds : (e : Expr) (es : Exprs) (s : Sheet) (z : Point) → holds e s z ≡ false → someHolds (more e es) s z ≡ true → someHolds es s z ≡ true
 unfolding holds
 later-holds e es s z fails h = rw fails at h

@@ -62,17 +62,17 @@ fn turn(
     inside: &[u8; 4096],
     codes: &mut [u8; 4096],
     values: &mut [i32; 4096],
-    stack: &mut [usize; 4096],
+    stack: &mut [u16; 4096],
     high: usize,
 ) -> usize
     requires { ⌜ Formed (now s) (now tab) × Inside (sheetOf (now s)) (now inside) × Ready (sheetOf (now s)) (memoOf (now codes) (now values)) × Stacked (sheetOf (now s)) (memoOf (now codes) (now values)) (now stack) high × (1 ≤ high) ⌝ }
     ensures { λ r. ⌜ Turned (sheetOf (now (s .entry))) (memoOf (now (codes .entry)) (now (values .entry))) (now (stack .entry)) high (memoOf (now (codes .exit)) (now (values .exit))) (now (stack .exit)) r ⌝ }
 {
-    let top = stack[high - 1];
+    let top = stack[high - 1] as usize;
     let r = body(s, tab, inside, codes, values, top);
     if let Work::Deep(d) = r {
         note(codes, values, d, 5, integer::of(0));
-        stack[high] = d;
+        stack[high] = d as u16;
         return high + 1;
     }
     note(codes, values, top, code_of(r), value_of(r));
@@ -86,7 +86,7 @@ pub fn settle(
     inside: &[u8; 4096],
     codes: &mut [u8; 4096],
     values: &mut [i32; 4096],
-    stack: &mut [usize; 4096],
+    stack: &mut [u16; 4096],
     e: usize,
 )
     requires { ⌜ Formed (now s) (now tab) × Inside (sheetOf (now s)) (now inside) × Ready (sheetOf (now s)) (memoOf (now codes) (now values)) × Idle (memoOf (now codes) (now values)) × (length (now stack) ≡ 4096) × (e < total (sheetOf (now s))) ⌝ }
@@ -96,7 +96,7 @@ pub fn settle(
         return;
     }
     note(codes, values, e, 5, integer::of(0));
-    stack[0] = e;
+    stack[0] = e as u16;
     let mut high = 1;
     while 0 < high {
         high = turn(s, tab, inside, codes, values, stack, high);

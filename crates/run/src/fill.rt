@@ -43,7 +43,7 @@ fn fill(
     inside: &[u8; 4096],
     known: &mut [u8; 4096],
     found: &mut [i32; 4096],
-    stack: &mut [usize; 4096],
+    stack: &mut [u16; 4096],
     v: usize,
     codes: &mut [u8],
     values: &mut [i32],
@@ -75,7 +75,7 @@ pub fn fill_all(
     requires { ⌜ Formed (now s) (now tab) × Inside (sheetOf (now s)) (now inside) × Ready (sheetOf (now s)) (memoOf (now known) (now found)) × Idle (memoOf (now known) (now found)) × (total (sheetOf (now s)) ≤ length (now codes)) × (total (sheetOf (now s)) ≤ length (now values)) ⌝ }
     ensures { λ _. ⌜ FillsAll (sheetOf (now (s .entry))) (memoOf (now (known .entry)) (now (found .entry))) (total (sheetOf (now (s .entry)))) (now (codes .entry)) (now (codes .exit)) (now (values .entry)) (now (values .exit)) ⌝ }
 {
-    let mut stack = [0usize; 4096];
+    let mut stack = [0u16; 4096];
     let n = variable_count(tab);
     let mut v = 0;
     while v < n {

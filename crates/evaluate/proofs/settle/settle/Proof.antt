@@ -44,6 +44,9 @@ marked c =
     let s = c .before .before .before .before .before .before .before in
     noted-is (memoOf (s .args .codes .now) (s .args .values .now)) _ _ _ _ _ _ (c .note .ensures .0) (c .note .ensures .1) (c .before .of .ensures)
 
+cast-stack : tie.Need-cast-stack Inv-loop μ-loop
+cast-stack c = let p = c .before .before .before .before .before .before .before .pre in let low = p .5 in let all = p .2 .few in search needs
+
 element-write-stack : tie.Need-element-write-stack Inv-loop μ-loop
 element-write-stack c = search needs
 
@@ -82,6 +85,7 @@ settle-spec =
     returns
     of-requires
     note-requires
+    cast-stack
     element-write-stack
     loop-holds
     turn-requires

@@ -35,6 +35,13 @@ mul-top c = let h = few (c .before) in search needs
 element-copy-out-top : tie.Need-element-copy-out-top
 element-copy-out-top c = let h = few (c .before) in omega (arith, c .before .pre .4)
 
+cast-top : tie.Need-cast-top
+cast-top c =
+    let p = c .before .before .pre in
+    let low = top-element _ _ (p .2) _ _ (p .3) (p .4) in
+    let all = p .2 .few in
+    search needs
+
 body-requires : tie.Need-body-requires
 body-requires c κs =
     let p = c .before .before .before .before .pre in
@@ -65,6 +72,9 @@ note-requires c κs =
     let r = c .before .before .before .before in
     let p = start (r .before .before) .pre in
     (deep-low r, codes-last _ _ (p .2) _ _ (p .3) (p .4) _ _ (deep r), values-last _ _ (p .2) _ _ (p .3) (p .4) _ _ (deep r), rw (c .of .ensures) (omega arith))
+
+cast-stack : tie.Need-cast-stack
+cast-stack c = let low = deep-low (c .before .before .before .before .before) in search needs
 
 mul-stack : tie.Need-mul-stack
 mul-stack c = let h = tall (c .before .before .before .before .before) in search needs
@@ -120,10 +130,12 @@ turn-spec =
     sub-top
     mul-top
     element-copy-out-top
+    cast-top
     body-requires
     enum-known-r
     of-requires
     note-requires
+    cast-stack
     mul-stack
     element-write-stack
     add-result
