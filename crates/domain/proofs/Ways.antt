@@ -1,6 +1,6 @@
 -- The ways through the walk that says how a tree stands: for each, what the code answers from what it has found. Assumes nothing.
 use mathlib.Core.Path.{_≡_, refl, sym, ap, _∙_, subst}
-use Prim.Native.Nat.{ℕ, suc, _+_, _-_, _≤_, _<_}
+use Prim.Native.Nat.{ℕ, zero, suc, _+_, _-_, _≤_, _<_}
 use native.Mathlib.Omega.{arith}
 use mathlib.Core.Bool.{Bool, true, false, _&&_}
 use mathlib.Core.List.{List}
@@ -18,7 +18,7 @@ use Rattle.alpha.specs.Read.{got, node, dimension}
 use Rattle.alpha.specs.Shape.{fits, allFit}
 use Rattle.alpha.specs.Holds.{holds, clashes}
 use Rattle.alpha.specs.Written.{branchCount}
-use Rattle.laws.specs.At.{codeNumber, nodeLen, At, AllAt}
+use Rattle.laws.specs.At.{codeNumber, lengthOf, nodeLen, At, AllAt}
 use Rattle.laws.specs.Children.{childrenOf, arity}
 use Rattle.laws.specs.Sheets.{headsOf, varsOf, sheetOf}
 use Rattle.laws.proofs.Tests.{&&-left, &&-right}
@@ -78,6 +78,17 @@ children-stand s z (ite a b c) l h = sym (operands-stand s z (ite a b c) l (omeg
 children-stand s z (kase es) l h = sym (branches-stand s z es)
 children-stand s z (restr d cs a) l h = absurd (omega arith)
 children-stand s z (dep f a) l h = absurd (omega arith)
+
+-- a variable or a constant has 16 bytes
+pub tip-long : (bs : List ℕ) (p : ℕ) → natAbs (field bs p) < 3 → 16 ≡ nodeLen bs p
+unfolding nodeLen
+tip-long bs p h = short (natAbs (field bs p)) (natAbs (field bs (p + 8))) (natAbs (field bs (p + 16))) h
+  where
+    short : (code a b : ℕ) → code < 3 → 16 ≡ lengthOf code a b
+    short zero a b l = refl
+    short (suc zero) a b l = refl
+    short (suc (suc zero)) a b l = refl
+    short (suc (suc (suc c))) a b l = absurd (omega arith)
 
 module _ (bs : List ℕ) (p k : ℕ) (z : List Int) (long : k ≡ nodeLen bs p) where
   ends : (e : Expr) (q : ℕ) → At e (varsOf bs) bs p q → natAbs (field bs p) ≤ 2 → p + k ≡ q

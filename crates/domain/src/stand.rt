@@ -4,7 +4,7 @@ use super::Stood;
 use super::constraint::restriction_meets;
 use super::join::alone;
 use super::join::joined;
-use super::leaf::leaf_stands;
+use super::leaf::tip_stands;
 use alpha::Int;
 use tree::node::children;
 use tree::node::natural;
@@ -30,17 +30,12 @@ pub fn stand(
     ensures { λ r. ⌜ StandsAt (now (s .entry)) at z r ⌝ }
 {
     let code = natural(s, at);
-    let next = at + node_len(s, at);
-    if code < 1 {
-        let how = leaf_stands(s, tab, inside, natural(s, at + 8), z);
-        return Stood { how, next };
-    }
     if code < 3 {
-        return Stood {
-            how: Standing::Holds,
-            next,
-        };
+        let how = tip_stands(s, tab, inside, at, z);
+        let end = at + 16;
+        return Stood { how, next: end };
     }
+    let next = at + node_len(s, at);
     if code < 7 {
         let branches = code == 6;
         return stand_all(
@@ -57,7 +52,7 @@ pub fn stand(
     }
     if code == 8 {
         let y = affine::image_at(s, at + 8, z);
-        let below = stand(s, tab, inside, next, left - 1, y);
+        let below = child(s, tab, inside, next, left - 1, y);
         let how = below.how;
         return Stood {
             how,
@@ -65,7 +60,7 @@ pub fn stand(
         };
     }
     if restriction_meets(s, at, z) {
-        let below = stand(s, tab, inside, next, left - 1, z);
+        let below = child(s, tab, inside, next, left - 1, z);
         let how = below.how;
         Stood {
             how,
@@ -76,6 +71,31 @@ pub fn stand(
             how: Standing::Not,
             next: tree::skip::skip(s, at, left),
         }
+    }
+}
+
+// The same of a child: a variable or a constant is told here, which spares a call where most nodes are.
+fn child(
+    s: &[u8],
+    tab: &[usize; 102],
+    inside: &[u8; 4096],
+    at: usize,
+    left: usize,
+    z: [Int; 4],
+) -> Stood
+    requires { ⌜ BodiesPlaced (now s) (now tab) × Inside (sheetOf (now s)) (now inside) × Walk (now s) at left z × (left ≤ 2048) ⌝ }
+    ensures { λ r. ⌜ StandsAt (now (s .entry)) at z r ⌝ }
+{
+    if natural(s, at) < 3 {
+        let how = tip_stands(s, tab, inside, at, z);
+        let end = at + 16;
+        return Stood { how, next: end };
+    }
+    let inner = stand(s, tab, inside, at, left, z);
+    let how = inner.how;
+    Stood {
+        how,
+        next: inner.next,
     }
 }
 
@@ -98,7 +118,7 @@ fn stand_all(
     let mut next = at;
     let mut more = count;
     while more > 0 {
-        let one = stand(s, tab, inside, next, left, z);
+        let one = child(s, tab, inside, next, left, z);
         let its = one.how;
         how = joined(branches, how, its);
         next = one.next;

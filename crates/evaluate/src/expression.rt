@@ -271,7 +271,7 @@ fn image(
     requires { ⌜ Formed (now s) (now tab) × Inside (sheetOf (now s)) (now inside) × Ready (sheetOf (now s)) (memoOf (now codes) (now values)) × Walk (now s) at left z × (left ≤ 2048) × (natAbs (field (now s) at) ≡ 8) × Held (now s) at z ⌝ }
     ensures { λ r. ⌜ EvaluatesAt (now (s .entry)) at z (memoOf (now (codes .entry)) (now (values .entry))) (memoOf (now (codes .exit)) (now (values .exit))) r ⌝ }
 {
-    let y = affine::apply(affine::map_read(s, at + 8), z);
+    let y = affine::image_at(s, at + 8, z);
     let next = at + node_len(s, at);
     expression(s, tab, inside, codes, values, next, left - 1, y, depth)
 }

@@ -3,13 +3,16 @@ use borrow.Author.Needs.{needs}
 use native.Mathlib.Omega.{arith}
 use mathlib.Core.Path.{_≡_, refl, ap, _∙_}
 use Prim.Native.Nat.{ℕ, _+_, _*_, _≤_}
+use mathlib.Core.List.{List}
 use lib.ListN.{length}
 use lib.IntN.{natAbs}
+use Rattle.alpha.specs.declared.Int.{Int}
 use Rattle.alpha.specs.Field.{field}
+use Rattle.alpha.specs.Affine.{image}
 use Rattle.affine.specs.declared.Map.{Map}
-use Rattle.affine.specs.Value.{Neat}
+use Rattle.affine.specs.Value.{pointOf, mapOf, Padded, Neat}
 use Rattle.affine.specs.Size.{Fit}
-use Rattle.affine.specs.Reading.{MapRead}
+use Rattle.affine.specs.Reading.{MapRead, ImageAt}
 use Rattle.affine.proofs.Fetched.{RowsMap, rows-there, rows-map}
 use Rattle.affine.proofs.image_at.Statement.{statement}
 use Rattle.affine.proofs.image_at.Tie as tie
@@ -51,6 +54,11 @@ module _ (c : tie.After-to-usize2) (k : ℕ) (e : k ≡ c .to-usize2 .result) wh
   read : (m : Map) → RowsMap (start c .args .b .now) (start c .args .p) (cols c) k m → MapRead (start c .args .b .now) (start c .args .p) m
   read m h = rows-map _ _ (cols c) k (wide c) high m h
 
+  answer : (m : Map) → RowsMap (start c .args .b .now) (start c .args .p) (cols c) k m → (y : List Int) →
+      (pointOf (m .height) y ≡ image (mapOf m .rows) (pointOf (m .width) (start c .args .z))) × Padded (m .height) y →
+      ImageAt (start c .args .b .now) (start c .args .p) (start c .args .z) y
+  answer m h y e = record { map = m; read = read m h; is = e .0; rest = e .1 }
+
   fit : (m : Map) → RowsMap (start c .args .b .now) (start c .args .p) (cols c) k m → Neat m × Fit m (start c .args .z)
   fit m h = (h .1, start c .pre .1 m (read m h))
 
@@ -66,9 +74,7 @@ apply-requires : tie.Need-apply-requires
 apply-requires c κs = fit (c .before .before) 0 (omega arith) _ (c .rows-read .ensures)
 
 returns : tie.Need-returns
-returns c =
-    let y = c .apply .ensures in
-    record { map = c .before .rows-read .result; read = read (c .before .before .before) 0 (omega arith) _ (c .before .rows-read .ensures); is = y .0; rest = y .1 }
+returns c = answer (c .before .before .before) 0 (omega arith) _ (c .before .rows-read .ensures) _ (c .apply .ensures)
 
 add-rows-read-2 : tie.Need-add-rows-read-2
 add-rows-read-2 c = search needs
@@ -80,9 +86,7 @@ apply-requires-2 : tie.Need-apply-requires-2
 apply-requires-2 c κs = fit (c .before .before .before) 1 (omega arith) _ (c .rows-read2 .ensures)
 
 returns-2 : tie.Need-returns-2
-returns-2 c =
-    let y = c .apply2 .ensures in
-    record { map = c .before .rows-read2 .result; read = read (c .before .before .before .before) 1 (omega arith) _ (c .before .rows-read2 .ensures); is = y .0; rest = y .1 }
+returns-2 c = answer (c .before .before .before .before) 1 (omega arith) _ (c .before .rows-read2 .ensures) _ (c .apply2 .ensures)
 
 add-rows-read-3 : tie.Need-add-rows-read-3
 add-rows-read-3 c = search needs
@@ -94,9 +98,7 @@ apply-requires-3 : tie.Need-apply-requires-3
 apply-requires-3 c κs = fit (c .before .before .before .before) 2 (omega arith) _ (c .rows-read3 .ensures)
 
 returns-3 : tie.Need-returns-3
-returns-3 c =
-    let y = c .apply3 .ensures in
-    record { map = c .before .rows-read3 .result; read = read (c .before .before .before .before .before) 2 (omega arith) _ (c .before .rows-read3 .ensures); is = y .0; rest = y .1 }
+returns-3 c = answer (c .before .before .before .before .before) 2 (omega arith) _ (c .before .rows-read3 .ensures) _ (c .apply3 .ensures)
 
 add-rows-read-4 : tie.Need-add-rows-read-4
 add-rows-read-4 c = search needs
@@ -108,9 +110,7 @@ apply-requires-4 : tie.Need-apply-requires-4
 apply-requires-4 c κs = fit (c .before .before .before .before) _ refl _ (c .rows-read4 .ensures)
 
 returns-4 : tie.Need-returns-4
-returns-4 c =
-    let y = c .apply4 .ensures in
-    record { map = c .before .rows-read4 .result; read = read (c .before .before .before .before .before) _ refl _ (c .before .rows-read4 .ensures); is = y .0; rest = y .1 }
+returns-4 c = answer (c .before .before .before .before .before) _ refl _ (c .before .rows-read4 .ensures) _ (c .apply4 .ensures)
 
 pub image-at-spec : {M : Type 1} → statement M
 image-at-spec =

@@ -27,8 +27,7 @@ use Rattle.evaluate.proofs.expression.+branch+element+expression+image+
 use Rattle.evaluate.proofs.expression.variable.Reads as variable
 use Rattle.evaluate.proofs.expression.variable.Kinds as variable-kinds
 use Rattle.evaluate.proofs.expression.+branch+element+expression+image+one+three+two+variable.Lts-variable as variable-lts
-use Rattle.affine.proofs.apply.Reads as apply-reads
-use Rattle.affine.proofs.map_read.Reads as map-read-reads
+use Rattle.affine.proofs.image_at.Reads as image-at-reads
 use Rattle.domain.proofs.holding.holding.Reads as holding-reads
 use Rattle.evaluate.proofs.expression.constant.Reads as constant-reads
 use Rattle.evaluate.proofs.memo.code_of.Reads as code-of-reads
@@ -66,7 +65,7 @@ use mir.Facts.{toZ-ofZ}
 use Rattle.laws.specs.Sheets.{varsOf, sheetOf}
 use Rattle.tree.proofs.Noding.{code-there, wide-fields}
 use Rattle.tree.proofs.Standings.{standing-there}
-use Rattle.domain.proofs.Walks.{walk-standing, walk-image, image-fits}
+use Rattle.domain.proofs.Walks.{walk-standing, walk-image, map-stands, image-fits}
 use Rattle.domain.proofs.Records.{VariableLaid, laid-variable}
 use Rattle.domain.proofs.Restrictions.{restriction-walk}
 use Rattle.domain.proofs.Carried.{held-restricted, held-image}
@@ -206,10 +205,8 @@ expression-uses t = (
 
 abbrev image-uses : ℕ → image-lts.Claims
 image-uses t = (
-  map-read-reads.Asked,
-  map-read-reads.Learnt,
-  apply-reads.Asked,
-  apply-reads.Learnt,
+  image-at-reads.Asked,
+  image-at-reads.Learnt,
   node-len-reads.Asked,
   node-len-reads.Learnt,
   expression-below t,
@@ -612,59 +609,52 @@ expression-returns-7 t c =
 expression-returns-8 : (t : ℕ) → expression-lts.Need-returns-8 (expression-uses t) (expression-at t) expression.Post
 expression-returns-8 t c = c .image .ensures
 
-image-add-map-read : (t : ℕ) → image-lts.Need-add-map-read (image-uses t) (image-at t) image.Post
-image-add-map-read t c =
+image-add-image-at : (t : ℕ) → image-lts.Need-add-image-at (image-uses t) (image-at t) image.Post
+image-add-image-at t c =
     let s = c .before in
     omega (arith, there _ _ _ _ (s .pre .1 .3) 8 (s .pre .1 .5) (λ e. omega arith))
 
-image-map-read-requires : (t : ℕ) → image-lts.Need-map-read-requires (image-uses t) (image-at t) image.Post
-image-map-read-requires t c κs = search needs
-
-image-apply-requires : (t : ℕ) → image-lts.Need-apply-requires (image-uses t) (image-at t) image.Post
-image-apply-requires t c κs =
-    let s = c .before .before in
-    let p = s .pre .1 in
-    let r = c .map-read .ensures in
-    (r .neat, image-fits _ _ _ _ (p .3) (p .5) _ r)
+image-image-at-requires : (t : ℕ) → image-lts.Need-image-at-requires (image-uses t) (image-at t) image.Post
+image-image-at-requires t c κs =
+    let p = c .before .pre .1 in
+    (map-stands _ _ _ _ (p .3) (p .5), image-fits _ _ _ _ (p .3) (p .5))
 
 image-node-len-requires : (t : ℕ) → image-lts.Need-node-len-requires (image-uses t) (image-at t) image.Post
 image-node-len-requires t c κs =
-    let s = c .before .before .before in
+    let s = c .before .before in
     walk-noded _ _ _ _ (s .pre .1 .3)
 
 image-add-next : (t : ℕ) → image-lts.Need-add-next (image-uses t) (image-at t) image.Post
 image-add-next t c =
-    let s = c .before .before .before .before in
+    let s = c .before .before .before in
     omega (arith, standing-there _ _ _ _ (walk-standing _ _ _ _ (s .pre .1 .3)), c .node-len .ensures)
 
 image-sub-expression : (t : ℕ) → image-lts.Need-sub-expression (image-uses t) (image-at t) image.Post
 image-sub-expression t c =
-    let s = c .before .before .before .before .before .before in
+    let s = c .before .before .before .before .before in
     omega (arith, walk-some _ _ _ _ (s .pre .1 .3))
 
 image-expression-requires : (t : ℕ) → image-lts.Need-expression-requires (image-uses t) (image-at t) image.Post
 image-expression-requires t c κs =
     let at-node-len = c .before .before in
-    let at-apply = at-node-len .before in
-    let at-map-read = at-apply .before in
-    let s = at-map-read .before .before in
+    let at-image = at-node-len .before in
+    let s = at-image .before .before in
     let p = s .pre .1 in
     let is = s .pre .0 in
     let some = walk-some _ _ _ _ (p .3) in
-    let y = at-apply .apply .ensures in
-    let walk = walk-image _ _ _ _ (p .3) (p .5) _ (at-map-read .map-read .ensures) _ (y .0) (y .1) in
-    let held = held-image _ _ _ (p .6) (p .5) _ (at-map-read .map-read .ensures) _ (y .0) in
+    let y = at-image .image-at .ensures in
+    let walk = walk-image _ _ _ _ (p .3) (p .5) _ (y .read) _ (y .is) (y .rest) in
+    let held = held-image _ _ _ (p .6) (p .5) _ (y .read) _ (y .is) in
     let long = at-node-len .node-len .ensures in
     (omega arith, (p .0, p .1, p .2, rw long walk, omega (arith, p .4), rw long held))
 
 image-returns : (t : ℕ) → image-lts.Need-returns (image-uses t) (image-at t) image.Post
 image-returns t c =
     let at-node-len = c .before .before .before in
-    let at-apply = at-node-len .before in
-    let at-map-read = at-apply .before in
-    let s = at-map-read .before .before in
-    let p = s .pre .1 in
-    image-way _ _ (s .args .z) _ _ (at-apply .apply .result) (p .5) (at-node-len .node-len .ensures) (at-map-read .map-read .ensures) (at-apply .apply .ensures .0) _ _ _ (c .expression .ensures)
+    let at-image = at-node-len .before in
+    let s = at-image .before .before in
+    let y = at-image .image-at in
+    image-way _ _ (s .args .z) _ _ (y .result) (s .pre .1 .5) (at-node-len .node-len .ensures) (y .ensures .read) (y .ensures .is) _ _ _ (c .expression .ensures)
 
 one-add-expression : (t : ℕ) → one-lts.Need-add-expression (one-uses t) (one-at t) one.Post
 one-add-expression t c =
@@ -1147,9 +1137,8 @@ pub +branch+element+expression+image+one+three+two+variable-spec : {M : Type 1} 
     (expression-returns-8 t))
     (λ t. image-lts.spec (image-uses t) (image-at t)
     image.Post
-    (image-add-map-read t)
-    (image-map-read-requires t)
-    (image-apply-requires t)
+    (image-add-image-at t)
+    (image-image-at-requires t)
     (image-node-len-requires t)
     (image-add-next t)
     (image-sub-expression t)

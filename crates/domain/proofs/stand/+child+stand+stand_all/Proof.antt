@@ -1,0 +1,356 @@
+-- `domain::stand`, `domain::child` and `domain::stand_all` meet their contracts: a tree stands as its node says of its children.
+-- Assumes nothing.
+use borrow.Fn.Kinds.{In}
+use borrow.Fn.PlainCycle.{Measures, is, falls, and}
+use Rattle.domain.proofs.stand.child.Reads as child
+use Rattle.domain.proofs.stand.child.Kinds as child-kinds
+use Rattle.domain.proofs.stand.+child+stand+stand_all.Lts-child as child-lts
+use Rattle.domain.proofs.stand.stand.Reads as stand
+use Rattle.domain.proofs.stand.stand.Kinds as stand-kinds
+use Rattle.domain.proofs.stand.+child+stand+stand_all.Lts-stand as stand-lts
+use Rattle.domain.proofs.stand.stand_all.Reads as stand-all
+use Rattle.domain.proofs.stand.stand_all.Kinds as stand-all-kinds
+use Rattle.domain.proofs.stand.+child+stand+stand_all.Lts-stand_all as stand-all-lts
+use Rattle.affine.proofs.image_at.Reads as image-at-reads
+use Rattle.domain.proofs.constraint.restriction_meets.Reads as restriction-meets-reads
+use Rattle.domain.proofs.join.alone.Reads as alone-reads
+use Rattle.domain.proofs.join.joined.Reads as joined-reads
+use Rattle.domain.proofs.leaf.tip_stands.Reads as tip-stands-reads
+use Rattle.tree.proofs.node.children.Reads as children-reads
+use Rattle.tree.proofs.node.natural.Reads as natural-reads
+use Rattle.tree.proofs.node.node_len.Reads as node-len-reads
+use Rattle.tree.proofs.skip.skip.Reads as skip-reads
+use Rattle.domain.proofs.stand.+child+stand+stand_all.{statement}
+use Rattle.domain.proofs.stand.+child+stand+stand_all.Tie.{close}
+use Prim.Native.Nat.{ℕ, _+_, _*_, _-_, _<_, _≤_}
+use mathlib.Core.Path.{_≡_, refl, sym, ap, _∙_}
+use native.Mathlib.Omega.{arith}
+use borrow.Author.Needs.{needs}
+use lib.IntN.{natAbs}
+use Rattle.alpha.specs.Field.{field}
+use Rattle.laws.specs.Sheets.{varsOf}
+use Rattle.tree.specs.Standing.{Noded}
+use Rattle.tree.proofs.Noding.{code-there, wide-fields}
+use Rattle.tree.proofs.Standings.{standing-noded, standing-some, standing-there}
+use Rattle.domain.specs.declared.Stood.{Stood}
+use Rattle.domain.specs.Walk.{WalkAll}
+use Rattle.domain.specs.Standing.{StandTogether}
+use Rattle.domain.proofs.Walks.{walk-standing, walk-seven, walk-children, map-stands, image-fits, walk-image, walk-first, walk-rest}
+use Rattle.domain.proofs.Restrictions.{restriction-testable, restriction-walk}
+use Rattle.domain.proofs.Ways.{tip-long, children-way, image-way, restriction-way, restriction-off-way, none-way, more-way}
+
+abbrev μ-child : Measures 3 child-kinds.ps ℕ
+μ-child κs a = 3 * a .1 .1 .1 .1 .0 + 1
+
+abbrev μ-stand : Measures 3 stand-kinds.ps ℕ
+μ-stand κs a = 3 * a .1 .1 .1 .1 .0
+
+abbrev μ-stand-all : Measures 3 stand-all-kinds.ps ℕ
+μ-stand-all κs a = 3 * a .1 .1 .1 .1 .0 + 2
+
+abbrev child-at : ℕ → In 3 child-kinds.ps
+child-at t = and 3 child-kinds.ps (is 3 child-kinds.ps μ-child t) child.Pre
+
+abbrev child-below : ℕ → In 3 child-kinds.ps
+child-below t = and 3 child-kinds.ps (falls 3 child-kinds.ps _<_ μ-child t) child.Pre
+
+abbrev stand-at : ℕ → In 3 stand-kinds.ps
+stand-at t = and 3 stand-kinds.ps (is 3 stand-kinds.ps μ-stand t) stand.Pre
+
+abbrev stand-below : ℕ → In 3 stand-kinds.ps
+stand-below t = and 3 stand-kinds.ps (falls 3 stand-kinds.ps _<_ μ-stand t) stand.Pre
+
+abbrev stand-all-at : ℕ → In 3 stand-all-kinds.ps
+stand-all-at t = and 3 stand-all-kinds.ps (is 3 stand-all-kinds.ps μ-stand-all t) stand-all.Pre
+
+abbrev stand-all-below : ℕ → In 3 stand-all-kinds.ps
+stand-all-below t =
+    and 3 stand-all-kinds.ps (falls 3 stand-all-kinds.ps _<_ μ-stand-all t) stand-all.Pre
+
+abbrev child-uses : ℕ → child-lts.Claims
+child-uses t = (natural-reads.Asked, natural-reads.Learnt, tip-stands-reads.Asked, tip-stands-reads.Learnt, stand-below t, stand.Post)
+
+abbrev stand-uses : ℕ → stand-lts.Claims
+stand-uses t = (
+  natural-reads.Asked,
+  natural-reads.Learnt,
+  tip-stands-reads.Asked,
+  tip-stands-reads.Learnt,
+  node-len-reads.Asked,
+  node-len-reads.Learnt,
+  children-reads.Asked,
+  children-reads.Learnt,
+  alone-reads.Asked,
+  alone-reads.Learnt,
+  stand-all-below t,
+  stand-all.Post,
+  image-at-reads.Asked,
+  image-at-reads.Learnt,
+  child-below t,
+  child.Post,
+  restriction-meets-reads.Asked,
+  restriction-meets-reads.Learnt,
+  skip-reads.Asked,
+  skip-reads.Learnt,
+)
+
+abbrev stand-all-uses : ℕ → stand-all-lts.Claims
+stand-all-uses t = (child-below t, child.Post, joined-reads.Asked, joined-reads.Learnt)
+
+-- the child
+child-natural-requires : (t : ℕ) → child-lts.Need-natural-requires (child-uses t) (child-at t) child.Post
+child-natural-requires t c κs = code-there _ _ _ (standing-noded _ _ _ _ (walk-standing _ _ _ _ (c .before .pre .1 .2)))
+
+child-tip-stands-requires : (t : ℕ) → child-lts.Need-tip-stands-requires (child-uses t) (child-at t) child.Post
+child-tip-stands-requires t c κs =
+    let s = c .before .before .before in
+    let code = c .before .natural .ensures in
+    (s .pre .1 .0, s .pre .1 .1, standing-noded _ _ _ _ (walk-standing _ _ _ _ (s .pre .1 .2)), omega (arith, c .if1 .taken))
+
+child-add-end : (t : ℕ) → child-lts.Need-add-end (child-uses t) (child-at t) child.Post
+child-add-end t c =
+    let s = c .before .before .before .before in
+    let code = c .before .before .natural .ensures in
+    let long = tip-long (s .args .s .now) (s .args .at) (omega (arith, c .before .if1 .taken)) in
+    omega (arith, standing-there _ _ _ _ (walk-standing _ _ _ _ (s .pre .1 .2)))
+
+child-returns : (t : ℕ) → child-lts.Need-returns (child-uses t) (child-at t) child.Post
+child-returns t c = c .tip-stands .ensures
+
+child-stand-requires : (t : ℕ) → child-lts.Need-stand-requires (child-uses t) (child-at t) child.Post
+child-stand-requires t c κs =
+    let s = c .before .before .before in
+    let is = s .pre .0 in
+    (omega arith, s .pre .1)
+
+child-returns-2 : (t : ℕ) → child-lts.Need-returns-2 (child-uses t) (child-at t) child.Post
+child-returns-2 t c = c .stand .ensures
+
+-- the node
+noded : (t : ℕ) (c : stand-lts.Start (stand-uses t) (stand-at t) stand.Post) → Noded (varsOf (c .args .s .now)) (c .args .s .now) (c .args .at)
+noded t c = standing-noded _ _ _ _ (walk-standing _ _ _ _ (c .pre .1 .2))
+
+-- there is a node left
+some : (t : ℕ) (c : stand-lts.Start (stand-uses t) (stand-at t) stand.Post) → 1 ≤ c .args .left
+some t c = standing-some _ _ _ _ (walk-standing _ _ _ _ (c .pre .1 .2))
+
+stand-natural-requires : (t : ℕ) → stand-lts.Need-natural-requires (stand-uses t) (stand-at t) stand.Post
+stand-natural-requires t c κs = code-there _ _ _ (noded t (c .before))
+
+stand-tip-stands-requires : (t : ℕ) → stand-lts.Need-tip-stands-requires (stand-uses t) (stand-at t) stand.Post
+stand-tip-stands-requires t c κs =
+    let s = c .before .before .before in
+    let code = c .before .natural .ensures in
+    (s .pre .1 .0, s .pre .1 .1, noded t s, omega (arith, c .if1 .taken))
+
+stand-add-end : (t : ℕ) → stand-lts.Need-add-end (stand-uses t) (stand-at t) stand.Post
+stand-add-end t c =
+    let s = c .before .before .before .before in
+    let code = c .before .before .natural .ensures in
+    let long = tip-long (s .args .s .now) (s .args .at) (omega (arith, c .before .if1 .taken)) in
+    omega (arith, standing-there _ _ _ _ (walk-standing _ _ _ _ (s .pre .1 .2)))
+
+stand-returns : (t : ℕ) → stand-lts.Need-returns (stand-uses t) (stand-at t) stand.Post
+stand-returns t c = c .tip-stands .ensures
+
+stand-node-len-requires : (t : ℕ) → stand-lts.Need-node-len-requires (stand-uses t) (stand-at t) stand.Post
+stand-node-len-requires t c κs = noded t (c .before .before .before)
+
+stand-add-next : (t : ℕ) → stand-lts.Need-add-next (stand-uses t) (stand-at t) stand.Post
+stand-add-next t c =
+    let s = c .before .before .before .before in
+    omega (arith, standing-there _ _ _ _ (walk-standing _ _ _ _ (s .pre .1 .2)), c .node-len .ensures)
+
+stand-sub-stand-all : (t : ℕ) → stand-lts.Need-sub-stand-all (stand-uses t) (stand-at t) stand.Post
+stand-sub-stand-all t c = omega (arith, some t (c .before .before .before .before .before))
+
+stand-children-requires : (t : ℕ) → stand-lts.Need-children-requires (stand-uses t) (stand-at t) stand.Post
+stand-children-requires t c κs = noded t (c .before .before .before .before .before)
+
+stand-alone-requires : (t : ℕ) → stand-lts.Need-alone-requires (stand-uses t) (stand-at t) stand.Post
+stand-alone-requires t c κs = search needs
+
+stand-stand-all-requires : (t : ℕ) → stand-lts.Need-stand-all-requires (stand-uses t) (stand-at t) stand.Post
+stand-stand-all-requires t c κs =
+    let s = c .before .before .before .before .before .before .before in
+    let w = s .pre .1 .2 in
+    let long = c .before .before .before .node-len .ensures in
+    let many = c .before .children .ensures in
+    let code = c .before .before .before .before .before .natural .ensures in
+    let high = c .before .before .if2 .taken in
+    let left = some t s in
+    let is = s .pre .0 in
+    (omega arith, (s .pre .1 .0, s .pre .1 .1, walk-children _ _ _ _ w _ _ long many (λ e. omega arith), omega (arith, s .pre .1 .3)))
+
+stand-returns-2 : (t : ℕ) → stand-lts.Need-returns-2 (stand-uses t) (stand-at t) stand.Post
+stand-returns-2 t c =
+    let s = c .before .before .before .before .before .before .before .before in
+    let long = c .before .before .before .before .node-len .ensures in
+    let many = c .before .before .children .ensures in
+    let code = c .before .before .before .before .before .before .natural .ensures in
+    let low = c .before .before .before .before .before .if1 .left in
+    children-way _ _ _ (s .args .z) long _ _ many code (omega arith) (c .before .before .before .if2 .taken) _ _ (c .before .alone .ensures) (c .stand-all .ensures)
+
+stand-add-image-at : (t : ℕ) → stand-lts.Need-add-image-at (stand-uses t) (stand-at t) stand.Post
+stand-add-image-at t c = omega (arith, code-there _ _ _ (noded t (c .before .before .before .before .before .before)))
+
+stand-image-at-requires : (t : ℕ) → stand-lts.Need-image-at-requires (stand-uses t) (stand-at t) stand.Post
+stand-image-at-requires t c κs =
+    let s = c .before .before .before .before .before .before in
+    let code = sym (c .before .before .before .before .natural .ensures) ∙ c .if3 .taken in
+    (map-stands _ _ _ _ (s .pre .1 .2) code, image-fits _ _ _ _ (s .pre .1 .2) code)
+
+stand-sub-child : (t : ℕ) → stand-lts.Need-sub-child (stand-uses t) (stand-at t) stand.Post
+stand-sub-child t c = omega (arith, some t (c .before .before .before .before .before .before .before))
+
+stand-child-requires : (t : ℕ) → stand-lts.Need-child-requires (stand-uses t) (stand-at t) stand.Post
+stand-child-requires t c κs =
+    let s = c .before .before .before .before .before .before .before in
+    let code = sym (c .before .before .before .before .before .natural .ensures) ∙ c .before .if3 .taken in
+    let left = some t s in
+    let is = s .pre .0 in
+    let y = c .image-at .ensures in
+    let long = c .before .before .before .node-len .ensures in
+    let walk = walk-image _ _ _ _ (s .pre .1 .2) code _ (y .read) _ (y .is) (y .rest) in
+    (omega arith, (s .pre .1 .0, s .pre .1 .1, rw long walk, omega (arith, s .pre .1 .3)))
+
+stand-returns-3 : (t : ℕ) → stand-lts.Need-returns-3 (stand-uses t) (stand-at t) stand.Post
+stand-returns-3 t c =
+    let s = c .before .before .before .before .before .before .before .before in
+    let code = sym (c .before .before .before .before .before .before .natural .ensures) ∙ c .before .before .if3 .taken in
+    let long = c .before .before .before .before .node-len .ensures in
+    let y = c .before .image-at in
+    image-way _ _ _ (s .args .z) long _ (y .result) _ code (y .ensures .read) (y .ensures .is) (c .child .ensures)
+
+-- a restriction's code
+seven : (t : ℕ) (c : stand-lts.Else3 (stand-uses t) (stand-at t) stand.Post) →
+    natAbs (field (c .before .before .before .before .before .before .args .s .now) (c .before .before .before .before .before .before .args .at)) ≡ 7
+seven t c =
+    let code = c .before .before .before .before .natural .ensures in
+    let low = c .before .if2 .left in
+    walk-seven _ _ _ _ (c .before .before .before .before .before .before .pre .1 .2) (omega arith) (λ e. c .if3 .left (code ∙ e))
+
+stand-restriction-meets-requires : (t : ℕ) → stand-lts.Need-restriction-meets-requires (stand-uses t) (stand-at t) stand.Post
+stand-restriction-meets-requires t c κs =
+    let s = c .before .before .before .before .before .before in
+    let code = seven t c in
+    restriction-testable _ _ _ _ (s .pre .1 .2) code (wide-fields _ _ _ (noded t s) (omega arith))
+
+stand-sub-child-2 : (t : ℕ) → stand-lts.Need-sub-child-2 (stand-uses t) (stand-at t) stand.Post
+stand-sub-child-2 t c = omega (arith, some t (c .before .before .before .before .before .before .before .before))
+
+stand-child-requires-2 : (t : ℕ) → stand-lts.Need-child-requires-2 (stand-uses t) (stand-at t) stand.Post
+stand-child-requires-2 t c κs =
+    let s = c .before .before .before .before .before .before .before .before in
+    let left = some t s in
+    let is = s .pre .0 in
+    let long = c .before .before .before .before .node-len .ensures in
+    let walk = restriction-walk _ _ _ _ (s .pre .1 .2) (seven t (c .before .before)) in
+    (omega arith, (s .pre .1 .0, s .pre .1 .1, rw long walk, omega (arith, s .pre .1 .3)))
+
+stand-skip-requires : (t : ℕ) → stand-lts.Need-skip-requires (stand-uses t) (stand-at t) stand.Post
+stand-skip-requires t c κs =
+    let s = c .before .before .before .before .before .before .before .before in
+    (walk-standing _ _ _ _ (s .pre .1 .2), s .pre .1 .3)
+
+stand-returns-4 : (t : ℕ) → stand-lts.Need-returns-4 (stand-uses t) (stand-at t) stand.Post
+stand-returns-4 t c =
+    let s = c .before .before .before .before .before .before .before .before .before in
+    let long = c .before .before .before .before .before .node-len .ensures in
+    let met = c .before .before .restriction-meets .ensures in
+    restriction-way _ _ _ (s .args .z) long (seven t (c .before .before .before)) _ met _ (c .before .if4 .taken) (c .child2 .ensures)
+
+stand-returns-5 : (t : ℕ) → stand-lts.Need-returns-5 (stand-uses t) (stand-at t) stand.Post
+stand-returns-5 t c =
+    let s = c .before .before .before .before .before .before .before .before .before in
+    let long = c .before .before .before .before .before .node-len .ensures in
+    let met = c .before .before .restriction-meets .ensures in
+    restriction-off-way _ _ _ (s .args .z) long (seven t (c .before .before .before)) _ met _ (c .before .if4 .left) (c .skip .ensures)
+
+-- what the trees from here on come to is what all of them do
+abbrev stand-all-Inv-loop : stand-all-lts.InvT-loop
+stand-all-Inv-loop s tab inside at left z count branches sofar next₀ more₀ how next more =
+    WalkAll s next left more z × ((r : Stood) → StandTogether s next more z branches how r → StandTogether s at count z branches sofar r)
+
+abbrev stand-all-μ-loop : stand-all-lts.MeasureT-loop
+stand-all-μ-loop s tab inside at left z count branches sofar next₀ more₀ how next more = more
+
+stand-all-loop-holds : (t : ℕ) → stand-all-lts.Need-loop-holds (stand-all-uses t) (stand-all-at t) stand-all.Post stand-all-Inv-loop stand-all-μ-loop
+stand-all-loop-holds t c = (c .before .pre .1 .2, λ r h. h)
+
+stand-all-child-requires : (t : ℕ) → stand-all-lts.Need-child-requires (stand-all-uses t) (stand-all-at t) stand-all.Post stand-all-Inv-loop stand-all-μ-loop
+stand-all-child-requires t c κs =
+    let s = c .before .before .before in
+    let is = s .pre .0 in
+    (omega arith, (s .pre .1 .0, s .pre .1 .1, walk-first _ _ _ _ _ (c .loop-test .taken) (c .before .loop .inv .0), s .pre .1 .3))
+
+stand-all-joined-requires : (t : ℕ) → stand-all-lts.Need-joined-requires (stand-all-uses t) (stand-all-at t) stand-all.Post stand-all-Inv-loop stand-all-μ-loop
+stand-all-joined-requires t c κs = search needs
+
+stand-all-sub-more : (t : ℕ) → stand-all-lts.Need-sub-more (stand-all-uses t) (stand-all-at t) stand-all.Post stand-all-Inv-loop stand-all-μ-loop
+stand-all-sub-more t c = omega (arith, c .before .before .loop-test .taken)
+
+stand-all-loop-less : (t : ℕ) → stand-all-lts.Need-loop-less (stand-all-uses t) (stand-all-at t) stand-all.Post stand-all-Inv-loop stand-all-μ-loop
+stand-all-loop-less t c = omega (arith, c .before .before .loop-test .taken)
+
+stand-all-loop-again : (t : ℕ) → stand-all-lts.Need-loop-again (stand-all-uses t) (stand-all-at t) stand-all.Post stand-all-Inv-loop stand-all-μ-loop
+stand-all-loop-again t c =
+    let here = c .before .before in
+    let loop = here .before .loop in
+    let more = here .loop-test .taken in
+    let one = c .before .child in
+    let s = here .before .before .before in (
+      walk-rest _ _ _ _ _ more (loop .inv .0) _ (λ e q d h f. one .ensures e q d h f .0),
+      λ r h. loop .inv .1 r (more-way _ _ _ (s .args .z) (s .args .branches) (loop .how) more _ _ (one .ensures) (rw (c .joined .ensures) at h)),
+    )
+
+stand-all-returns : (t : ℕ) → stand-all-lts.Need-returns (stand-all-uses t) (stand-all-at t) stand-all.Post stand-all-Inv-loop stand-all-μ-loop
+stand-all-returns t c =
+    let loop = c .before .loop in
+    let s = c .before .before .before in
+    loop .inv .1 _ (none-way _ _ _ (s .args .z) (s .args .branches) (loop .how) (omega (arith, c .loop-test .left)))
+
+pub +child+stand+stand-all-spec : {M : Type 1} → statement M
++child+stand+stand-all-spec = close μ-child μ-stand μ-stand-all (λ t. child-lts.spec (child-uses t) (child-at t)
+    child.Post
+    (child-natural-requires t)
+    (child-tip-stands-requires t)
+    (child-add-end t)
+    (child-returns t)
+    (child-stand-requires t)
+    (child-returns-2 t))
+    (λ t. stand-lts.spec (stand-uses t) (stand-at t)
+    stand.Post
+    (stand-natural-requires t)
+    (stand-tip-stands-requires t)
+    (stand-add-end t)
+    (stand-returns t)
+    (stand-node-len-requires t)
+    (stand-add-next t)
+    (stand-sub-stand-all t)
+    (stand-children-requires t)
+    (stand-alone-requires t)
+    (stand-stand-all-requires t)
+    (stand-returns-2 t)
+    (stand-add-image-at t)
+    (stand-image-at-requires t)
+    (stand-sub-child t)
+    (stand-child-requires t)
+    (stand-returns-3 t)
+    (stand-restriction-meets-requires t)
+    (stand-sub-child-2 t)
+    (stand-child-requires-2 t)
+    (stand-skip-requires t)
+    (stand-returns-4 t)
+    (stand-returns-5 t))
+    λ t. stand-all-lts.spec (stand-all-uses t) (stand-all-at t)
+    stand-all.Post
+    stand-all-Inv-loop
+    stand-all-μ-loop
+    (stand-all-loop-holds t)
+    (stand-all-child-requires t)
+    (stand-all-joined-requires t)
+    (stand-all-sub-more t)
+    (stand-all-loop-less t)
+    (stand-all-loop-again t)
+    (stand-all-returns t)
