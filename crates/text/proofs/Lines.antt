@@ -17,9 +17,10 @@ use Rattle.alpha.specs.Outcome.{Outcome, outside, value, divzero, overflow, loo
 use Rattle.alpha.specs.Run.{codeOf, valueOf, outcomeAt}
 use Rattle.alpha.specs.Written.{flat}
 use Rattle.alpha.specs.Program.{acceptedWord, natText, newline, line, report}
+use Rattle.laws.specs.Coded.{decoded}
 use Rattle.laws.proofs.Elements.{length-points, before-suc, getD-map}
 use Rattle.domain.specs.Element.{elementsAt, elementsOf}
-use Rattle.text.specs.Lines.{outcomeFor, outcomeIn, lineOf, lineIn, linesFrom, reportIn}
+use Rattle.text.specs.Lines.{outcomeIn, lineOf, lineIn, linesFrom, reportIn}
 
 module _ (s : Sheet) (codes : List ℕ) (values : List ℤ) where
   lines-append : (xs ys : List Element) (n : ℕ) →
@@ -88,7 +89,7 @@ module _ (s : Sheet) (codes : List ℕ) (values : List ℤ) where
 -- ---- the run's tables
 
 -- an outcome is the one with its code and its value
-outcome-told : (o : Outcome) → outcomeFor (codeOf o) (valueOf o) ≡ o
+outcome-told : (o : Outcome) → decoded (codeOf o) (valueOf o) ≡ o
 outcome-told outside = refl
 outcome-told (value x) = refl
 outcome-told divzero = refl
