@@ -63,7 +63,8 @@ module _ (s : Sheet) (codes : List ℕ) (values : List ℤ) where
         let g : suc (before s v + i) ≡ before s v + (i + 1) = omega arith in
         ap (λ k. linesFrom s codes values (before s v + i) (elementsAt v (pointsFrom box i k))) e
         ∙ ap (λ n. lineIn s codes values v i ++ linesFrom s codes values n (elementsAt v (pointsFrom box (suc i) (size box - (i + 1))))) g
-        ∙ ap (λ j. lineIn s codes values v i ++ linesFrom s codes values (before s v + (i + 1)) (elementsAt v (pointsFrom box j (size box - (i + 1))))) f
+        ∙ ap (λ j. lineIn s codes values v i ++ linesFrom s codes values (before s v + (i + 1))
+        (elementsAt v (pointsFrom box j (size box - (i + 1))))) f
 
   -- ---- all variables
 
@@ -78,7 +79,8 @@ module _ (s : Sheet) (codes : List ℕ) (values : List ℤ) where
   pub variables-more : (v : ℕ) → v < length s → variableLines v ≡ linesFrom s codes values (before s v) (elementsOf s v) ++ variableLines (v + 1)
   unfolding elementsFrom
   variables-more v h =
-      let many = length-map {B = Element} (points (variable s v .head .box)) (λ z. record { who = v; at = z }) ∙ length-points (variable s v .head .box) in
+      let many =
+      length-map {B = Element} (points (variable s v .head .box)) (λ z. record { who = v; at = z }) ∙ length-points (variable s v .head .box) in
       let n : before s v + length (elementsOf s v) ≡ before s (suc v) = omega (arith, before-suc s v h, many) in
       let f : suc v ≡ v + 1 = omega arith in
       ap (λ t. linesFrom s codes values (before s v) (elementsFrom v t)) (drop-cons s v noVariable h)

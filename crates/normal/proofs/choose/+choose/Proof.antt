@@ -32,15 +32,20 @@ choose-count-requires t c κs =
     (first-standing _ _ _ _ _ (children-some _ _ _ _ _ h) (children-standing _ _ _ _ _ h), c .before .pre .1 .1)
 
 choose-returns : (t : ℕ) → choose-lts.Need-returns (choose-uses t) (choose-at t) choose.Post
-choose-returns t c = first-way _ _ _ _ _ (c .before .before .before .pre .1 .0) _ (c .before .count .ensures) (c .if1 .taken)
+choose-returns t c =
+    let s = c .before .before .before in
+    first-way _ _ _ _ _ (s .pre .1 .0) _ (c .before .count .ensures) (c .if1 .taken)
 
 choose-skip-requires : (t : ℕ) → choose-lts.Need-skip-requires (choose-uses t) (choose-at t) choose.Post
 choose-skip-requires t c κs =
-    let h = c .before .before .before .pre .1 .0 in
-    (first-standing _ _ _ _ _ (children-some _ _ _ _ _ h) (children-standing _ _ _ _ _ h), c .before .before .before .pre .1 .1)
+    let s = c .before .before .before in
+    let h = s .pre .1 .0 in
+    (first-standing _ _ _ _ _ (children-some _ _ _ _ _ h) (children-standing _ _ _ _ _ h), s .pre .1 .1)
 
 choose-sub-choose : (t : ℕ) → choose-lts.Need-sub-choose (choose-uses t) (choose-at t) choose.Post
-choose-sub-choose t c = omega (arith, children-some _ _ _ _ _ (c .before .before .before .before .pre .1 .0))
+choose-sub-choose t c =
+    let s = c .before .before .before .before in
+    omega (arith, children-some _ _ _ _ _ (s .pre .1 .0))
 
 choose-choose-requires : (t : ℕ) → choose-lts.Need-choose-requires (choose-uses t) (choose-at t) choose.Post
 choose-choose-requires t c κs =
@@ -51,7 +56,11 @@ choose-choose-requires t c κs =
     (omega arith, (children-rest _ _ _ _ _ h _ (c .before .before .count .ensures) (c .before .if1 .left) _ (c .skip .ensures), s .pre .1 .1))
 
 choose-returns-2 : (t : ℕ) → choose-lts.Need-returns-2 (choose-uses t) (choose-at t) choose.Post
-choose-returns-2 t c = later-way _ _ _ _ _ (c .before .before .before .before .before .pre .1 .0) _ (c .before .before .before .count .ensures) (c .before .before .if1 .left) _ _ (c .before .skip .ensures) (c .choose .ensures)
+choose-returns-2 t c =
+    let after-count = c .before .before .before in
+    let s = after-count .before .before in
+    later-way _ _ _ _ _ (s .pre .1 .0) _ (after-count .count .ensures) (c .before .before .if1 .left) _ _ (c .before .skip .ensures)
+    (c .choose .ensures)
 
 pub +choose-spec : {M : Type 1} → statement M
 +choose-spec = close μ-choose λ t. choose-lts.spec (choose-uses t) (choose-at t)

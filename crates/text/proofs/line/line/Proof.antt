@@ -40,7 +40,9 @@ number-is c =
 
 -- its code
 abbrev code-of : (c : tie.After-first-element) → ℕ
-code-of c = getD (c .before .before .before .args .codes .now) (c .first-element .result + c .before .before .before .args .i) 0
+code-of c =
+    let s = c .before .before .before in
+    getD (s .args .codes .now) (c .first-element .result + s .args .i) 0
 
 -- the variable, and the outcome of the element by the tables
 abbrev variable-of : tie.Start → Variable
