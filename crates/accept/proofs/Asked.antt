@@ -42,7 +42,8 @@ pub record Copied (point : List ℤ) (z : List Int) (i : ℕ) : Type 0 where
   pub sized : length z ≡ 4
   pub same : (j : ℕ) → j < i → at z j ≡ getD point j (pos 0)
 
-pub copied-more : (point : List ℤ) (z : List Int) (i : ℕ) (x : Int) → i < 4 → Copied point z i → x .v ≡ getD point i (pos 0) → Copied point (set z i x) (i + 1)
+pub copied-more : (point : List ℤ) (z : List Int) (i : ℕ) (x : Int) → i < 4 → Copied point z i → x .v ≡ getD point i (pos 0) →
+    Copied point (set z i x) (i + 1)
 copied-more point z i x l h e =
     record { sized = simp length-set (h .sized); same = λ j k. go j k (ℕ-discrete j i) }
   where
@@ -96,11 +97,13 @@ found-asked s v z i n lt a e = go (inBox (variable s v .head .box) z) refl a
 
 -- ---- the sheet is refused, or accepted
 
-pub refused-number : (bs : List ℕ) (v : ℕ) (z : Point) (r : Verdict) (k : Refusal) → r ≡ Refused k → told r ≡ totalOf (check bs) → told r ≡ elementNumber bs v z
+pub refused-number : (bs : List ℕ) (v : ℕ) (z : Point) (r : Verdict) (k : Refusal) → r ≡ Refused k → told r ≡ totalOf (check bs) →
+    told r ≡ elementNumber bs v z
 unfolding elementNumber
 refused-number bs v z r k e a = ap told e ∙ go (check bs) (sym (ap told e) ∙ a)
   where
-    go : (c : Answer Sheet) → refused (Verdicts.numberOf k) (placeOf k) ≡ totalOf c → refused (Verdicts.numberOf k) (placeOf k) ≡ next c (λ s. numbered s v z)
+    go : (c : Answer Sheet) → refused (Verdicts.numberOf k) (placeOf k) ≡ totalOf c →
+        refused (Verdicts.numberOf k) (placeOf k) ≡ next c (λ s. numbered s v z)
     go (accepted s) h = absurd (let w : _≡_ {A = ℕ} 0 1 = cc in omega arith)
     go (refused n p) h = h
 
@@ -113,7 +116,8 @@ module _ (bs tab : List ℕ) (f : Formed bs tab) (v : ℕ) (lt : v < varsOf bs) 
   laid : VariableLaid bs tab v
   laid = laid-variable bs tab (f .placed) v lt
 
-  pub index-is : (place : ℕ) (z : List Int) (point : Point) → place ≡ getD tab v 0 → length point ≡ dimension (headsOf bs) v → pointOf (length point) z ≡ point →
+  pub index-is : (place : ℕ) (z : List Int) (point : Point) → place ≡ getD tab v 0 → length point ≡ dimension (headsOf bs) v →
+      pointOf (length point) z ≡ point →
       numberIn (boxOf bs place) (pointOf (dimensionAt bs place) z) ≡ numberIn (variable (sheetOf bs) v .head .box) point
   index-is place z point p d e =
       ap (λ q. numberIn (boxOf bs q) (pointOf (dimensionAt bs q) z)) p

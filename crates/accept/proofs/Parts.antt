@@ -51,10 +51,14 @@ module _ (bs tab : List ℕ) (f : Formed bs tab) (v : ℕ) where
       no-input = kind-is ∙ other-kind k n few
 
       ordered : variable (sheetOf bs) v .start ≤ variable (sheetOf bs) v .end
-      ordered = let b = f .placed .body v lt no-input in omega (arith, at-long (varsOf bs) bs (variable (sheetOf bs) v .body) (variable (sheetOf bs) v .start) (variable (sheetOf bs) v .end) (b .at))
+      ordered =
+          let b = f .placed .body v lt no-input in omega
+          (arith, at-long (varsOf bs) bs (variable (sheetOf bs) v .body) (variable (sheetOf bs) v .start) (variable (sheetOf bs) v .end) (b .at))
 
       inside : variable (sheetOf bs) v .end ≤ length bs
-      inside = let b = f .placed .body v lt no-input in at-there (varsOf bs) bs (variable (sheetOf bs) v .body) (variable (sheetOf bs) v .start) (variable (sheetOf bs) v .end) (b .at)
+      inside =
+          let b = f .placed .body v lt no-input in at-there (varsOf bs) bs (variable (sheetOf bs) v .body) (variable (sheetOf bs) v .start)
+          (variable (sheetOf bs) v .end) (b .at)
 
       start-is : getD tab (69 + v) 0 ≡ variable (sheetOf bs) v .start
       start-is = f .placed .starts v lt
@@ -65,7 +69,8 @@ module _ (bs tab : List ℕ) (f : Formed bs tab) (v : ℕ) where
       pub places-ordered : getD tab (69 + v) 0 ≤ getD tab (69 + (v + 1)) 0
       places-ordered = omega (arith, start-is, end-is, ordered)
 
-      pub body-part : (p : Part) → p .start ≡ getD tab (69 + v) 0 → p .len ≡ getD tab (69 + (v + 1)) 0 - getD tab (69 + v) 0 → IsPart bs (partOf (sheetOf bs) v) p
+      pub body-part : (p : Part) → p .start ≡ getD tab (69 + v) 0 → p .len ≡ getD tab (69 + (v + 1)) 0 - getD tab (69 + v) 0 →
+          IsPart bs (partOf (sheetOf bs) v) p
       body-part p a b =
           let len : p .len ≡ variable (sheetOf bs) v .end - variable (sheetOf bs) v .start = omega (arith, b, start-is, end-is) in
           record {

@@ -62,7 +62,8 @@ module _ (bs tab : List ℕ) (f : Formed bs tab) where
       let same : n ≡ Record.points (headsOf bs) = cc in
       same ∙ ap Record.points (sym heads) ∙ points-total (sheetOf bs)
 
-  pub total-told : (n : ℕ) → accepted n ≡ readAnswer bs → accepted tt ≡ faults (sheetOf bs) 0 (elements (sheetOf bs)) → accepted n ≡ totalOf (check bs)
+  pub total-told : (n : ℕ) → accepted n ≡ readAnswer bs → accepted tt ≡ faults (sheetOf bs) 0 (elements (sheetOf bs)) →
+      accepted n ≡ totalOf (check bs)
   total-told n e g = ap accepted (total-is n e) ∙ sym (ap totalOf (all-pass g))
 
 -- ---- what a refusal and an acceptance leave

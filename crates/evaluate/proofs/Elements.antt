@@ -22,6 +22,7 @@ use Rattle.alpha.specs.Check.{Element, elements, total}
 use Rattle.alpha.specs.Outcome.{Outcome, outside, value, divzero, overflow, loop, eval, outcome}
 use Rattle.alpha.specs.Ask.{numberOf}
 use Rattle.laws.specs.At.{At}
+use Rattle.laws.specs.Coded.{decoded}
 use Rattle.laws.specs.Sheets.{headsOf, varsOf, sheetOf}
 use Rattle.laws.proofs.Boxes.{index-low, pointAt-index}
 use Rattle.laws.proofs.Elements.{number-low, element-of-number}
@@ -43,7 +44,7 @@ use Rattle.domain.proofs.Bodying.{body-walk}
 use Rattle.evaluate.specs.declared.Work.{Work}
 use Rattle.evaluate.specs.declared.Work.the-variants.{Outside, Value, DivZero, Overflow, Loop, Deep}
 use Rattle.evaluate.specs.declared.Worked.{Worked}
-use Rattle.evaluate.specs.Memo.{busy, unknown, Thing, element, Memo, codeAt, valueAt, decoded, count, Right, Waits, Says, Said, Kept, Wanted, Small, noted, codeOf, valueOf}
+use Rattle.evaluate.specs.Memo.{busy, unknown, Thing, element, Memo, codeAt, valueAt, count, Right, Waits, Says, Said, Kept, Wanted, Small, noted, codeOf, valueOf}
 use Rattle.evaluate.specs.Working.{entryOf, elementAt, outcomes, expression, Bodied, Ready, Done, ElementIs, Evaluated, EvaluatesAt}
 use Rattle.evaluate.specs.Settling.{bodyOf}
 use Rattle.evaluate.proofs.Stores.{decide, code-same, code-other, kept-same, kept-stored, still-busy, in-last, wanted-stored, sized-noted, sized-kept, busy-loops, right-mark, waits-mark, said-stored}

@@ -10,10 +10,11 @@ use lib.Seq.{getD-set-same, getD-set-other}
 use lib.IntN.{ℤ, pos}
 use Rattle.alpha.specs.Outcome.{Outcome, outside, value, divzero, overflow, loop}
 use Rattle.laws.specs.Under.{Under}
+use Rattle.laws.specs.Coded.{decoded}
 use Rattle.laws.proofs.Growth.{under-loop}
 use Rattle.evaluate.specs.declared.Work.{Work}
 use Rattle.evaluate.specs.declared.Work.the-variants.{Outside, Value, DivZero, Overflow, Loop, Deep}
-use Rattle.evaluate.specs.Memo.{busy, unknown, Thing, Elements, Grows, element, Memo, codeAt, valueAt, decoded, sum, settledOne, busyOne, toDo, count}
+use Rattle.evaluate.specs.Memo.{busy, unknown, Thing, Elements, Grows, element, Memo, codeAt, valueAt, sum, settledOne, busyOne, toDo, count}
 use Rattle.evaluate.specs.Memo.{Sized, Right, Waits, Says, Said, Kept, Wanted, noted, codeOf, valueOf}
 
 pub decide {ℓ} : {X : Type ℓ} (m e : ℕ) → Dec (m ≡ e) → (m ≡ e → X) → (¬ (m ≡ e) → X) → X

@@ -2,13 +2,13 @@
 -- an element in progress, 6 an unknown one. `out k m` is the outcome of element m at depth k; a thing that is worked out is its outcome
 -- by depth. Assumes nothing.
 use mathlib.Core.Path.{_≡_}
-use Prim.Native.Nat.{ℕ, zero, suc, _+_, _≤_, _<_}
-use mathlib.Core.Bool.{Bool, true, false}
+use Prim.Native.Nat.{ℕ, suc, _+_, _≤_, _<_}
 use mathlib.Core.List.{List, [], _∷_}
 use lib.ListN.{length, getD, set}
 use lib.IntN.{ℤ, pos}
 use Rattle.alpha.specs.Outcome.{Outcome, outside, value, divzero, overflow, loop}
 use Rattle.laws.specs.Under.{Under}
+use Rattle.laws.specs.Coded.{decoded}
 use Rattle.integer.specs.Range.{In32}
 use Rattle.evaluate.specs.declared.Work.{Work}
 use Rattle.evaluate.specs.declared.Work.the-variants.{Outside, Value, DivZero, Overflow, Loop, Deep}
@@ -43,10 +43,6 @@ codeAt memo m = getD (memo .codes) m 0
 
 abbrev pub valueAt : Memo → ℕ → ℤ
 valueAt memo m = getD (memo .values) m (pos 0)
-
--- the outcome with a code up to 3, and a value
-abbrev pub decoded : ℕ → ℤ → Outcome
-decoded c x = getD (outside ∷ value x ∷ divzero ∷ overflow ∷ []) c loop
 
 -- ---- how many entries of a kind there are: each code counts as w says
 unfoldable pub sum : (ℕ → ℕ) → List ℕ → ℕ

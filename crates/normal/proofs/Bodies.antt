@@ -40,7 +40,8 @@ use Rattle.normal.specs.declared.Taken.{Taken}
 use Rattle.normal.specs.Count.{countOf, sumOf}
 use Rattle.normal.specs.Part.{Part, beside, own, partOf, chosenOf}
 use Rattle.normal.specs.Followed.{advance, laid, roomOf, Carried, Route, Wrote, Follows}
-use Rattle.normal.specs.Body.{written, takenBy, nothing, both, total, branchesIn, branchIn, BodyAt, IsBody, TakesBranch, TakesFrom, StoresBranch, RoomFor, RoomFrom, StoresFrom}
+use Rattle.normal.specs.Body.{written, takenBy, nothing, both, total, branchesIn, branchIn, BodyAt, IsBody, TakesBranch, TakesFrom}
+use Rattle.normal.specs.Body.{StoresBranch, RoomFor, RoomFrom, StoresFrom}
 use Rattle.normal.proofs.Numbered.{count-is}
 use Rattle.normal.proofs.Composing.{branch-first}
 use Rattle.normal.proofs.Branched.{treePart, givenPart, Branched, branched}
@@ -63,7 +64,8 @@ module _ (m : Sheet.Map) (few : m .cols ≤ 4) (high : length (m .rows) ≤ 4) (
         mul-le-mul-right (8 * m .cols + 8) high,
       )
 
-  own-short : (t : Bool) (nd : Node) (l : ℕ) → ((d : ℕ) (cs : List Constraint) → nd ≡ nRestr d cs → length cs ≤ 64) → length (own t nd m l .out) ≤ 3104
+  own-short : (t : Bool) (nd : Node) (l : ℕ) → ((d : ℕ) (cs : List Constraint) → nd ≡ nRestr d cs → length cs ≤ 64) →
+      length (own t nd m l .out) ≤ 3104
   unfolding bytes
   own-short true (nVar v) l c = leaf-short (nat 0) (nat v) (length-nat 0) (length-nat v)
   own-short true (nInt x) l c = leaf-short (nat 1) (Rattle.alpha.specs.Field.num x) (length-nat 1) (length-num x)
@@ -107,7 +109,8 @@ module _ (vars : ℕ) where
   mutual
     unfolding partOf nodeCount Writable
 
-    pub part-short : (t : Bool) (e : Expr) (m : Sheet.Map) (l b : ℕ) → Writable e vars → m .cols ≤ 4 → length (m .rows) ≤ 4 → RowsWide (m .cols) (m .rows) →
+    pub part-short : (t : Bool) (e : Expr) (m : Sheet.Map) (l b : ℕ) → Writable e vars → m .cols ≤ 4 → length (m .rows) ≤ 4 →
+        RowsWide (m .cols) (m .rows) →
         length (partOf t e m l b .out) ≤ 3104 * nodeCount e
     part-short t (var v) m l b w f h r = omega (arith, own-short m f h r t (nVar v) l (no-restr (nVar v) (omega arith)))
     part-short t (int c) m l b w f h r = omega (arith, own-short m f h r t (nInt c) l (no-restr (nInt c) (omega arith)))
@@ -115,7 +118,8 @@ module _ (vars : ℕ) where
     part-short t (un o a) m l b w f h r =
         omega (
           arith,
-          two-short (own t (nUnary o) m l) (partOf t a m (l + 1) b) 3104 (3104 * nodeCount a) (own-short m f h r t (nUnary o) l (no-restr (nUnary o) (omega arith)))
+          two-short (own t (nUnary o) m l) (partOf t a m (l + 1) b) 3104 (3104 * nodeCount a)
+              (own-short m f h r t (nUnary o) l (no-restr (nUnary o) (omega arith)))
               (part-short t a m (l + 1) b w f h r),
         )
     part-short t (bin o x y) m l b w f h r =
@@ -137,9 +141,11 @@ module _ (vars : ℕ) where
           arith,
           two-short (own t nIf m l) (beside (partOf t x m (l + 1) i) (beside (partOf t y m (l + 1) j) (partOf t z m (l + 1) k))) 3104
               (3104 * nodeCount x + (3104 * nodeCount y + 3104 * nodeCount z)) (own-short m f h r t nIf l (no-restr nIf (omega arith)))
-              (two-short (partOf t x m (l + 1) i) (beside (partOf t y m (l + 1) j) (partOf t z m (l + 1) k)) (3104 * nodeCount x) (3104 * nodeCount y + 3104 * nodeCount z)
+              (two-short (partOf t x m (l + 1) i) (beside (partOf t y m (l + 1) j) (partOf t z m (l + 1) k)) (3104 * nodeCount x)
+              (3104 * nodeCount y + 3104 * nodeCount z)
               (part-short t x m (l + 1) i (w .0) f h r)
-              (two-short (partOf t y m (l + 1) j) (partOf t z m (l + 1) k) (3104 * nodeCount y) (3104 * nodeCount z) (part-short t y m (l + 1) j (w .1) f h r)
+              (two-short (partOf t y m (l + 1) j) (partOf t z m (l + 1) k) (3104 * nodeCount y) (3104 * nodeCount z)
+              (part-short t y m (l + 1) j (w .1) f h r)
               (part-short t z m (l + 1) k (w .2) f h r))),
         )
     part-short t (kase es) m l b w f h r = omega (arith, chosen-short t es m l b (w .2) f h r)
@@ -150,7 +156,11 @@ module _ (vars : ℕ) where
               (own-short m f h r t (nRestr i cs) l (λ j ds e. restr-given cs 64 (w .1) j ds i e)) (part-short t a m l b (w .3) f h r),
         )
     part-short t (dep g a) m l b w f h r =
-        omega (arith, part-short t a (mapAfter m g) l b (w .3) f (omega (arith, length-map (g .rows) (rowAfter m), w .1)) (rows-after-wide m (g .rows) r))
+        omega (
+          arith,
+          part-short t a (mapAfter m g) l b (w .3) f (omega (arith, length-map (g .rows) (rowAfter m), w .1))
+              (rows-after-wide m (g .rows) r),
+        )
 
     chosen-short : (t : Bool) (es : Exprs) (m : Sheet.Map) (l b : ℕ) → AllWritable es vars → m .cols ≤ 4 → length (m .rows) ≤ 4 →
         RowsWide (m .cols) (m .rows) → length (chosenOf t es m l b .out) ≤ 3104 * nodeCounts es
@@ -158,7 +168,8 @@ module _ (vars : ℕ) where
     chosen-short t (more e es) m l b w f h r =
         go (ltb b (countOf e)) (part-short t e m l b (w .0) f h r) (chosen-short t es m l (b - countOf e) (w .1) f h r)
       where
-        go : (s : Bool) → length (partOf t e m l b .out) ≤ 3104 * nodeCount e → length (chosenOf t es m l (b - countOf e) .out) ≤ 3104 * nodeCounts es →
+        go : (s : Bool) → length (partOf t e m l b .out) ≤ 3104 * nodeCount e →
+            length (chosenOf t es m l (b - countOf e) .out) ≤ 3104 * nodeCounts es →
             length (ifb s (λ _. partOf t e m l b) (λ _. chosenOf t es m l (b - countOf e)) .out) ≤ 3104 * (nodeCount e + nodeCounts es)
         go true x y = omega arith
         go false x y = omega arith
@@ -191,9 +202,12 @@ module _ (bs : List ℕ) (p n many : ℕ) (e : Expr) (h : IsBody bs p n many e) 
   unfolding x hs
   same-branch =
       let d : Branch = record { given = []; term = kase none } in
-      let form = all-at HasForm (branchesIn bs e) b d (norm-all (dimension hs) (λ _ c. HasForm c) (λ _ c. HasForm c) (form-rules (dimension hs)) e) listed in
+      let form =
+      all-at HasForm (branchesIn bs e) b d (norm-all (dimension hs) (λ _ c. HasForm c) (λ _ c. HasForm c) (form-rules (dimension hs)) e) listed in
       let fit = all-at (FitsToo hs e) (branchesIn bs e) b d (norm-all (dimension hs) (FitsToo hs) (AllFitToo hs) (fits-rules hs) e) listed in
-      let widths = all-at (WideToo hs e) (branchesIn bs e) b d (norm-all (dimension hs) (WideToo hs) (AllWideToo hs) (wide-rules hs) e) listed wide n (h .fitting) in
+      let widths =
+      all-at (WideToo hs e) (branchesIn bs e) b d (norm-all (dimension hs) (WideToo hs) (AllWideToo hs) (wide-rules hs) e) listed wide n
+      (h .fitting) in
       branch-first n hs (branchIn bs e b) form (fit n (h .fitting)) (widths .given-wide) (widths .term-wide)
 
   rows-long-are : length (identity n .rows) ≡ n
@@ -236,9 +250,12 @@ module _ (bs : List ℕ) (p n many : ℕ) (h : BodyAt bs p n many) where
   pub stored-long : (b to : ℕ) (l d : List ℕ) (r : ℕ) → StoresBranch bs p n many b to l d r → length d ≡ length l
   stored-long b to l d r stored = ap length (stored (h .tree) is-body .0) ∙ length-sets l to (bytes (written n (branchIn bs (h .tree) b)))
 
-  pub room-there : (b : ℕ) → b < many → (l : List ℕ) (to : ℕ) → RoomFor bs p n many b to (min (2 ^ 40) (length l)) → (to + 24 ≤ 2 ^ 40) × (to + 24 ≤ length l)
-  room-there b lt l to room =
-      (omega (arith, room (h .tree) is-body, written-long n (branchIn bs (h .tree) b)), omega (arith, room (h .tree) is-body, written-long n (branchIn bs (h .tree) b)))
+  pub room-there : (b : ℕ) → b < many → (l : List ℕ) (to : ℕ) → RoomFor bs p n many b to (min (2 ^ 40) (length l)) →
+      (to + 24 ≤ 2 ^ 40) × (to + 24 ≤ length l)
+  room-there b lt l to room = (
+    omega (arith, room (h .tree) is-body, written-long n (branchIn bs (h .tree) b)),
+    omega (arith, room (h .tree) is-body, written-long n (branchIn bs (h .tree) b)),
+  )
 
   module _ (m : Map) (is : mapOf m ≡ identity n) (neat : Neat m) (high : m .height ≡ n) (b : ℕ) (lt : b < many) where
     pub start-route : (t : Bool) (to room : ℕ) → to + length (partOf t (h .tree) (identity n) 0 b .out) ≤ room → Route bs p 2048 m b t 0 to room
@@ -275,7 +292,8 @@ module _ (bs : List ℕ) (p n many : ℕ) (h : BodyAt bs p n many) where
 
     -- ---- a branch measured
 
-    module _ (none none′ none″ : List ℕ) (given term : Pen) (first : Follows bs p m b false 0 true (record { to = 0; things = 0; deep = 0 }) none none′ given)
+    module _ (none none′ none″ : List ℕ) (given term : Pen)
+        (first : Follows bs p m b false 0 true (record { to = 0; things = 0; deep = 0 }) none none′ given)
         (second : Follows bs p m b true 0 true (record { to = 0; things = 0; deep = 0 }) none′ none″ term) where
       given-pen : (e : Expr) → IsBody bs p n many e → given ≡ advance (record { to = 0; things = 0; deep = 0 }) (givenPart (branchIn bs e b .given))
       given-pen e i =
@@ -300,7 +318,8 @@ module _ (bs : List ℕ) (p n many : ℕ) (h : BodyAt bs p n many) where
           let few = Rattle.normal.proofs.Parts.part-things true e (mapOf m) 0 b in
           (omega (arith, short false), omega (arith, short true), omega arith)
 
-      pub measured : TakesBranch bs p n many b (record { nodes = term .things + 1; bytes = 24 + given .to + term .to; limits = given .things; deep = term .deep })
+      pub measured : TakesBranch bs p n many b
+          (record { nodes = term .things + 1; bytes = 24 + given .to + term .to; limits = given .things; deep = term .deep })
       unfolding nodeCount depth
       measured = record {
         few-bytes = omega (arith, measured-low);
@@ -320,7 +339,8 @@ module _ (bs : List ℕ) (p n many : ℕ) (h : BodyAt bs p n many) where
     -- ---- a branch stored
 
     module _ (l : List ℕ) (to : ℕ) (room : RoomFor bs p n many b to (min (2 ^ 40) (length l))) where
-      tree-room : to + 24 + length (partOf false (h .tree) (identity n) 0 b .out) + length (partOf true (h .tree) (identity n) 0 b .out) ≤ min (2 ^ 40) (length l)
+      tree-room : to + 24 + length (partOf false (h .tree) (identity n) 0 b .out) + length (partOf true (h .tree) (identity n) 0 b .out)
+          ≤ min (2 ^ 40) (length l)
       tree-room =
           let x = branchIn bs (h .tree) b in
           omega (
@@ -346,7 +366,8 @@ module _ (bs : List ℕ) (p n many : ℕ) (h : BodyAt bs p n many) where
               let long = ap length (given-wrote .out-is) ∙ length-sets a (to + 24) (partOf false (h .tree) (mapOf m) 0 b .out) in
               start-route true (given .to) (roomOf false c) (omega (arith, tree-room))
 
-          pub branch-stored : (taken : Taken) (d : List ℕ) (term : Pen) → TakesBranch bs p n many b taken → a ≡ sets l to (nat 7 ++ nat n ++ nat (taken .limits)) →
+          pub branch-stored : (taken : Taken) (d : List ℕ) (term : Pen) → TakesBranch bs p n many b taken →
+              a ≡ sets l to (nat 7 ++ nat n ++ nat (taken .limits)) →
               Follows bs p m b true 0 false (record { to = given .to; things = 0; deep = 0 }) c d term → StoresBranch bs p n many b to l d (term .to)
           unfolding bytes
           branch-stored taken d term took head second e i =
@@ -365,7 +386,8 @@ module _ (bs : List ℕ) (p n many : ℕ) (h : BodyAt bs p n many) where
               let mid : c ≡ sets a (to + 24) cs = g .out-is ∙ ap (λ y. sets a (to + 24) (y .out)) gp in
               let front-cs = sets-after l to 24 front cs (three-long 7 n (length (x .given))) head-is mid in
               let next : given .to ≡ to + (24 + length cs) = omega arith in
-              let last : d ≡ sets c (to + (24 + length cs)) (bytes (x .term)) = t .out-is ∙ ap (λ y. sets c (given .to) (y .out)) tp ∙ ap (λ k. sets c k (bytes (x .term))) next in
+              let last : d ≡ sets c (to + (24 + length cs)) (bytes (x .term)) =
+              t .out-is ∙ ap (λ y. sets c (given .to) (y .out)) tp ∙ ap (λ k. sets c k (bytes (x .term))) next in
               let front-long : length (front ++ cs) ≡ 24 + length cs = length-append front cs ∙ omega (arith, three-long 7 n (length (x .given))) in (
                 sets-after l to (24 + length cs) (front ++ cs) (bytes (x .term)) front-long front-cs last,
                 omega (arith, written-long n x),
@@ -374,7 +396,8 @@ module _ (bs : List ℕ) (p n many : ℕ) (h : BodyAt bs p n many) where
 -- ---- one branch after another
 
 -- the first of those from number b on
-split-branches : (bs : List ℕ) (p n many b : ℕ) (e : Expr) → IsBody bs p n many e → b < many → drop b (branchesIn bs e) ≡ branchIn bs e b ∷ drop (b + 1) (branchesIn bs e)
+split-branches : (bs : List ℕ) (p n many b : ℕ) (e : Expr) → IsBody bs p n many e → b < many →
+    drop b (branchesIn bs e) ≡ branchIn bs e b ∷ drop (b + 1) (branchesIn bs e)
 split-branches bs p n many b e i lt =
     let listed : b < length (branchesIn bs e) = omega (arith, i .count, count-is (dimension (headsOf bs)) e) in
     let step : suc b ≡ b + 1 = omega arith in
@@ -388,10 +411,13 @@ module _ (bs : List ℕ) (p n many b : ℕ) where
   measure-none sofar le low bytes-low nodes-low = record {
     few-bytes = omega (arith, mul-le-mul-right (2 ^ 24) low);
     few-nodes = omega (arith, mul-le-mul-right (2 ^ 24) low);
-    is = λ e i. taken-same (omega arith) (omega arith) (omega arith) (omega arith) ∙ ap (λ l. both sofar (total n l)) (sym (no-branches bs p n many b e i le));
+    is =
+        λ e i. taken-same (omega arith) (omega arith) (omega arith) (omega arith)
+        ∙ ap (λ l. both sofar (total n l)) (sym (no-branches bs p n many b e i le));
   }
 
-  pub measure-more : (sofar taken next r : Taken) → b < many → TakesBranch bs p n many b taken → next ≡ both sofar taken → TakesFrom bs p n many (b + 1) next r → TakesFrom bs p n many b sofar r
+  pub measure-more : (sofar taken next r : Taken) → b < many → TakesBranch bs p n many b taken → next ≡ both sofar taken →
+      TakesFrom bs p n many (b + 1) next r → TakesFrom bs p n many b sofar r
   measure-more sofar taken next r lt took is rest = record {
     few-bytes = rest .few-bytes;
     few-nodes = rest .few-nodes;
@@ -411,12 +437,14 @@ module _ (bs : List ℕ) (p n many b : ℕ) where
 
     module _ (lt : b < many) where
       cut : (e : Expr) → IsBody bs p n many e →
-          allBytes (asExprs n (drop b (branchesIn bs e))) ≡ bytes (written n (branchIn bs e b)) ++ allBytes (asExprs n (drop (b + 1) (branchesIn bs e)))
+          allBytes (asExprs n (drop b (branchesIn bs e))) ≡ bytes (written n (branchIn bs e b))
+          ++ allBytes (asExprs n (drop (b + 1) (branchesIn bs e)))
       unfolding bytes
       cut e i = ap (λ x. allBytes (asExprs n x)) (split-branches bs p n many b e i lt)
 
       long : (e : Expr) → IsBody bs p n many e →
-          length (allBytes (asExprs n (drop b (branchesIn bs e)))) ≡ length (bytes (written n (branchIn bs e b))) + length (allBytes (asExprs n (drop (b + 1) (branchesIn bs e))))
+          length (allBytes (asExprs n (drop b (branchesIn bs e))))
+          ≡ length (bytes (written n (branchIn bs e b))) + length (allBytes (asExprs n (drop (b + 1) (branchesIn bs e))))
       long e i = ap length (cut e i) ∙ length-append (bytes (written n (branchIn bs e b))) (allBytes (asExprs n (drop (b + 1) (branchesIn bs e))))
 
       pub first-room : (room : ℕ) → RoomFrom bs p n many b to room → RoomFor bs p n many b to room
@@ -428,11 +456,13 @@ module _ (bs : List ℕ) (p n many b : ℕ) where
             let same = ap length (stored e i .0) ∙ length-sets l to (bytes (written n (branchIn bs e b))) in
             omega (arith, h e i, long e i, stored e i .1)
 
-      pub store-more : (next r : ℕ) (a d : List ℕ) → StoresBranch bs p n many b to l a next → StoresFrom bs p n many (b + 1) next a d r → StoresFrom bs p n many b to l d r
+      pub store-more : (next r : ℕ) (a d : List ℕ) → StoresBranch bs p n many b to l a next → StoresFrom bs p n many (b + 1) next a d r →
+          StoresFrom bs p n many b to l d r
       store-more next r a d stored rest e i =
           let first = bytes (written n (branchIn bs e b)) in
           let others = allBytes (asExprs n (drop (b + 1) (branchesIn bs e))) in
           let at = stored e i .1 in (
-            sets-after l to (length first) first others refl (stored e i .0) (rest e i .0 ∙ ap (λ k. sets a k others) at) ∙ ap (sets l to) (sym (cut e i)),
+            sets-after l to (length first) first others refl (stored e i .0) (rest e i .0 ∙ ap (λ k. sets a k others) at)
+                ∙ ap (sets l to) (sym (cut e i)),
             omega (arith, rest e i .1, at, long e i),
           )

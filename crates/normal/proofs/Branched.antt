@@ -55,7 +55,8 @@ binary-tree : (head : List ℕ) (x y z : Expr) (l : ℕ) → bytes z ≡ head ++
     depth z ≡ suc (max (depth x) (depth y)) → beside (operator head) (beside (treePart x (l + 1)) (treePart y (l + 1))) ≡ treePart z l
 binary-tree head x y z l a b c = part-same (sym (append-assoc head (bytes x) (bytes y)) ∙ sym a) (omega arith) (omega arith)
 
-if-tree : (head : List ℕ) (w x y z : Expr) (l : ℕ) → bytes z ≡ head ++ bytes w ++ bytes x ++ bytes y → nodeCount z ≡ suc (nodeCount w + nodeCount x + nodeCount y) →
+if-tree : (head : List ℕ) (w x y z : Expr) (l : ℕ) → bytes z ≡ head ++ bytes w ++ bytes x ++ bytes y →
+    nodeCount z ≡ suc (nodeCount w + nodeCount x + nodeCount y) →
     depth z ≡ suc (max (depth w) (max (depth x) (depth y))) →
     beside (operator head) (beside (treePart w (l + 1)) (beside (treePart x (l + 1)) (treePart y (l + 1)))) ≡ treePart z l
 if-tree head w x y z l a b c =
@@ -74,7 +75,8 @@ map-append f (x ∷ xs) ys = ap (λ t. f x ∷ t) (map-append f xs ys)
 
 pub given-beside : (xs ys : List Constraint) → beside (givenPart xs) (givenPart ys) ≡ givenPart (xs ++ ys)
 given-beside xs ys =
-    part-same (sym (ap flat (map-append constraintBytes xs ys) ∙ flat-append (map constraintBytes xs) (map constraintBytes ys))) (sym (length-append xs ys)) (omega arith)
+    part-same (sym (ap flat (map-append constraintBytes xs ys) ∙ flat-append (map constraintBytes xs) (map constraintBytes ys)))
+    (sym (length-append xs ys)) (omega arith)
 
 -- no constraints of its own
 none-given : (p : Part) → beside (givenPart []) p ≡ p
@@ -95,7 +97,8 @@ record Chosen (es : Exprs) (m : Map) (l b : ℕ) (x : Branch) : Type 0 where
   given-is : chosenOf false es m l b ≡ givenPart (map (constraintAfter m) (x .given))
 
 -- a leaf, whose identity after m is m
-leaf-branched : (e : Expr) (m : Map) (l b d : ℕ) → d ≡ length (m .rows) → RowsWide (m .cols) (m .rows) → partOf true e m l b ≡ leaf m e l → partOf false e m l b ≡ givenPart [] →
+leaf-branched : (e : Expr) (m : Map) (l b d : ℕ) → d ≡ length (m .rows) → RowsWide (m .cols) (m .rows) → partOf true e m l b ≡ leaf m e l →
+    partOf false e m l b ≡ givenPart [] →
     nodeCount e ≡ 1 → depth e ≡ 1 → Branched e m l b (record { given = []; term = dep (identity d) e })
 unfolding push
 leaf-branched e m l b d is wide p q n k = record {
@@ -130,7 +133,8 @@ module _ (m : Map) (l b : ℕ) where
       }
 
   ite-branched : (p q r : Expr) (x y z : Branch) → let n = countOf q * countOf r in
-      Branched p m (l + 1) (b / n) x → Branched q m (l + 1) (b % n / countOf r) y → Branched r m (l + 1) (b % n % countOf r) z → Branched (ite p q r) m l b (joined3 ite x y z)
+      Branched p m (l + 1) (b / n) x → Branched q m (l + 1) (b % n / countOf r) y → Branched r m (l + 1) (b % n % countOf r) z →
+      Branched (ite p q r) m l b (joined3 ite x y z)
   unfolding partOf push bytes nodeCount depth
   ite-branched p q r x y z h g k =
       let t = push (x .term) m in
@@ -140,11 +144,14 @@ module _ (m : Map) (l b : ℕ) where
       let ds = map (constraintAfter m) (y .given) in
       let es = map (constraintAfter m) (z .given) in
       record {
-        tree-is = ap₂ (λ a c. beside (operator (nat 5)) (beside a c)) (h .tree-is) (ap₂ beside (g .tree-is) (k .tree-is)) ∙ if-tree (nat 5) t u v (ite t u v) l refl refl refl;
+        tree-is =
+            ap₂ (λ a c. beside (operator (nat 5)) (beside a c)) (h .tree-is) (ap₂ beside (g .tree-is) (k .tree-is))
+            ∙ if-tree (nat 5) t u v (ite t u v) l refl refl refl;
         given-is = ap₂ (λ a c. beside (givenPart []) (beside a c)) (h .given-is) (ap₂ beside (g .given-is) (k .given-is))
             ∙ none-given (beside (givenPart cs) (beside (givenPart ds) (givenPart es)))
             ∙ ap (beside (givenPart cs)) (given-beside ds es ∙ ap givenPart (sym (map-append (constraintAfter m) (y .given) (z .given))))
-            ∙ given-beside cs (map (constraintAfter m) (y .given ++ z .given)) ∙ ap givenPart (sym (map-append (constraintAfter m) (x .given) (y .given ++ z .given)));
+            ∙ given-beside cs (map (constraintAfter m) (y .given ++ z .given))
+            ∙ ap givenPart (sym (map-append (constraintAfter m) (x .given) (y .given ++ z .given)));
       }
 
   restr-branched : (d : ℕ) (cs : List Constraint) (a : Expr) (x : Branch) → Branched a m l b x → Branched (restr d cs a) m l b (restrict cs x)
@@ -220,7 +227,8 @@ module _ (hs : List Head) where
         let low2 = operand-low (countOf y) (countOf z) (b % k) (low .1) in
         let g = &&-left (fits x hs n && fits y hs n) (fits z hs n) f in
         subst (Branched (ite x y z) m l b) (sym (ite-at dims x y z b h))
-        (ite-branched m l b x y z (branchAt (norm x dims) (b / k)) (branchAt (norm y dims) (b % k / countOf z)) (branchAt (norm z dims) (b % k % countOf z))
+        (ite-branched m l b x y z (branchAt (norm x dims) (b / k)) (branchAt (norm y dims) (b % k / countOf z))
+        (branchAt (norm z dims) (b % k % countOf z))
         (branched x m (l + 1) (b / k) (w .0) r (&&-left (fits x hs n) (fits y hs n) g) (low .0))
         (branched y m (l + 1) (b % k / countOf z) (w .1) r (&&-right (fits x hs n) (fits y hs n) g) (low2 .0))
         (branched z m (l + 1) (b % k % countOf z) (w .2) r (&&-right (fits x hs n && fits y hs n) (fits z hs n) f) (low2 .1)))

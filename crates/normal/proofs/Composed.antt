@@ -41,7 +41,8 @@ map-wide m = several-wide (m .width) (m .height) (line m)
 pub map-high : (m : Map) → length (mapOf m .rows) ≡ m .height
 map-high m = length-several (m .height) (λ i. rowOf (m .width) (line m i))
 
-pub map-laid : (l : List ℕ) (to : ℕ) (m : Map) {a b c d : List ℕ} → a ≡ sets l to (nat 8) → b ≡ sets a (to + 8) (nat (m .width)) → c ≡ sets b (to + 16) (nat (m .height)) →
+pub map-laid : (l : List ℕ) (to : ℕ) (m : Map) {a b c d : List ℕ} → a ≡ sets l to (nat 8) → b ≡ sets a (to + 8) (nat (m .width)) →
+    c ≡ sets b (to + 16) (nat (m .height)) →
     d ≡ sets c (to + 24) (flat (map rowBytes (mapOf m .rows))) → d ≡ sets l to (mapBytes (mapOf m))
 map-laid l to m first second third rows =
     let w = nat (m .width) in
@@ -75,7 +76,8 @@ module _ (bs : List ℕ) (p n : ℕ) (m : Map) (h : Composable bs p n m) (neat :
       (after ∙ ap (rowAfter (mapOf m)) (ap (λ i. rowOf i w) (sym high) ∙ read .0))
 
   -- the relation k is stored, then the row r
-  pub constraint-laid : (l : List ℕ) (to k : ℕ) (r : Row) {a b : List ℕ} → k ≡ natAbs (field bs p) → rowOf (m .width) r ≡ rowAfter (mapOf m) (rowOf (m .height) w) →
+  pub constraint-laid : (l : List ℕ) (to k : ℕ) (r : Row) {a b : List ℕ} → k ≡ natAbs (field bs p) →
+      rowOf (m .width) r ≡ rowAfter (mapOf m) (rowOf (m .height) w) →
       a ≡ sets l to (nat k) → b ≡ sets a (to + 8) (rowBytes (rowOf (m .width) r)) →
       b ≡ sets l to (constraintBytes (constraintAfter (mapOf m) (constraintFields n bs p)))
   constraint-laid l to k r is after first second =
@@ -110,7 +112,8 @@ module _ (bs : List ℕ) (p n : ℕ) (m : Map) where
     first-limit j e = ap (λ i. limitBytes m i n bs p) e
 
     -- the first is stored, and then the others
-    pub limits-again : (out : List ℕ) (to : ℕ) {out′ : List ℕ} → out′ ≡ sets out to (constraintBytes (constraintAfter (mapOf m) (constraintFields n bs p))) →
+    pub limits-again : (out : List ℕ) (to : ℕ) {out′ : List ℕ} →
+        out′ ≡ sets out to (constraintBytes (constraintAfter (mapOf m) (constraintFields n bs p))) →
         sets out′ (to + (16 + 8 * m .width)) (limitBytes m (k - 1) n bs (p + (16 + 8 * n))) ≡ sets out to (limitBytes m k n bs p)
     limits-again out to is =
         let c = constraintBytes (constraintAfter (mapOf m) (constraintFields n bs p)) in

@@ -78,7 +78,8 @@ plus-nought n = row-same (add-zeroes n (zeroes n) (length-zeroes n)) refl
 times-nought : (c : ℤ) (n : ℕ) → times c (nought n) ≡ nought n
 times-nought c n = row-same (scale-zeroes c n) (*ℤ-zero c)
 
-combine-add : (xs ys : List ℤ) (rs : List Row) (n : ℕ) → length xs ≡ length ys → combine (addAll xs ys) rs n ≡ plus (combine xs rs n) (combine ys rs n)
+combine-add : (xs ys : List ℤ) (rs : List Row) (n : ℕ) → length xs ≡ length ys →
+    combine (addAll xs ys) rs n ≡ plus (combine xs rs n) (combine ys rs n)
 combine-add [] [] rs n e = sym (plus-nought n)
 combine-add [] (y ∷ ys) rs n e = absurd (omega arith)
 combine-add (x ∷ xs) [] rs n e = absurd (omega arith)
@@ -121,7 +122,9 @@ module _ (m : Map) (wide : RowsWide (m .cols) (m .rows)) where
       let v = combine (c .coefs) (m .rows) (m .cols) in
       let rest = combine-twice ws gs k (h .1) in
       let long : length (scale w (g .coefs)) ≡ length (c .coefs) = length-scale w (g .coefs) ∙ h .0 ∙ sym (combine-wide ws gs k (h .1)) in
-      let both = combine-add (scale w (g .coefs)) (c .coefs) (m .rows) (m .cols) long ∙ ap (λ x. plus x v) (combine-scale w (g .coefs) (m .rows) (m .cols)) in
+      let both =
+      combine-add (scale w (g .coefs)) (c .coefs) (m .rows) (m .cols) long
+      ∙ ap (λ x. plus x v) (combine-scale w (g .coefs) (m .rows) (m .cols)) in
       row-same
       (ap (λ r. addAll (scale w (u .coefs)) (r .coefs)) rest ∙ ap (λ r. r .coefs) (sym both))
       (ap (λ r. w *ℤ (u .const +ℤ g .const) +ℤ r .const) rest ∙ ap (λ x. x +ℤ (v .const +ℤ c .const)) (*ℤ-distl w (u .const) (g .const))
@@ -179,7 +182,8 @@ combine-identity (c ∷ cs) (suc n) e =
     let len : length cs ≡ n = omega arith in
     let rest = combine-wider cs (idRows n) n ∙ ap wider (combine-identity cs n len) in
     row-same
-    (ap (λ w. addAll (scale c (pos 1 ∷ zeroes n)) (w .coefs)) rest ∙ ap (λ x. (x +ℤ pos 0) ∷ addAll (scale c (zeroes n)) cs) (*ℤ-comm c (pos 1) ∙ one-*ℤ c)
+    (ap (λ w. addAll (scale c (pos 1 ∷ zeroes n)) (w .coefs)) rest
+    ∙ ap (λ x. (x +ℤ pos 0) ∷ addAll (scale c (zeroes n)) cs) (*ℤ-comm c (pos 1) ∙ one-*ℤ c)
     ∙ ap (λ x. x ∷ addAll (scale c (zeroes n)) cs) (+ℤ-idr c) ∙ ap (λ l. c ∷ l) (ap (λ l. addAll l cs) (scale-zeroes c n) ∙ add-zeroes n cs len))
     (ap (λ w. c *ℤ pos 0 +ℤ w .const) rest ∙ ap (λ x. x +ℤ pos 0) (*ℤ-zero c))
 
@@ -225,6 +229,7 @@ module _ (n : ℕ) where
       let same : g .cols ≡ n = eqb-true (g .cols) n (&&-left (eqb (g .cols) n) (fits a hs (length (g .rows))) f) in
       ap {B = Expr} (λ x. dep x a) (map-is (mapAfter (identity n) g) g (sym same) (rows-first (g .rows) (rw same at (w .0))))
 
-  pub branch-first : (hs : List Head) (b : Branch) → treeForm (b .term) ≡ true → fits (b .term) hs n ≡ true → ConstraintsWide n (b .given) → Wide (b .term) →
+  pub branch-first : (hs : List Head) (b : Branch) → treeForm (b .term) ≡ true → fits (b .term) hs n ≡ true → ConstraintsWide n (b .given) →
+      Wide (b .term) →
       pushBranch (identity n) b ≡ b
   branch-first hs b t f c w = λ i. record { given = given-first (b .given) c i; term = push-first hs (b .term) t f w i }

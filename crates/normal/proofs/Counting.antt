@@ -125,7 +125,8 @@ module _ (bs : List ℕ) (p : ℕ) where
 
   -- ---- where they end
 
-  pub node-ends : (k n r : ℕ) → k ≡ nodeLen bs p → ((nd : Node) (q : ℕ) → node (varsOf bs) bs p ≡ got nd q → n ≡ arity nd) → EndsAll bs (p + k) n r → Ends bs p r
+  pub node-ends : (k n r : ℕ) → k ≡ nodeLen bs p → ((nd : Node) (q : ℕ) → node (varsOf bs) bs p ≡ got nd q → n ≡ arity nd) → EndsAll bs (p + k) n r →
+      Ends bs p r
   node-ends k n r long many h e q at =
       h (childrenOf e) q (children-at (varsOf bs) bs p k n long many e q at) (children-counted (varsOf bs) bs p k n long many e q at)
 
@@ -196,10 +197,17 @@ module _ (bs : List ℕ) (p left many b : ℕ) (h : ChildrenAt bs p left many b)
         few = omega (arith, nodes, h .few);
         count = split .many;
         low = omega (arith, h .low);
-        some = omega (arith, h .some, sum-more (h .trees) (split .first) (split .rest) (split .is), below (split .first) (split .middle) (split .before));
+        some =
+            omega (
+              arith,
+              h .some,
+              sum-more (h .trees) (split .first) (split .rest) (split .is),
+              below (split .first) (split .middle) (split .before),
+            );
       }
 
-      pub later-way : (next : ℕ) (r : Chosen) → ((e : Expr) (q : ℕ) → At e (varsOf bs) bs p q → next ≡ q) → Picks bs next (many - 1) (b - n) r → Picks bs p many b r
+      pub later-way : (next : ℕ) (r : Chosen) → ((e : Expr) (q : ℕ) → At e (varsOf bs) bs p q → next ≡ q) → Picks bs next (many - 1) (b - n) r →
+          Picks bs p many b r
       later-way next r ends rest es q at m some =
           let x = one-more (varsOf bs) bs es p q many children-some at m in
           let same = below (x .first) (x .middle) (x .before) in

@@ -28,7 +28,8 @@ pub sets-then : (l : List ℕ) (i k : ℕ) (xs ys : List ℕ) → length xs ≡ 
 sets-then l i k xs ys e = ap (λ n. sets (sets l i xs) (i + n) ys) (sym e) ∙ sym (sets-append l i xs ys)
 
 -- what is stored first, of k bytes, and what after it
-pub sets-after : (l : List ℕ) (i k : ℕ) (xs ys : List ℕ) {a b : List ℕ} → length xs ≡ k → a ≡ sets l i xs → b ≡ sets a (i + k) ys → b ≡ sets l i (xs ++ ys)
+pub sets-after : (l : List ℕ) (i k : ℕ) (xs ys : List ℕ) {a b : List ℕ} → length xs ≡ k → a ≡ sets l i xs → b ≡ sets a (i + k) ys →
+    b ≡ sets l i (xs ++ ys)
 sets-after l i k xs ys long first second = second ∙ ap (λ t. sets t (i + k) ys) first ∙ sets-then l i k xs ys long
 
 pub length-num : (x : ℤ) → length (num x) ≡ 8
@@ -102,11 +103,13 @@ rows-long n [] h = omega arith
 rows-long n (w ∷ ws) h = length-append (rowBytes w) (flat (map rowBytes ws)) ∙ omega (arith, row-long w n (h .0), rows-long n ws (h .1))
 
 pub constraint-long : (c : Constraint) (n : ℕ) → length (c .row .coefs) ≡ n → length (constraintBytes c) ≡ 16 + 8 * n
-constraint-long c n e = length-append (nat (relationCode (c .rel))) (rowBytes (c .row)) ∙ omega (arith, length-nat (relationCode (c .rel)), row-long (c .row) n e)
+constraint-long c n e =
+    length-append (nat (relationCode (c .rel))) (rowBytes (c .row)) ∙ omega (arith, length-nat (relationCode (c .rel)), row-long (c .row) n e)
 
 pub constraints-long : (n : ℕ) (cs : List Constraint) → ConstraintsWide n cs → length (flat (map constraintBytes cs)) ≡ length cs * (16 + 8 * n)
 constraints-long n [] h = omega arith
-constraints-long n (c ∷ cs) h = length-append (constraintBytes c) (flat (map constraintBytes cs)) ∙ omega (arith, constraint-long c n (h .0), constraints-long n cs (h .1))
+constraints-long n (c ∷ cs) h = length-append (constraintBytes c) (flat (map constraintBytes cs))
+    ∙ omega (arith, constraint-long c n (h .0), constraints-long n cs (h .1))
 
 -- ---- a copy
 

@@ -69,7 +69,8 @@ module _ (bs : List ℕ) where
   pub check-refuses : (out : List ℕ) (r : Verdict) (k : Refusal) → r ≡ Refused k → told r ≡ totalOf (check bs) → Normalises bs out out r
   check-refuses out r k e h =
       subst (Normalises bs out out) (sym e)
-      (refuses out k (after-check ∙ ap (λ a. next a (λ s. normalForm bs (rawOf bs) s)) (refused-check (numberOf k) (placeOf k) (sym (ap told e) ∙ h))))
+      (refuses out k (after-check
+      ∙ ap (λ a. next a (λ s. normalForm bs (rawOf bs) s)) (refused-check (numberOf k) (placeOf k) (sym (ap told e) ∙ h))))
 
   -- ---- an accepted sheet
 
@@ -90,7 +91,8 @@ module _ (bs : List ℕ) where
       told-size = plans .is (record { nodes = 0; out = [] }) refl (omega (arith, third-is))
 
       pub wide-refuses : (out : List ℕ) (v : ℕ) → p ≡ WideAt v → Normalises bs out out (Refused (Wide v))
-      wide-refuses out v e = refuses out (Wide v) (form-is ∙ ap (λ a. next a (λ w. accepted (take (rawOf bs .third) bs ++ nat (w .nodes) ++ w .out))) wide)
+      wide-refuses out v e =
+          refuses out (Wide v) (form-is ∙ ap (λ a. next a (λ w. accepted (take (rawOf bs .third) bs ++ nat (w .nodes) ++ w .out))) wide)
         where
           go : (a : Answer Body) → refused WIDE v ≡ sized (frontOf bs) a → a ≡ refused WIDE v
           go (accepted w) h = absurd (let z : _≡_ {A = ℕ} 0 1 = cc in omega arith)
@@ -104,7 +106,8 @@ module _ (bs : List ℕ) where
           wide = go (writeBodies (sheetOf bs) (frontOf bs) 0 (sheetOf bs) (record { nodes = 0; out = [] })) (sym (ap planned e) ∙ told-size)
 
       pub plan-holds : (n b : ℕ) → p ≡ Total n b → Planned bs tab n b
-      plan-holds n b e = go (writeBodies (sheetOf bs) (frontOf bs) 0 (sheetOf bs) (record { nodes = 0; out = [] })) refl (sym (ap planned e) ∙ told-size)
+      plan-holds n b e =
+          go (writeBodies (sheetOf bs) (frontOf bs) 0 (sheetOf bs) (record { nodes = 0; out = [] })) refl (sym (ap planned e) ∙ told-size)
         where
           size-in : Answer Size → Size
           size-in (accepted z) = z
@@ -164,7 +167,8 @@ module _ (bs : List ℕ) where
       at-third : third ≡ rawOf bs .third
       at-third = place ∙ h .formed .placed .prepared .table .third
 
-      pub written-all : {a b d : List ℕ} {r : ℕ} → a ≡ sets out 0 (take third bs) → b ≡ sets a third (nat nodes) → Stored (bodiesFrom bs 0) (third + 8) b d r → Normalises bs out d (Accepted r)
+      pub written-all : {a b d : List ℕ} {r : ℕ} → a ≡ sets out 0 (take third bs) → b ≡ sets a third (nat nodes) →
+          Stored (bodiesFrom bs 0) (third + 8) b d r → Normalises bs out d (Accepted r)
       unfolding normalise
       written-all {a} {b} {d} {r} first second stored =
           let front = take (rawOf bs .third) bs in
@@ -174,11 +178,13 @@ module _ (bs : List ℕ) where
           let one : a ≡ sets out 0 front = first ∙ ap (λ k. sets out 0 (take k bs)) at-third in
           let two-at : b ≡ sets a (0 + rawOf bs .third) (nat nodes) = second ∙ ap (λ k. sets a k (nat nodes)) (omega (arith, at-third)) in
           let two = sets-after out 0 (rawOf bs .third) front (nat nodes) third-long one two-at in
-          let two-long : length (front ++ nat nodes) ≡ rawOf bs .third + 8 = length-append front (nat nodes) ∙ omega (arith, third-long, length-nat nodes) in
+          let two-long : length (front ++ nat nodes) ≡ rawOf bs .third + 8 =
+          length-append front (nat nodes) ∙ omega (arith, third-long, length-nat nodes) in
           let three-at : d ≡ sets b (0 + (rawOf bs .third + 8)) all = stored .0 ∙ ap (λ k. sets b k all) (omega (arith, at-third)) in
           let three = sets-after out 0 (rawOf bs .third + 8) (front ++ nat nodes) all two-long two three-at in
           let end : r ≡ length o = stored .1 ∙ omega (arith, at-third, form-long, bodies-long) in
           record {
             answer = ap accepted end ∙ rw (is-form, lent) refl;
-            out-after = three ∙ sets-eq o out 0 (omega (arith, form-long)) ∙ ap (λ k. o ++ drop k out) (zero-add (length o)) ∙ rw (is-form, lent) refl;
+            out-after =
+                three ∙ sets-eq o out 0 (omega (arith, form-long)) ∙ ap (λ k. o ++ drop k out) (zero-add (length o)) ∙ rw (is-form, lent) refl;
           }

@@ -93,7 +93,8 @@ module _ (k : Expr → Expr → Expr) (ys : List Branch) where
       map-at (restrict (a .given)) (map (under1 (k (a .term))) ys) b (omega (arith, length-map ys (under1 (k (a .term)))))
       ∙ ap (restrict (a .given)) (map-at (under1 (k (a .term))) ys b h)
 
-  pub pairs-at : (xs : List Branch) (b : ℕ) → b < length xs * length ys → branchAt (pairs k xs ys) b ≡ joined k (branchAt xs (b / length ys)) (branchAt ys (b % length ys))
+  pub pairs-at : (xs : List Branch) (b : ℕ) → b < length xs * length ys →
+      branchAt (pairs k xs ys) b ≡ joined k (branchAt xs (b / length ys)) (branchAt ys (b % length ys))
   pairs-at xs b h =
       ap (λ l. branchAt l b) (pairs-blocks xs) ∙ blocks-at row (length ys) row-long xs b h
       ∙ row-at (branchAt xs (b / length ys)) (b % length ys) (mod-lt b (positive (length xs) (length ys) h))
@@ -114,7 +115,8 @@ module _ (k : Expr → Expr → Expr → Expr) (ys zs : List Branch) where
   pub length-triples : (xs : List Branch) → length (triples k xs ys zs) ≡ length xs * (length ys * length zs)
   length-triples xs = ap length (triples-blocks xs) ∙ length-blocks plane (length ys * length zs) plane-long xs
 
-  plane-at : (a : Branch) (b : ℕ) → b < length ys * length zs → branchAt (plane a) b ≡ joined3 k a (branchAt ys (b / length zs)) (branchAt zs (b % length zs))
+  plane-at : (a : Branch) (b : ℕ) → b < length ys * length zs →
+      branchAt (plane a) b ≡ joined3 k a (branchAt ys (b / length zs)) (branchAt zs (b % length zs))
   unfolding plane
   plane-at a b h =
       map-at (restrict (a .given)) (pairs (k (a .term)) ys zs) b (omega (arith, length-pairs (k (a .term)) zs ys))
@@ -163,9 +165,11 @@ module _ (dims : ℕ → ℕ) where
   unfolding norm
   ite-at x y z b h =
       triples-at ite (norm y dims) (norm z dims) (norm x dims) b (rw (← count-is x, ← count-is y, ← count-is z) h)
-      ∙ ap (λ i. joined3 ite (branchAt (norm x dims) (b / (i * length (norm z dims)))) (branchAt (norm y dims) (b % (i * length (norm z dims)) / length (norm z dims)))
+      ∙ ap (λ i. joined3 ite (branchAt (norm x dims) (b / (i * length (norm z dims))))
+      (branchAt (norm y dims) (b % (i * length (norm z dims)) / length (norm z dims)))
       (branchAt (norm z dims) (b % (i * length (norm z dims)) % length (norm z dims)))) (sym (count-is y))
-      ∙ ap (λ i. joined3 ite (branchAt (norm x dims) (b / (countOf y * i))) (branchAt (norm y dims) (b % (countOf y * i) / i)) (branchAt (norm z dims) (b % (countOf y * i) % i)))
+      ∙ ap (λ i. joined3 ite (branchAt (norm x dims) (b / (countOf y * i))) (branchAt (norm y dims) (b % (countOf y * i) / i))
+      (branchAt (norm z dims) (b % (countOf y * i) % i)))
       (sym (count-is z))
 
   pub first-at : (e : Expr) (es : Exprs) (b : ℕ) → b < countOf e → branchAt (norms (more e es) dims) b ≡ branchAt (norm e dims) b

@@ -1,7 +1,8 @@
 -- A branch's parts by the node and its children: the children's combinations, the child that a case picks, and lengths. Assumes nothing.
 use mathlib.Core.Path.{_≡_, refl, sym, ap, ap₂, _∙_, subst}
 use Prim.Native.Nat.{ℕ, zero, suc, _+_, _*_, _-_, _/_, _%_, _^_, _≤_, _<_, max, min}
-use native.Mathlib.Nat.{mul-one, one-mul, div-one, mod-one, div-eq-of-lt, mod-eq-of-lt, mod-lt, div-lt-iff-lt-mul, mod-le, div-le-self, mul-le-mul-right}
+use native.Mathlib.Nat.{mul-one, one-mul, div-one, mod-one, div-eq-of-lt, mod-eq-of-lt, mod-lt, div-lt-iff-lt-mul, mod-le, div-le-self}
+use native.Mathlib.Nat.{mul-le-mul-right}
 use native.Mathlib.Omega.{arith}
 use mathlib.Core.Logic.{⊎-elim}
 use mathlib.Core.Bool.{Bool, true, false, _&&_}
@@ -43,14 +44,16 @@ one-part : (t : Bool) (a : Expr) (m : Map) (l b : ℕ) → partOf t a m l b ≡ 
 unfolding partsOf productOf
 one-part t a m l b = ap (partOf t a m l) (sym (div-one b)) ∙ beside-nothing (partOf t a m l (b / 1))
 
-two-parts : (t : Bool) (x y : Expr) (m : Map) (l b : ℕ) → beside (partOf t x m l (b / countOf y)) (partOf t y m l (b % countOf y)) ≡ partsOf t (more x (more y none)) m l b
+two-parts : (t : Bool) (x y : Expr) (m : Map) (l b : ℕ) →
+    beside (partOf t x m l (b / countOf y)) (partOf t y m l (b % countOf y)) ≡ partsOf t (more x (more y none)) m l b
 unfolding partsOf productOf
 two-parts t x y m l b =
     ap (λ n. beside (partOf t x m l (b / n)) (partOf t y m l (b % n))) (sym (mul-one (countOf y)))
     ∙ ap (beside (partOf t x m l (b / (countOf y * 1)))) (one-part t y m l (b % (countOf y * 1)))
 
 three-parts : (t : Bool) (x y z : Expr) (m : Map) (l b : ℕ) → let n = countOf y * countOf z in
-    beside (partOf t x m l (b / n)) (beside (partOf t y m l (b % n / countOf z)) (partOf t z m l (b % n % countOf z))) ≡ partsOf t (more x (more y (more z none))) m l b
+    beside (partOf t x m l (b / n)) (beside (partOf t y m l (b % n / countOf z)) (partOf t z m l (b % n % countOf z)))
+    ≡ partsOf t (more x (more y (more z none))) m l b
 unfolding partsOf productOf
 three-parts t x y z m l b =
     let n = countOf y * countOf z in
@@ -152,9 +155,16 @@ wrote-nothing dry pen out = record {
     go true = refl
     go false = refl
 
-pub wrote-then : (dry : Bool) (pen : Pen) (out : List ℕ) {a b : List ℕ} {y z : Pen} (p q : Part) → Wrote dry pen out a y p → Wrote dry y a b z q → Wrote dry pen out b z (beside p q)
+pub wrote-then : (dry : Bool) (pen : Pen) (out : List ℕ) {a b : List ℕ} {y z : Pen} (p q : Part) → Wrote dry pen out a y p → Wrote dry y a b z q →
+    Wrote dry pen out b z (beside p q)
 wrote-then dry pen out {a} {b} {y} {z} p q h g = record {
-  pen-is = g .pen-is ∙ ap (λ x. advance x q) (h .pen-is) ∙ (λ i. record { to = sum-is i; things = add-assoc (pen .things) (p .things) (q .things) i; deep = max-assoc (pen .deep) (p .deep) (q .deep) i });
+  pen-is =
+      g .pen-is ∙ ap (λ x. advance x q) (h .pen-is)
+      ∙ (λ i. record {
+        to = sum-is i;
+        things = add-assoc (pen .things) (p .things) (q .things) i;
+        deep = max-assoc (pen .deep) (p .deep) (q .deep) i;
+      });
   out-is = go dry (h .out-is) (g .out-is ∙ ap (λ x. laid dry a (x .to) (q .out)) (h .pen-is));
 }
   where
@@ -167,7 +177,8 @@ wrote-then dry pen out {a} {b} {y} {z} p q h g = record {
     sum-is : pen .to + length (p .out) + length (q .out) ≡ pen .to + length (p .out ++ q .out)
     sum-is = omega (arith, length-append (p .out) (q .out))
 
-    go : (d : Bool) → a ≡ laid d out (pen .to) (p .out) → b ≡ laid d a (pen .to + length (p .out)) (q .out) → b ≡ laid d out (pen .to) (p .out ++ q .out)
+    go : (d : Bool) → a ≡ laid d out (pen .to) (p .out) → b ≡ laid d a (pen .to + length (p .out)) (q .out) →
+        b ≡ laid d out (pen .to) (p .out ++ q .out)
     go true e f = f ∙ e
     go false e f = f ∙ ap (λ x. sets x (pen .to + length (p .out)) (q .out)) e ∙ sym (sets-append out (pen .to) (p .out) (q .out))
 
@@ -191,7 +202,8 @@ mutual
   part-things t (var v) m l b = own-things t (nodeOf (var v)) m l
   part-things t (int c) m l b = own-things t (nodeOf (int c)) m l
   part-things t (boo c) m l b = own-things t (nodeOf (boo c)) m l
-  part-things t (un o a) m l b = both-things (own t (nodeOf (un o a)) m l) (partOf t a m (l + 1) b) (own-things t (nodeOf (un o a)) m l) (part-things t a m (l + 1) b)
+  part-things t (un o a) m l b = both-things (own t (nodeOf (un o a)) m l) (partOf t a m (l + 1) b) (own-things t (nodeOf (un o a)) m l)
+      (part-things t a m (l + 1) b)
   part-things t (bin o x y) m l b =
       let i = b / countOf y in
       let j = b % countOf y in
@@ -202,23 +214,28 @@ mutual
       let i = b / n in
       let j = b % n / countOf z in
       let k = b % n % countOf z in
-      both-things (own t (nodeOf (ite x y z)) m l) (beside (partOf t x m (l + 1) i) (beside (partOf t y m (l + 1) j) (partOf t z m (l + 1) k))) (own-things t (nodeOf (ite x y z)) m l)
+      both-things (own t (nodeOf (ite x y z)) m l) (beside (partOf t x m (l + 1) i) (beside (partOf t y m (l + 1) j) (partOf t z m (l + 1) k)))
+      (own-things t (nodeOf (ite x y z)) m l)
       (both-things (partOf t x m (l + 1) i) (beside (partOf t y m (l + 1) j) (partOf t z m (l + 1) k)) (part-things t x m (l + 1) i)
       (both-things (partOf t y m (l + 1) j) (partOf t z m (l + 1) k) (part-things t y m (l + 1) j) (part-things t z m (l + 1) k)))
   part-things t (kase es) m l b = chosen-things t es m l b
-  part-things t (restr d cs a) m l b = both-things (own t (nodeOf (restr d cs a)) m l) (partOf t a m l b) (own-things t (nodeOf (restr d cs a)) m l) (part-things t a m l b)
+  part-things t (restr d cs a) m l b = both-things (own t (nodeOf (restr d cs a)) m l) (partOf t a m l b) (own-things t (nodeOf (restr d cs a)) m l)
+      (part-things t a m l b)
   part-things t (dep f a) m l b = part-things t a (mapAfter m f) l b
 
   chosen-things : (t : Bool) (es : Exprs) (m : Map) (l b : ℕ) → chosenOf t es m l b .things ≤ length (chosenOf t es m l b .out)
   chosen-things t none m l b = omega arith
   chosen-things t (more e es) m l b = go (ltb b (countOf e)) (part-things t e m l b) (chosen-things t es m l (b - countOf e))
     where
-      go : (d : Bool) → partOf t e m l b .things ≤ length (partOf t e m l b .out) → chosenOf t es m l (b - countOf e) .things ≤ length (chosenOf t es m l (b - countOf e) .out) →
-          ifb d (λ _. partOf t e m l b) (λ _. chosenOf t es m l (b - countOf e)) .things ≤ length (ifb d (λ _. partOf t e m l b) (λ _. chosenOf t es m l (b - countOf e)) .out)
+      go : (d : Bool) → partOf t e m l b .things ≤ length (partOf t e m l b .out) →
+          chosenOf t es m l (b - countOf e) .things ≤ length (chosenOf t es m l (b - countOf e) .out) →
+          ifb d (λ _. partOf t e m l b) (λ _. chosenOf t es m l (b - countOf e)) .things
+          ≤ length (ifb d (λ _. partOf t e m l b) (λ _. chosenOf t es m l (b - countOf e)) .out)
       go true h g = h
       go false h g = g
 
-pub things-low : (dry : Bool) (pen : Pen) (out : List ℕ) {a : List ℕ} {y : Pen} (p : Part) → Wrote dry pen out a y p → pen .things ≤ pen .to → p .things ≤ length (p .out) → y .things ≤ y .to
+pub things-low : (dry : Bool) (pen : Pen) (out : List ℕ) {a : List ℕ} {y : Pen} (p : Part) → Wrote dry pen out a y p → pen .things ≤ pen .to →
+    p .things ≤ length (p .out) → y .things ≤ y .to
 things-low dry pen out {y = y} p h low few =
     let to-is = ap (λ z. z .to) (h .pen-is) in
     let things-are = ap (λ z. z .things) (h .pen-is) in

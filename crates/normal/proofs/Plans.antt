@@ -56,7 +56,11 @@ module _ (n : ℕ) where
   narrow-no : (xs : List Branch) → narrow xs ≡ true → total n xs .limits ≤ 64
   narrow-no [] h = omega arith
   narrow-no (x ∷ xs) h =
-      omega (arith, leb-true (length (x .given)) 64 (&&-left (leb (length (x .given)) 64) (narrow xs) h), narrow-no xs (&&-right (leb (length (x .given)) 64) (narrow xs) h))
+      omega (
+        arith,
+        leb-true (length (x .given)) 64 (&&-left (leb (length (x .given)) 64) (narrow xs) h),
+        narrow-no xs (&&-right (leb (length (x .given)) 64) (narrow xs) h),
+      )
 
   deep-yes : (xs : List Branch) → total n xs .deep ≤ 30 → depths (asExprs n xs) ≤ 31
   unfolding depths
@@ -75,7 +79,8 @@ module _ (n : ℕ) where
   body-bytes : (xs : List Branch) → length (bytes (bodyCase n xs)) ≡ 16 + total n xs .bytes
   unfolding bytes
   body-bytes xs =
-      length-append (nat 6 ++ nat (branchCount (asExprs n xs))) (allBytes (asExprs n xs)) ∙ omega (arith, two-long 6 (branchCount (asExprs n xs)), bytes-are xs)
+      length-append (nat 6 ++ nat (branchCount (asExprs n xs))) (allBytes (asExprs n xs))
+      ∙ omega (arith, two-long 6 (branchCount (asExprs n xs)), bytes-are xs)
 
   body-depth : (xs : List Branch) → depth (bodyCase n xs) ≡ suc (depths (asExprs n xs))
   unfolding depth
@@ -83,13 +88,15 @@ module _ (n : ℕ) where
 
   -- ---- the five limits
 
-  pub keeps : (xs : List Branch) (k b : ℕ) → k ≤ 2048 → length xs ≤ 64 → total n xs .limits ≤ 64 → total n xs .deep ≤ 30 → b ≤ 65536 → keepsLimits xs (bodyCase n xs) k b ≡ true
+  pub keeps : (xs : List Branch) (k b : ℕ) → k ≤ 2048 → length xs ≤ 64 → total n xs .limits ≤ 64 → total n xs .deep ≤ 30 → b ≤ 65536 →
+      keepsLimits xs (bodyCase n xs) k b ≡ true
   keeps xs k b a c d e f =
       &&-true (&&-true (&&-true (&&-true (le-leb k 2048 a) (le-leb (length xs) 64 c)) (narrow-yes xs d))
       (le-leb (depth (bodyCase n xs)) 32 (omega (arith, body-depth xs, deep-yes xs e)))) (le-leb b 65536 f)
 
   pub breaks : (xs : List Branch) (k b : ℕ) →
-      ((k ≤ 2048) → (length xs ≤ 64) → (total n xs .limits ≤ 64) → (total n xs .deep ≤ 30) → (b ≤ 65536) → ⊥) → keepsLimits xs (bodyCase n xs) k b ≡ false
+      ((k ≤ 2048) → (length xs ≤ 64) → (total n xs .limits ≤ 64) → (total n xs .deep ≤ 30) → (b ≤ 65536) → ⊥) →
+      keepsLimits xs (bodyCase n xs) k b ≡ false
   breaks xs k b bad = go (keepsLimits xs (bodyCase n xs) k b) refl
     where
       kept : keepsLimits xs (bodyCase n xs) k b ≡ true → ⊥
@@ -176,16 +183,20 @@ module _ (bs tab : List ℕ) (f : Formed bs tab) where
 
         module _ (nodes size : ℕ) where
           wide-at : keepsLimits (branchesOf (sheetOf bs) (variable (sheetOf bs) v)) (normalBody (sheetOf bs) (variable (sheetOf bs) v))
-              (nodes + nodeCount (normalBody (sheetOf bs) (variable (sheetOf bs) v))) (size + length (bytes (normalBody (sheetOf bs) (variable (sheetOf bs) v)))) ≡ false →
+              (nodes + nodeCount (normalBody (sheetOf bs) (variable (sheetOf bs) v)))
+              (size + length (bytes (normalBody (sheetOf bs) (variable (sheetOf bs) v)))) ≡ false →
               Grows bs v nodes size (WideAt v)
           wide-at e = record { is = rw e refl; small = tt }
 
-          breaks-at : ((nodes + nodeCount (normalBody (sheetOf bs) (variable (sheetOf bs) v)) ≤ 2048) → (length (branchesOf (sheetOf bs) (variable (sheetOf bs) v)) ≤ 64) →
-              (total n (branchesOf (sheetOf bs) (variable (sheetOf bs) v)) .limits ≤ 64) → (total n (branchesOf (sheetOf bs) (variable (sheetOf bs) v)) .deep ≤ 30) →
+          breaks-at : ((nodes + nodeCount (normalBody (sheetOf bs) (variable (sheetOf bs) v)) ≤ 2048) →
+              (length (branchesOf (sheetOf bs) (variable (sheetOf bs) v)) ≤ 64) →
+              (total n (branchesOf (sheetOf bs) (variable (sheetOf bs) v)) .limits ≤ 64) →
+              (total n (branchesOf (sheetOf bs) (variable (sheetOf bs) v)) .deep ≤ 30) →
               (size + length (bytes (normalBody (sheetOf bs) (variable (sheetOf bs) v))) ≤ 65536) → ⊥) → Grows bs v nodes size (WideAt v)
           breaks-at bad =
               wide-at (subst (λ e. keepsLimits (branchesOf (sheetOf bs) (variable (sheetOf bs) v)) e
-              (nodes + nodeCount (normalBody (sheetOf bs) (variable (sheetOf bs) v))) (size + length (bytes (normalBody (sheetOf bs) (variable (sheetOf bs) v)))) ≡ false) normal-is
+              (nodes + nodeCount (normalBody (sheetOf bs) (variable (sheetOf bs) v)))
+              (size + length (bytes (normalBody (sheetOf bs) (variable (sheetOf bs) v)))) ≡ false) normal-is
               (breaks n (branchesOf (sheetOf bs) (variable (sheetOf bs) v)) (nodes + nodeCount (normalBody (sheetOf bs) (variable (sheetOf bs) v)))
               (size + length (bytes (normalBody (sheetOf bs) (variable (sheetOf bs) v)))) bad))
 
@@ -199,13 +210,16 @@ module _ (bs tab : List ℕ) (f : Formed bs tab) where
                 ∙ taken-same {b = total n (branchesIn bs (variable (sheetOf bs) v .body))} (omega arith) (omega arith) (omega arith) (omega arith)
                 ∙ ap (total n) branches-are
 
-            body-size : (nodeCount (normalBody (sheetOf bs) (variable (sheetOf bs) v)) ≡ 1 + all .nodes) × (length (bytes (normalBody (sheetOf bs) (variable (sheetOf bs) v))) ≡ 16 + all .bytes)
+            body-size : (nodeCount (normalBody (sheetOf bs) (variable (sheetOf bs) v)) ≡ 1 + all .nodes)
+                × (length (bytes (normalBody (sheetOf bs) (variable (sheetOf bs) v))) ≡ 16 + all .bytes)
             body-size = (
               ap nodeCount (sym normal-is) ∙ body-nodes n (branchesOf (sheetOf bs) (variable (sheetOf bs) v)) ∙ ap (λ z. 1 + z .nodes) (sym all-is),
-              ap (λ e. length (bytes e)) (sym normal-is) ∙ body-bytes n (branchesOf (sheetOf bs) (variable (sheetOf bs) v)) ∙ ap (λ z. 16 + z .bytes) (sym all-is),
+              ap (λ e. length (bytes e)) (sym normal-is) ∙ body-bytes n (branchesOf (sheetOf bs) (variable (sheetOf bs) v))
+                  ∙ ap (λ z. 16 + z .bytes) (sym all-is),
             )
 
-            pub wide-way : ((nodes + 1 + all .nodes ≤ 2048) → (all .limits ≤ 64) → (all .deep ≤ 30) → (size + 16 + all .bytes ≤ 65536) → ⊥) → Grows bs v nodes size (WideAt v)
+            pub wide-way : ((nodes + 1 + all .nodes ≤ 2048) → (all .limits ≤ 64) → (all .deep ≤ 30) → (size + 16 + all .bytes ≤ 65536) → ⊥) →
+                Grows bs v nodes size (WideAt v)
             wide-way bad =
                 breaks-at (λ a c d e g.
                 let z = body-size in
@@ -222,8 +236,11 @@ module _ (bs tab : List ℕ) (f : Formed bs tab) where
                 let kn : nodes + nodeCount (normalBody (sheetOf bs) (variable (sheetOf bs) v)) ≡ nodes + 1 + all .nodes = omega (arith, z .0) in
                 let kb : size + length (bytes (normalBody (sheetOf bs) (variable (sheetOf bs) v))) ≡ size + 16 + all .bytes = omega (arith, z .1) in
                 let short : length (branchesOf (sheetOf bs) (variable (sheetOf bs) v)) ≤ 64 = omega (arith, count-capped) in
-                let kept = subst (λ e. keepsLimits (branchesOf (sheetOf bs) (variable (sheetOf bs) v)) e (nodes + 1 + all .nodes) (size + 16 + all .bytes) ≡ true) normal-is
-                (keeps n (branchesOf (sheetOf bs) (variable (sheetOf bs) v)) (nodes + 1 + all .nodes) (size + 16 + all .bytes) a short (omega (arith, b)) (omega (arith, c)) d) in
+                let kept =
+                subst (λ e. keepsLimits (branchesOf (sheetOf bs) (variable (sheetOf bs) v)) e (nodes + 1 + all .nodes) (size + 16 + all .bytes)
+                ≡ true) normal-is
+                (keeps n (branchesOf (sheetOf bs) (variable (sheetOf bs) v)) (nodes + 1 + all .nodes) (size + 16 + all .bytes) a short
+                (omega (arith, b)) (omega (arith, c)) d) in
                 record { is = rw (kn, kb, kept) refl; small = (a, d) }
 
 -- ---- the variables one after another
@@ -261,14 +278,18 @@ module _ (bs tab : List ℕ) (f : Formed bs tab) (v nodes size : ℕ) where
     step : (w : Body) → writeBodies (sheetOf bs) (frontOf bs) v (variable (sheetOf bs) v ∷ drop (v + 1) (sheetOf bs)) w
         ≡ ifb (isInput (variable (sheetOf bs) v)) (λ _. writeBodies (sheetOf bs) (frontOf bs) (v + 1) (drop (v + 1) (sheetOf bs)) w) (λ _.
         ifb (keepsLimits (branchesOf (sheetOf bs) (variable (sheetOf bs) v)) (normalBody (sheetOf bs) (variable (sheetOf bs) v))
-        (w .nodes + nodeCount (normalBody (sheetOf bs) (variable (sheetOf bs) v))) (frontOf bs + length (w .out ++ bytes (normalBody (sheetOf bs) (variable (sheetOf bs) v)))))
-        (λ _. writeBodies (sheetOf bs) (frontOf bs) (v + 1) (drop (v + 1) (sheetOf bs)) (written w (normalBody (sheetOf bs) (variable (sheetOf bs) v)))) (λ _. refused WIDE v))
+        (w .nodes + nodeCount (normalBody (sheetOf bs) (variable (sheetOf bs) v)))
+        (frontOf bs + length (w .out ++ bytes (normalBody (sheetOf bs) (variable (sheetOf bs) v)))))
+        (λ _. writeBodies (sheetOf bs) (frontOf bs) (v + 1) (drop (v + 1) (sheetOf bs))
+        (written w (normalBody (sheetOf bs) (variable (sheetOf bs) v)))) (λ _. refused WIDE v))
     unfolding writeBodies
     step w = let e : suc v ≡ v + 1 = omega arith in
         ap (λ k. ifb (isInput (variable (sheetOf bs) v)) (λ _. writeBodies (sheetOf bs) (frontOf bs) k (drop (v + 1) (sheetOf bs)) w) (λ _.
         ifb (keepsLimits (branchesOf (sheetOf bs) (variable (sheetOf bs) v)) (normalBody (sheetOf bs) (variable (sheetOf bs) v))
-        (w .nodes + nodeCount (normalBody (sheetOf bs) (variable (sheetOf bs) v))) (frontOf bs + length (w .out ++ bytes (normalBody (sheetOf bs) (variable (sheetOf bs) v)))))
-        (λ _. writeBodies (sheetOf bs) (frontOf bs) k (drop (v + 1) (sheetOf bs)) (written w (normalBody (sheetOf bs) (variable (sheetOf bs) v)))) (λ _. refused WIDE v))) e
+        (w .nodes + nodeCount (normalBody (sheetOf bs) (variable (sheetOf bs) v)))
+        (frontOf bs + length (w .out ++ bytes (normalBody (sheetOf bs) (variable (sheetOf bs) v)))))
+        (λ _. writeBodies (sheetOf bs) (frontOf bs) k (drop (v + 1) (sheetOf bs)) (written w (normalBody (sheetOf bs) (variable (sheetOf bs) v))))
+        (λ _. refused WIDE v))) e
 
     pub plan-input : (r : Plan) → isInput (variable (sheetOf bs) v) ≡ true → PlansFrom bs (v + 1) nodes size r → PlansFrom bs v nodes size r
     plan-input r i h = record {
@@ -276,16 +297,19 @@ module _ (bs tab : List ℕ) (f : Formed bs tab) (v nodes size : ℕ) where
       small = h .small;
     }
       where
-        skipped : (w : Body) → writeBodies (sheetOf bs) (frontOf bs) v (drop v (sheetOf bs)) w ≡ writeBodies (sheetOf bs) (frontOf bs) (v + 1) (drop (v + 1) (sheetOf bs)) w
+        skipped : (w : Body) → writeBodies (sheetOf bs) (frontOf bs) v (drop v (sheetOf bs)) w
+            ≡ writeBodies (sheetOf bs) (frontOf bs) (v + 1) (drop (v + 1) (sheetOf bs)) w
         skipped w = ap (λ l. writeBodies (sheetOf bs) (frontOf bs) v l w) (split-variables lt) ∙ step w ∙ rw i refl
 
     module _ (body : isInput (variable (sheetOf bs) v) ≡ false) where
       -- what the definition does with the body
       grown-is : (w : Body) → w .nodes ≡ nodes → frontOf bs + length (w .out) ≡ size → (t : Bool) →
           keepsLimits (branchesOf (sheetOf bs) (variable (sheetOf bs) v)) (normalBody (sheetOf bs) (variable (sheetOf bs) v))
-          (nodes + nodeCount (normalBody (sheetOf bs) (variable (sheetOf bs) v))) (size + length (bytes (normalBody (sheetOf bs) (variable (sheetOf bs) v)))) ≡ t →
+          (nodes + nodeCount (normalBody (sheetOf bs) (variable (sheetOf bs) v)))
+          (size + length (bytes (normalBody (sheetOf bs) (variable (sheetOf bs) v)))) ≡ t →
           writeBodies (sheetOf bs) (frontOf bs) v (drop v (sheetOf bs)) w
-          ≡ ifb t (λ _. writeBodies (sheetOf bs) (frontOf bs) (v + 1) (drop (v + 1) (sheetOf bs)) (written w (normalBody (sheetOf bs) (variable (sheetOf bs) v)))) (λ _. refused WIDE v)
+          ≡ ifb t (λ _. writeBodies (sheetOf bs) (frontOf bs) (v + 1) (drop (v + 1) (sheetOf bs))
+          (written w (normalBody (sheetOf bs) (variable (sheetOf bs) v)))) (λ _. refused WIDE v)
       grown-is w n s t e =
           let x = normalBody (sheetOf bs) (variable (sheetOf bs) v) in
           let long : frontOf bs + length (w .out ++ bytes x) ≡ size + length (bytes x) = omega (arith, length-append (w .out) (bytes x)) in
@@ -293,10 +317,12 @@ module _ (bs tab : List ℕ) (f : Formed bs tab) (v nodes size : ℕ) where
 
       pub plan-wide : (u : ℕ) → Grows bs v nodes size (WideAt u) → PlansFrom bs v nodes size (WideAt u)
       plan-wide u g = go (keepsLimits (branchesOf (sheetOf bs) (variable (sheetOf bs) v)) (normalBody (sheetOf bs) (variable (sheetOf bs) v))
-          (nodes + nodeCount (normalBody (sheetOf bs) (variable (sheetOf bs) v))) (size + length (bytes (normalBody (sheetOf bs) (variable (sheetOf bs) v))))) refl (g .is)
+          (nodes + nodeCount (normalBody (sheetOf bs) (variable (sheetOf bs) v)))
+          (size + length (bytes (normalBody (sheetOf bs) (variable (sheetOf bs) v))))) refl (g .is)
         where
           go : (t : Bool) → keepsLimits (branchesOf (sheetOf bs) (variable (sheetOf bs) v)) (normalBody (sheetOf bs) (variable (sheetOf bs) v))
-              (nodes + nodeCount (normalBody (sheetOf bs) (variable (sheetOf bs) v))) (size + length (bytes (normalBody (sheetOf bs) (variable (sheetOf bs) v)))) ≡ t →
+              (nodes + nodeCount (normalBody (sheetOf bs) (variable (sheetOf bs) v)))
+              (size + length (bytes (normalBody (sheetOf bs) (variable (sheetOf bs) v)))) ≡ t →
               _≡_ {A = Answer Size} (refused WIDE u) (ifb t (λ _. accepted (record {
                 nodes = nodes + nodeCount (normalBody (sheetOf bs) (variable (sheetOf bs) v));
                 bytes = size + length (bytes (normalBody (sheetOf bs) (variable (sheetOf bs) v)));
@@ -306,10 +332,12 @@ module _ (bs tab : List ℕ) (f : Formed bs tab) (v nodes size : ℕ) where
 
       pub plan-more : (x y : ℕ) (r : Plan) → Grows bs v nodes size (Total x y) → PlansFrom bs (v + 1) x y r → PlansFrom bs v nodes size r
       plan-more x y r g rest = go (keepsLimits (branchesOf (sheetOf bs) (variable (sheetOf bs) v)) (normalBody (sheetOf bs) (variable (sheetOf bs) v))
-          (nodes + nodeCount (normalBody (sheetOf bs) (variable (sheetOf bs) v))) (size + length (bytes (normalBody (sheetOf bs) (variable (sheetOf bs) v))))) refl (g .is)
+          (nodes + nodeCount (normalBody (sheetOf bs) (variable (sheetOf bs) v)))
+          (size + length (bytes (normalBody (sheetOf bs) (variable (sheetOf bs) v))))) refl (g .is)
         where
           go : (t : Bool) → keepsLimits (branchesOf (sheetOf bs) (variable (sheetOf bs) v)) (normalBody (sheetOf bs) (variable (sheetOf bs) v))
-              (nodes + nodeCount (normalBody (sheetOf bs) (variable (sheetOf bs) v))) (size + length (bytes (normalBody (sheetOf bs) (variable (sheetOf bs) v)))) ≡ t →
+              (nodes + nodeCount (normalBody (sheetOf bs) (variable (sheetOf bs) v)))
+              (size + length (bytes (normalBody (sheetOf bs) (variable (sheetOf bs) v)))) ≡ t →
               _≡_ {A = Answer Size} (accepted (record { nodes = x; bytes = y })) (ifb t (λ _. accepted (record {
                 nodes = nodes + nodeCount (normalBody (sheetOf bs) (variable (sheetOf bs) v));
                 bytes = size + length (bytes (normalBody (sheetOf bs) (variable (sheetOf bs) v)));
@@ -319,7 +347,9 @@ module _ (bs tab : List ℕ) (f : Formed bs tab) (v nodes size : ℕ) where
               let xs : x ≡ nodes + nodeCount z = ap (λ a. sizeIn a .nodes) h in
               let ys : y ≡ size + length (bytes z) = ap (λ a. sizeIn a .bytes) h in
               record {
-                is = λ w n s. rest .is (written w z) (omega arith) (omega (arith, length-append (w .out) (bytes z))) ∙ sym (ap (sized (frontOf bs)) (grown-is w n s true e));
+                is =
+                    λ w n s. rest .is (written w z) (omega arith) (omega (arith, length-append (w .out) (bytes z)))
+                    ∙ sym (ap (sized (frontOf bs)) (grown-is w n s true e));
                 small = rest .small;
               }
           go false e h = absurd (told-apart (sym h))
@@ -328,7 +358,8 @@ module _ (bs tab : List ℕ) (f : Formed bs tab) (v nodes size : ℕ) where
       pub plan-stops : (p : Plan) (u : ℕ) → p ≡ WideAt u → Grows bs v nodes size p → PlansFrom bs v nodes size p
       plan-stops p u e g = subst (PlansFrom bs v nodes size) (sym e) (plan-wide u (subst (Grows bs v nodes size) e g))
 
-      pub plan-goes : (p : Plan) (x y : ℕ) (r : Plan) → p ≡ Total x y → Grows bs v nodes size p → PlansFrom bs (v + 1) x y r → PlansFrom bs v nodes size r
+      pub plan-goes : (p : Plan) (x y : ℕ) (r : Plan) → p ≡ Total x y → Grows bs v nodes size p → PlansFrom bs (v + 1) x y r →
+          PlansFrom bs v nodes size r
       plan-goes p x y r e g rest = plan-more x y r (subst (Grows bs v nodes size) e g) rest
 
 pub small-total : (p : Plan) (x y : ℕ) → p ≡ Total x y → Small p → (x ≤ 2048) × (y ≤ 65536)

@@ -47,7 +47,8 @@ use Rattle.normal.specs.Rows.{Composable, AllComposable}
 use Rattle.normal.specs.Spot.{Limits, Spot}
 use Rattle.normal.specs.Followed.{roomOf, Carried, Route, RouteAll, Wrote, Visits, Follows, FollowsAll}
 use Rattle.normal.proofs.Numbered.{positive}
-use Rattle.normal.proofs.Parts.{part-children, count-operands, PickKept, pick-kept, capped-some, capped-div, capped-mod, wrote-nothing, wrote-then, room-same, things-low, part-things}
+use Rattle.normal.proofs.Parts.{part-children, count-operands, PickKept, pick-kept, capped-some, capped-div, capped-mod, wrote-nothing}
+use Rattle.normal.proofs.Parts.{wrote-then, room-same, things-low, part-things}
 use Rattle.normal.proofs.Spots.{own-out, own-things}
 
 -- ---- reaches
@@ -67,7 +68,8 @@ composable n bs m bound (c ∷ cs) p w h r =
     let reached = subst (λ x. rowReach (mapReach topReach (mapOf m .rows)) (x .row) ≤ limit) (constraint-is n bs p c first)
     (le-trans (rowReach-more (c .row) w) low) in (
       record { there = first .there; relation = first .relation .high; small = reached },
-      composable n bs m bound cs (p + (16 + 8 * n)) w (each-rest n bs c cs p h) (&&-right (leb (rowReach bound (c .row)) limit) (allReach bound cs) r),
+      composable n bs m bound cs (p + (16 + 8 * n)) w (each-rest n bs c cs p h)
+          (&&-right (leb (rowReach bound (c .row)) limit) (allReach bound cs) r),
     )
 
 module _ (bs : List ℕ) where
@@ -106,10 +108,13 @@ module _ (bs : List ℕ) where
 
       module _ (k n : ℕ) (long : k ≡ nodeLen bs p) (many : (nd : Node) (q : ℕ) → node (varsOf bs) bs p ≡ got nd q → n ≡ arity nd) where
         case-at : AllAt (cases .branches) (varsOf bs) bs (p + k) (h .end)
-        case-at = subst (λ e. AllAt (childrenOf e) (varsOf bs) bs (p + k) (h .end)) (cases .is) (children-at (varsOf bs) bs p k n long many (h .tree) (h .end) (h .at))
+        case-at =
+            subst (λ e. AllAt (childrenOf e) (varsOf bs) bs (p + k) (h .end)) (cases .is)
+            (children-at (varsOf bs) bs p k n long many (h .tree) (h .end) (h .at))
 
         case-many : branchCount (cases .branches) ≡ n
-        case-many = ap (λ e. branchCount (childrenOf e)) (sym (cases .is)) ∙ children-counted (varsOf bs) bs p k n long many (h .tree) (h .end) (h .at)
+        case-many =
+            ap (λ e. branchCount (childrenOf e)) (sym (cases .is)) ∙ children-counted (varsOf bs) bs p k n long many (h .tree) (h .end) (h .at)
 
         pub route-choice : ChildrenAt bs (p + k) (left - 1) n b
         route-choice = record {
@@ -127,7 +132,8 @@ module _ (bs : List ℕ) where
             let some : b < sumOf (cases .branches) = omega (arith, h .some, case-count) in
             let found = picks (cases .branches) (h .end) case-at case-many some in
             let kept = pick-kept (cases .branches) b some in
-            let same = case-part ∙ kept .part-is t (mapOf m) level ∙ ap (partOf t (pick (cases .branches) b .child) (mapOf m) level) (sym (found .branch)) in
+            let same =
+            case-part ∙ kept .part-is t (mapOf m) level ∙ ap (partOf t (pick (cases .branches) b .child) (mapOf m) level) (sym (found .branch)) in
             record {
               tree = pick (cases .branches) b .child;
               end = found .end;
@@ -177,7 +183,8 @@ module _ (bs : List ℕ) where
 
       pub dep-dims : g .width ≡ m .height
       dep-dims = width-cols g map-is
-          ∙ eqb-true (below .by .cols) (m .height) (&&-left (eqb (below .by .cols) (m .height)) (fits (below .child) (headsOf bs) (length (below .by .rows))) dep-fits)
+          ∙ eqb-true (below .by .cols) (m .height)
+          (&&-left (eqb (below .by .cols) (m .height)) (fits (below .child) (headsOf bs) (length (below .by .rows))) dep-fits)
 
       pub dep-composes : (i : ℕ) → FitAfter m (line g i)
       dep-composes =
@@ -185,7 +192,8 @@ module _ (bs : List ℕ) where
           (subst (λ f. mapReach (mapReach topReach (mapOf m .rows)) (f .rows) ≤ limit) (sym map-is)
           (le-trans (mapReach-more (below .by .rows) (h .carried .within)) dep-limit))
 
-      module _ (k : ℕ) (long : k ≡ nodeLen bs p) (w : Map) (is : mapOf w ≡ mapAfter (mapOf m) (mapOf g)) (neat : Neat w) (high : w .height ≡ g .height) where
+      module _ (k : ℕ) (long : k ≡ nodeLen bs p) (w : Map) (is : mapOf w ≡ mapAfter (mapOf m) (mapOf g)) (neat : Neat w)
+          (high : w .height ≡ g .height) where
         by-is : mapOf w ≡ mapAfter (mapOf m) (below .by)
         by-is = is ∙ ap (mapAfter (mapOf m)) map-is
 
@@ -198,7 +206,8 @@ module _ (bs : List ℕ) where
           few = omega (arith, h .few, dep-nodes);
           fitting = subst (λ n. fits (below .child) (headsOf bs) n ≡ true) (sym (high ∙ height-length g map-is))
               (&&-right (eqb (below .by .cols) (m .height)) (fits (below .child) (headsOf bs) (length (below .by .rows))) dep-fits);
-          reaches = &&-right (leb (mapReach (h .bound) (below .by .rows)) limit) (reach (below .child) (mapReach (h .bound) (below .by .rows))) dep-reaches;
+          reaches =
+              &&-right (leb (mapReach (h .bound) (below .by .rows)) limit) (reach (below .child) (mapReach (h .bound) (below .by .rows))) dep-reaches;
           carried = record {
             neat = neat;
             within = subst (λ f. mapReach topReach (f .rows) ≤ mapReach (h .bound) (below .by .rows)) (sym by-is)
@@ -224,7 +233,8 @@ module _ (bs : List ℕ) where
       parts = part-children t (h .tree) (mapOf m) level b no-case no-dep
 
       lengths : length (partOf t (h .tree) (mapOf m) level b .out)
-          ≡ length (own t (nodeOf (h .tree)) (mapOf m) level .out) + length (partsOf t (childrenOf (h .tree)) (mapOf m) (levelBelow (nodeOf (h .tree)) level) b .out)
+          ≡ length (own t (nodeOf (h .tree)) (mapOf m) level .out)
+          + length (partsOf t (childrenOf (h .tree)) (mapOf m) (levelBelow (nodeOf (h .tree)) level) b .out)
       lengths = ap (λ x. length (x .out)) parts ∙ length-append (own t (nodeOf (h .tree)) (mapOf m) level .out)
           (partsOf t (childrenOf (h .tree)) (mapOf m) (levelBelow (nodeOf (h .tree)) level) b .out)
 
@@ -233,7 +243,8 @@ module _ (bs : List ℕ) where
           let x = at-restr (varsOf bs) bs (h .tree) p (h .end) (h .at) (code-field bs p (h .tree) (h .end) 7 (h .at) seven) in
           let f = restr-fits x in
           let r = restr-reaches x in
-          let dim : x .dim ≡ m .height = eqb-true (x .dim) (m .height) (&&-left (eqb (x .dim) (m .height)) (fits (x .child) (headsOf bs) (m .height)) f) in
+          let dim : x .dim ≡ m .height =
+          eqb-true (x .dim) (m .height) (&&-left (eqb (x .dim) (m .height)) (fits (x .child) (headsOf bs) (m .height)) f) in
           let all = composable (x .dim) bs m (h .bound) (x .given) (p + 24) (h .carried .within) (λ i lt c. restr-constraint (x .fields) i lt c)
           (&&-left (allReach (h .bound) (x .given)) (reach (x .child) (h .bound)) r) in (
             sym (counted-is (x .fields .dim)) ∙ dim,
@@ -258,7 +269,8 @@ module _ (bs : List ℕ) where
       }
 
       module _ (k n : ℕ) (long : k ≡ nodeLen bs p) (many : (nd : Node) (q : ℕ) → node (varsOf bs) bs p ≡ got nd q → n ≡ arity nd) (l : ℕ)
-          (level-is : (nd : Node) → codeOf nd ≡ natAbs (field bs p) → l ≡ levelBelow nd level) (dry : Bool) (pen after : Pen) (out out′ : List ℕ) (from : pen .to ≡ to)
+          (level-is : (nd : Node) → codeOf nd ≡ natAbs (field bs p) → l ≡ levelBelow nd level) (dry : Bool) (pen after : Pen) (out out′ : List ℕ)
+          (from : pen .to ≡ to)
           (visited : Visits bs p m t level dry pen out out′ after) where
         pub route-children : RouteAll bs (p + k) (left - 1) n m b t l (after .to) room
         route-children =
@@ -277,7 +289,8 @@ module _ (bs : List ℕ) where
               count = children-counted (varsOf bs) bs p k n long many e (h .end) (h .at);
               fitting = children-fit bs p e (h .end) (m .height) (h .at) eight (h .fitting);
               reaches = rw (same .1) at
-                  (&&-right (reachHere (nodeOf e) (h .bound)) (reachAll (childrenOf e) (reachBelow (nodeOf e) (h .bound))) (sym (reach-children e (h .bound)) ∙ h .reaches));
+                  (&&-right (reachHere (nodeOf e) (h .bound)) (reachAll (childrenOf e) (reachBelow (nodeOf e) (h .bound)))
+                  (sym (reach-children e (h .bound)) ∙ h .reaches));
               carried = h .carried;
               low = h .low;
               some = omega (arith, h .some, count-operands e no-case);
@@ -289,10 +302,12 @@ module _ (bs : List ℕ) where
 
         pub route-after : room ≡ roomOf dry out → RouteAll bs (p + k) (left - 1) n m b t l (after .to) (roomOf dry out′)
         route-after e =
-            subst (RouteAll bs (p + k) (left - 1) n m b t l (after .to)) (e ∙ sym (room-same dry pen out (own t (nodeOf (h .tree)) (mapOf m) level) first-wrote)) route-children
+            subst (RouteAll bs (p + k) (left - 1) n m b t l (after .to))
+            (e ∙ sym (room-same dry pen out (own t (nodeOf (h .tree)) (mapOf m) level) first-wrote)) route-children
 
         pub visited-things : pen .things ≤ pen .to → after .things ≤ after .to
-        visited-things low = things-low dry pen out (own t (nodeOf (h .tree)) (mapOf m) level) first-wrote low (own-things t (nodeOf (h .tree)) (mapOf m) level)
+        visited-things low =
+            things-low dry pen out (own t (nodeOf (h .tree)) (mapOf m) level) first-wrote low (own-things t (nodeOf (h .tree)) (mapOf m) level)
 
         pub route-many : n ≤ 64
         route-many = omega (
@@ -303,109 +318,118 @@ module _ (bs : List ℕ) where
 
   -- ---- so many operands
 
-  module _ (p left many : ℕ) (m : Map) (b : ℕ) (t : Bool) (level to room : ℕ) (some : 1 ≤ many) (h : RouteAll bs p left many m b t level to room) where
-    split : MoreAt (h .trees) (varsOf bs) bs p (h .end) (many - 1)
-    split = one-more (varsOf bs) bs (h .trees) p (h .end) many some (h .at) (h .count)
+  module _ (p left many : ℕ) (m : Map) (b : ℕ) (t : Bool) (level to room : ℕ) (some : 1 ≤ many) (h : RouteAll bs p left many m b t level to room)
+    where
+      split : MoreAt (h .trees) (varsOf bs) bs p (h .end) (many - 1)
+      split = one-more (varsOf bs) bs (h .trees) p (h .end) many some (h .at) (h .count)
 
-    pub operands-standing : StandingAll (varsOf bs) bs p left many
-    operands-standing = record { trees = h .trees; end = h .end; at = h .at; few = h .few; many = h .count }
+      pub operands-standing : StandingAll (varsOf bs) bs p left many
+      operands-standing = record { trees = h .trees; end = h .end; at = h .at; few = h .few; many = h .count }
 
-    nodes : nodeCounts (h .trees) ≡ nodeCount (split .first) + nodeCounts (split .rest)
-    unfolding nodeCounts
-    nodes = ap nodeCounts (split .is)
+      nodes : nodeCounts (h .trees) ≡ nodeCount (split .first) + nodeCounts (split .rest)
+      unfolding nodeCounts
+      nodes = ap nodeCounts (split .is)
 
-    product : productOf (h .trees) ≡ countOf (split .first) * productOf (split .rest)
-    unfolding productOf
-    product = ap productOf (split .is)
+      product : productOf (h .trees) ≡ countOf (split .first) * productOf (split .rest)
+      unfolding productOf
+      product = ap productOf (split .is)
 
-    all-fit : fits (split .first) (headsOf bs) (m .height) && allFit (split .rest) (headsOf bs) (m .height) ≡ true
-    unfolding allFit
-    all-fit = rw (split .is) at (h .fitting)
+      all-fit : fits (split .first) (headsOf bs) (m .height) && allFit (split .rest) (headsOf bs) (m .height) ≡ true
+      unfolding allFit
+      all-fit = rw (split .is) at (h .fitting)
 
-    all-reach : reach (split .first) (h .bound) && reachAll (split .rest) (h .bound) ≡ true
-    unfolding reachAll
-    all-reach = rw (split .is) at (h .reaches)
+      all-reach : reach (split .first) (h .bound) && reachAll (split .rest) (h .bound) ≡ true
+      unfolding reachAll
+      all-reach = rw (split .is) at (h .reaches)
 
-    low-product : b < countOf (split .first) * productOf (split .rest)
-    low-product = subst (λ i. b < i) product (h .some)
+      low-product : b < countOf (split .first) * productOf (split .rest)
+      low-product = subst (λ i. b < i) product (h .some)
 
-    rest-some : 0 < productOf (split .rest)
-    rest-some = positive (countOf (split .first)) (productOf (split .rest)) low-product
+      rest-some : 0 < productOf (split .rest)
+      rest-some = positive (countOf (split .first)) (productOf (split .rest)) low-product
 
-    both-parts : partsOf t (h .trees) (mapOf m) level b
-        ≡ beside (partOf t (split .first) (mapOf m) level (b / productOf (split .rest))) (partsOf t (split .rest) (mapOf m) level (b % productOf (split .rest)))
-    unfolding partsOf
-    both-parts = ap (λ es. partsOf t es (mapOf m) level b) (split .is)
+      both-parts : partsOf t (h .trees) (mapOf m) level b
+          ≡ beside (partOf t (split .first) (mapOf m) level (b / productOf (split .rest)))
+          (partsOf t (split .rest) (mapOf m) level (b % productOf (split .rest)))
+      unfolding partsOf
+      both-parts = ap (λ es. partsOf t es (mapOf m) level b) (split .is)
 
-    both-long : length (partsOf t (h .trees) (mapOf m) level b .out)
-        ≡ length (partOf t (split .first) (mapOf m) level (b / productOf (split .rest)) .out) + length (partsOf t (split .rest) (mapOf m) level (b % productOf (split .rest)) .out)
-    both-long = ap (λ x. length (x .out)) both-parts ∙ length-append (partOf t (split .first) (mapOf m) level (b / productOf (split .rest)) .out)
-        (partsOf t (split .rest) (mapOf m) level (b % productOf (split .rest)) .out)
+      both-long : length (partsOf t (h .trees) (mapOf m) level b .out)
+          ≡ length (partOf t (split .first) (mapOf m) level (b / productOf (split .rest)) .out)
+          + length (partsOf t (split .rest) (mapOf m) level (b % productOf (split .rest)) .out)
+      both-long = ap (λ x. length (x .out)) both-parts ∙ length-append (partOf t (split .first) (mapOf m) level (b / productOf (split .rest)) .out)
+          (partsOf t (split .rest) (mapOf m) level (b % productOf (split .rest)) .out)
 
-    module _ (next n : ℕ) (ends : (e : Expr) (q : ℕ) → At e (varsOf bs) bs p q → next ≡ q) (counted : CountsAll bs next (many - 1) false 1 n) where
-      after-first : AllAt (split .rest) (varsOf bs) bs next (h .end)
-      after-first = subst (λ i. AllAt (split .rest) (varsOf bs) bs i (h .end)) (sym (ends (split .first) (split .middle) (split .before))) (split .after)
+      module _ (next n : ℕ) (ends : (e : Expr) (q : ℕ) → At e (varsOf bs) bs p q → next ≡ q) (counted : CountsAll bs next (many - 1) false 1 n) where
+        after-first : AllAt (split .rest) (varsOf bs) bs next (h .end)
+        after-first =
+            subst (λ i. AllAt (split .rest) (varsOf bs) bs i (h .end)) (sym (ends (split .first) (split .middle) (split .before))) (split .after)
 
-      count-is : n ≡ capped (joined false 1 (productOf (split .rest)))
-      count-is = counted .1 (split .rest) (h .end) after-first (split .many)
+        count-is : n ≡ capped (joined false 1 (productOf (split .rest)))
+        count-is = counted .1 (split .rest) (h .end) after-first (split .many)
 
-      pub count-some : 1 ≤ n
-      count-some = capped-some b (productOf (split .rest)) n (h .low) rest-some count-is
+        pub count-some : 1 ≤ n
+        count-some = capped-some b (productOf (split .rest)) n (h .low) rest-some count-is
 
-      quotient : b / n ≡ b / productOf (split .rest)
-      quotient = capped-div b (productOf (split .rest)) n (h .low) rest-some count-is
+        quotient : b / n ≡ b / productOf (split .rest)
+        quotient = capped-div b (productOf (split .rest)) n (h .low) rest-some count-is
 
-      remainder : b % n ≡ b % productOf (split .rest)
-      remainder = capped-mod b (productOf (split .rest)) n (h .low) rest-some count-is
+        remainder : b % n ≡ b % productOf (split .rest)
+        remainder = capped-mod b (productOf (split .rest)) n (h .low) rest-some count-is
 
-      first-some : b / n < countOf (split .first)
-      first-some = subst (λ i. i < countOf (split .first)) (sym quotient) (div-lt-iff-lt-mul rest-some .1 low-product)
+        first-some : b / n < countOf (split .first)
+        first-some = subst (λ i. i < countOf (split .first)) (sym quotient) (div-lt-iff-lt-mul rest-some .1 low-product)
 
-      pub route-first : Route bs p left m (b / n) t level to room
-      route-first = record {
-        tree = split .first;
-        end = split .middle;
-        bound = h .bound;
-        at = split .before;
-        few = omega (arith, nodes, h .few);
-        fitting = &&-left (fits (split .first) (headsOf bs) (m .height)) (allFit (split .rest) (headsOf bs) (m .height)) all-fit;
-        reaches = &&-left (reach (split .first) (h .bound)) (reachAll (split .rest) (h .bound)) all-reach;
-        carried = h .carried;
-        low = le-trans (div-le-self b n) (h .low);
-        some = first-some;
-        fits-room = subst (λ i. to + length (partOf t (split .first) (mapOf m) level i .out) ≤ room) (sym quotient) (omega (arith, h .fits-room, both-long));
-      }
+        pub route-first : Route bs p left m (b / n) t level to room
+        route-first = record {
+          tree = split .first;
+          end = split .middle;
+          bound = h .bound;
+          at = split .before;
+          few = omega (arith, nodes, h .few);
+          fitting = &&-left (fits (split .first) (headsOf bs) (m .height)) (allFit (split .rest) (headsOf bs) (m .height)) all-fit;
+          reaches = &&-left (reach (split .first) (h .bound)) (reachAll (split .rest) (h .bound)) all-reach;
+          carried = h .carried;
+          low = le-trans (div-le-self b n) (h .low);
+          some = first-some;
+          fits-room =
+              subst (λ i. to + length (partOf t (split .first) (mapOf m) level i .out) ≤ room) (sym quotient) (omega (arith, h .fits-room, both-long));
+        }
 
-      module _ (dry : Bool) (pen after : Pen) (out out′ : List ℕ) (from : pen .to ≡ to) (followed : Follows bs p m (b / n) t level dry pen out out′ after) where
-        wrote : Wrote dry pen out out′ after (partOf t (split .first) (mapOf m) level (b / n))
-        wrote = followed (split .first) (split .middle) (split .before) first-some
+        module _ (dry : Bool) (pen after : Pen) (out out′ : List ℕ) (from : pen .to ≡ to)
+            (followed : Follows bs p m (b / n) t level dry pen out out′ after) where
+          wrote : Wrote dry pen out out′ after (partOf t (split .first) (mapOf m) level (b / n))
+          wrote = followed (split .first) (split .middle) (split .before) first-some
 
-        pub followed-things : pen .things ≤ pen .to → after .things ≤ after .to
-        followed-things low =
-            things-low dry pen out (partOf t (split .first) (mapOf m) level (b / n)) wrote low (part-things t (split .first) (mapOf m) level (b / n))
+          pub followed-things : pen .things ≤ pen .to → after .things ≤ after .to
+          followed-things low =
+              things-low dry pen out (partOf t (split .first) (mapOf m) level (b / n)) wrote low (part-things t (split .first) (mapOf m) level (b / n))
 
-        route-rest : RouteAll bs next left (many - 1) m (b % n) t level (after .to) room
-        route-rest =
-            let to-is = ap (λ z. z .to) (wrote .pen-is) in
-            let first-long = ap (λ i. length (partOf t (split .first) (mapOf m) level i .out)) quotient in
-            record {
-              trees = split .rest;
-              end = h .end;
-              bound = h .bound;
-              at = after-first;
-              few = omega (arith, nodes, h .few);
-              count = split .many;
-              fitting = &&-right (fits (split .first) (headsOf bs) (m .height)) (allFit (split .rest) (headsOf bs) (m .height)) all-fit;
-              reaches = &&-right (reach (split .first) (h .bound)) (reachAll (split .rest) (h .bound)) all-reach;
-              carried = h .carried;
-              low = le-trans (mod-le b n) (h .low);
-              some = subst (λ i. i < productOf (split .rest)) (sym remainder) (mod-lt b rest-some);
-              fits-room = subst (λ i. after .to + length (partsOf t (split .rest) (mapOf m) level i .out) ≤ room) (sym remainder) (omega (arith, h .fits-room, both-long));
-            }
+          route-rest : RouteAll bs next left (many - 1) m (b % n) t level (after .to) room
+          route-rest =
+              let to-is = ap (λ z. z .to) (wrote .pen-is) in
+              let first-long = ap (λ i. length (partOf t (split .first) (mapOf m) level i .out)) quotient in
+              record {
+                trees = split .rest;
+                end = h .end;
+                bound = h .bound;
+                at = after-first;
+                few = omega (arith, nodes, h .few);
+                count = split .many;
+                fitting = &&-right (fits (split .first) (headsOf bs) (m .height)) (allFit (split .rest) (headsOf bs) (m .height)) all-fit;
+                reaches = &&-right (reach (split .first) (h .bound)) (reachAll (split .rest) (h .bound)) all-reach;
+                carried = h .carried;
+                low = le-trans (mod-le b n) (h .low);
+                some = subst (λ i. i < productOf (split .rest)) (sym remainder) (mod-lt b rest-some);
+                fits-room =
+                    subst (λ i. after .to + length (partsOf t (split .rest) (mapOf m) level i .out) ≤ room) (sym remainder)
+                    (omega (arith, h .fits-room, both-long));
+              }
 
-        pub route-next : room ≡ roomOf dry out → RouteAll bs next left (many - 1) m (b % n) t level (after .to) (roomOf dry out′)
-        route-next e =
-            subst (RouteAll bs next left (many - 1) m (b % n) t level (after .to)) (e ∙ sym (room-same dry pen out (partOf t (split .first) (mapOf m) level (b / n)) wrote)) route-rest
+          pub route-next : room ≡ roomOf dry out → RouteAll bs next left (many - 1) m (b % n) t level (after .to) (roomOf dry out′)
+          route-next e =
+              subst (RouteAll bs next left (many - 1) m (b % n) t level (after .to))
+              (e ∙ sym (room-same dry pen out (partOf t (split .first) (mapOf m) level (b / n)) wrote)) route-rest
 
 -- ---- the ways through the walk
 
@@ -416,7 +440,8 @@ module _ (bs : List ℕ) (p : ℕ) (m : Map) (b : ℕ) (t : Bool) (level : ℕ) 
   module _ (k : ℕ) (long : k ≡ nodeLen bs p) where
     module _ (n : ℕ) (many : (nd : Node) (q : ℕ) → node (varsOf bs) bs p ≡ got nd q → n ≡ arity nd) where
       -- a case: the branch of the child that it picks
-      pub case-way : (r : Chosen) {out′ : List ℕ} {z : Pen} → natAbs (field bs p) ≡ 6 → Picks bs (p + k) n b r → Follows bs (r .at) m (r .b) t level dry pen out out′ z →
+      pub case-way : (r : Chosen) {out′ : List ℕ} {z : Pen} → natAbs (field bs p) ≡ 6 → Picks bs (p + k) n b r →
+          Follows bs (r .at) m (r .b) t level dry pen out out′ z →
           Follows bs p m b t level dry pen out out′ z
       case-way r {out′} {z} six picks followed e q h lt =
           let x = at-kase (varsOf bs) bs e p q h (code-field bs p e q 6 h six) in
@@ -426,7 +451,8 @@ module _ (bs : List ℕ) (p : ℕ) (m : Map) (b : ℕ) (t : Bool) (level : ℕ) 
           let count = ap (λ f. branchCount (childrenOf f)) (sym (x .is)) ∙ children-counted (varsOf bs) bs p k n long many e q h in
           let found = picks es q below count some in
           let kept = pick-kept es b some in
-          let part = ap (partOf t (pick es b .child) (mapOf m) level) (found .branch) ∙ sym (kept .part-is t (mapOf m) level) ∙ sym (parted es (x .is)) in
+          let part =
+          ap (partOf t (pick es b .child) (mapOf m) level) (found .branch) ∙ sym (kept .part-is t (mapOf m) level) ∙ sym (parted es (x .is)) in
           subst (Wrote dry pen out out′ z) part
           (followed (pick es b .child) (found .end) (found .at) (omega (arith, found .branch, kept .some)))
         where
@@ -438,7 +464,8 @@ module _ (bs : List ℕ) (p : ℕ) (m : Map) (b : ℕ) (t : Bool) (level : ℕ) 
 
       -- any other node: its own part, and then its operands'
       pub node-way : (l : ℕ) {a out′ : List ℕ} {y z : Pen} → (natAbs (field bs p) ≡ 6 → ⊥) → (natAbs (field bs p) ≡ 8 → ⊥) →
-          ((nd : Node) → codeOf nd ≡ natAbs (field bs p) → l ≡ levelBelow nd level) → Visits bs p m t level dry pen out a y → FollowsAll bs (p + k) n m b t l dry y a out′ z →
+          ((nd : Node) → codeOf nd ≡ natAbs (field bs p) → l ≡ levelBelow nd level) → Visits bs p m t level dry pen out a y →
+          FollowsAll bs (p + k) n m b t l dry y a out′ z →
           Follows bs p m b t level dry pen out out′ z
       node-way l {a} {out′} {y} {z} six eight level-is visited followed e q h lt =
           let c = coded-as e q h in
@@ -446,10 +473,13 @@ module _ (bs : List ℕ) (p : ℕ) (m : Map) (b : ℕ) (t : Bool) (level : ℕ) 
           let no-dep : codeNumber e ≡ 8 → ⊥ = λ i. eight (c ∙ i) in
           let own-part = own t (nodeOf e) (mapOf m) level in
           let first = visited (nodeOf e) (p + nodeLen bs p) (at-got (varsOf bs) bs e p q h) in
-          let rest = followed (childrenOf e) q (children-at (varsOf bs) bs p k n long many e q h) (children-counted (varsOf bs) bs p k n long many e q h)
+          let rest =
+          followed (childrenOf e) q (children-at (varsOf bs) bs p k n long many e q h) (children-counted (varsOf bs) bs p k n long many e q h)
           (subst (λ i. b < i) (count-operands e no-case) lt) in
           let both = wrote-then dry pen out own-part (partsOf t (childrenOf e) (mapOf m) l b) first rest in
-          let same = ap (λ i. beside own-part (partsOf t (childrenOf e) (mapOf m) i b)) (level-is (nodeOf e) (sym c)) ∙ sym (part-children t e (mapOf m) level b no-case no-dep) in
+          let same =
+          ap (λ i. beside own-part (partsOf t (childrenOf e) (mapOf m) i b)) (level-is (nodeOf e) (sym c))
+          ∙ sym (part-children t e (mapOf m) level b no-case no-dep) in
           subst (Wrote dry pen out out′ z) same both
 
     -- a dependence: the child's branch, with the maps composed
@@ -477,8 +507,10 @@ module _ (bs : List ℕ) (p : ℕ) (m : Map) (b : ℕ) (t : Bool) (level : ℕ) 
       parted i = unfold partsOf in ap (λ f. partsOf t f (mapOf m) level b) (sym i)
 
   -- the first operand, and then the others from where it ends
-  pub more-way : (many next n : ℕ) {a out′ : List ℕ} {y z : Pen} → 1 ≤ many → b ≤ 64 → ((e : Expr) (q : ℕ) → At e (varsOf bs) bs p q → next ≡ q) → CountsAll bs next (many - 1) false 1 n →
-      Follows bs p m (b / n) t level dry pen out a y → FollowsAll bs next (many - 1) m (b % n) t level dry y a out′ z → FollowsAll bs p many m b t level dry pen out out′ z
+  pub more-way : (many next n : ℕ) {a out′ : List ℕ} {y z : Pen} → 1 ≤ many → b ≤ 64 → ((e : Expr) (q : ℕ) → At e (varsOf bs) bs p q → next ≡ q) →
+      CountsAll bs next (many - 1) false 1 n →
+      Follows bs p m (b / n) t level dry pen out a y → FollowsAll bs next (many - 1) m (b % n) t level dry y a out′ z →
+      FollowsAll bs p many m b t level dry pen out out′ z
   more-way many next n {a} {out′} {y} {z} some low ends counted first rest es q h c lt =
       let x = one-more (varsOf bs) bs es p q many some h c in
       let e = x .first in

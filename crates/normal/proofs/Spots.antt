@@ -65,7 +65,8 @@ binary-again (suc (suc (suc (suc (suc (suc (suc (suc (suc (suc (suc (suc (suc (s
 
 module _ (bs : List ℕ) (p : ℕ) where
   -- by what the two fields say
-  head-by : (code : ℕ) (x : ℤ) → field bs p ≡ pos code → field bs (p + 8) ≡ x → headBytes bs p ≡ ifb (eqb code 5) (λ _. nat code) (λ _. nat code ++ num x)
+  head-by : (code : ℕ) (x : ℤ) → field bs p ≡ pos code → field bs (p + 8) ≡ x →
+      headBytes bs p ≡ ifb (eqb code 5) (λ _. nat code) (λ _. nat code ++ num x)
   head-by code x c e = ap₂ (λ y z. ifb (eqb (natAbs y) 5) (λ _. nat (natAbs y)) (λ _. nat (natAbs y) ++ num z)) c e
 
   -- a node's own fields
@@ -87,10 +88,12 @@ module _ (bs : List ℕ) (p : ℕ) where
   head-is vars (nBool b) h l = sym (head-by 2 (pos b) (h .code) (h .fields .field-is))
   head-is vars (nUnary o) h l =
       let k = natAbs (field bs (p + 8)) in
-      ap (λ i. nat 3 ++ nat i) (ap unaryCode (h .fields .is) ∙ unary-again k (h .fields .high)) ∙ sym (head-by 3 (pos k) (h .code) (h .fields .field-is))
+      ap (λ i. nat 3 ++ nat i) (ap unaryCode (h .fields .is) ∙ unary-again k (h .fields .high))
+      ∙ sym (head-by 3 (pos k) (h .code) (h .fields .field-is))
   head-is vars (nBinary o) h l =
       let k = natAbs (field bs (p + 8)) in
-      ap (λ i. nat 4 ++ nat i) (ap binaryCode (h .fields .is) ∙ binary-again k (h .fields .high)) ∙ sym (head-by 4 (pos k) (h .code) (h .fields .field-is))
+      ap (λ i. nat 4 ++ nat i) (ap binaryCode (h .fields .is) ∙ binary-again k (h .fields .high))
+      ∙ sym (head-by 4 (pos k) (h .code) (h .fields .field-is))
   head-is vars nIf h l = sym (head-by 5 (field bs (p + 8)) (h .code) refl)
   head-is vars (nCase n) h l = absurd (omega arith)
   head-is vars (nRestr d cs) h l = absurd (omega arith)
@@ -150,13 +153,15 @@ no-bytes (x ∷ l) e = absurd (omega arith)
 map-long : (m : Map) → length (mapBytes (mapOf m)) ≡ 24 + m .height * (8 * m .width + 8)
 map-long m =
     length-append (nat 8 ++ nat (m .width) ++ nat (length (mapOf m .rows))) (flat (map rowBytes (mapOf m .rows)))
-    ∙ ap₂ _+_ (three-long 8 (m .width) (length (mapOf m .rows))) (rows-long (m .width) (mapOf m .rows) (map-wide m) ∙ ap (λ n. n * (8 * m .width + 8)) (map-high m))
+    ∙ ap₂ _+_ (three-long 8 (m .width) (length (mapOf m .rows)))
+    (rows-long (m .width) (mapOf m .rows) (map-wide m) ∙ ap (λ n. n * (8 * m .width + 8)) (map-high m))
 
 leaf-long : (m : Map) (a b : List ℕ) → length a ≡ 8 → length b ≡ 8 → length (mapBytes (mapOf m) ++ (a ++ b)) ≡ 40 + m .height * (8 * m .width + 8)
 leaf-long m a b x y = length-append (mapBytes (mapOf m)) (a ++ b) ∙ omega (arith, map-long m, length-append a b)
 
 module _ (m : Map) (level : ℕ) where
-  pub leaf-moves : (nd : Node) → codeOf nd < 3 → record { to = 40 + m .height * (8 * m .width + 8); things = 2; deep = level + 2 } ≡ moves (ofTree nd (mapOf m) level)
+  pub leaf-moves : (nd : Node) → codeOf nd < 3 → record { to = 40 + m .height * (8 * m .width + 8); things = 2; deep = level + 2 }
+      ≡ moves (ofTree nd (mapOf m) level)
   unfolding bytes
   leaf-moves (nVar v) l = ap (λ n. record { to = n; things = 2; deep = level + 2 }) (sym (leaf-long m (nat 0) (nat v) (length-nat 0) (length-nat v)))
   leaf-moves (nInt c) l = ap (λ n. record { to = n; things = 2; deep = level + 2 }) (sym (leaf-long m (nat 1) (num c) (length-nat 1) (length-num c)))
@@ -208,7 +213,8 @@ module _ (bs : List ℕ) (p vars : ℕ) (nd : Node) (h : NodeAt vars bs p nd) wh
   code-is = ap natAbs (h .code)
 
   limits-are : (nd : Node) → NodeAt vars bs p nd → codeOf nd ≡ 7 →
-      (givenBy nd ≡ constraintsFields (natAbs (field bs (p + 16))) (natAbs (field bs (p + 8))) bs (p + 24)) × (length (givenBy nd) ≡ natAbs (field bs (p + 16)))
+      (givenBy nd ≡ constraintsFields (natAbs (field bs (p + 16))) (natAbs (field bs (p + 8))) bs (p + 24))
+      × (length (givenBy nd) ≡ natAbs (field bs (p + 16)))
   limits-are (nVar v) h e = absurd (omega arith)
   limits-are (nInt c) h e = absurd (omega arith)
   limits-are (nBool b) h e = absurd (omega arith)
@@ -229,7 +235,8 @@ module _ (bs : List ℕ) (p vars : ℕ) (nd : Node) (h : NodeAt vars bs p nd) wh
         constraints-long (m .width) (map (constraintAfter (mapOf m)) (givenBy nd)) (constraints-after-wide (mapOf m) (givenBy nd) (map-wide m))
         ∙ ap (λ n. n * (16 + 8 * m .width)) (length-map (givenBy nd) (constraintAfter (mapOf m)) ∙ limits-are nd h (sym code-is ∙ seven) .1)
 
-    pub limits-moves : (k : ℕ) → k ≡ natAbs (field bs (p + 16)) → record { to = k * (16 + 8 * m .width); things = k; deep = 0 } ≡ moves (own false nd (mapOf m) 0)
+    pub limits-moves : (k : ℕ) → k ≡ natAbs (field bs (p + 16)) →
+        record { to = k * (16 + 8 * m .width); things = k; deep = 0 } ≡ moves (own false nd (mapOf m) 0)
     limits-moves k e =
         ap (λ n. record { to = n * (16 + 8 * m .width); things = n; deep = 0 }) e
         ∙ ap₂ (λ x y. record { to = x; things = y; deep = 0 }) (sym limits-long) (sym (limits-are nd h (sym code-is ∙ seven) .1))
@@ -287,10 +294,14 @@ room-high false out = omega arith
 
 module _ (bs : List ℕ) (p : ℕ) where
   pub head-if : natAbs (field bs p) ≡ 5 → nat (natAbs (field bs p)) ≡ headBytes bs p
-  head-if e = ap (λ t. ifb t (λ _. nat (natAbs (field bs p))) (λ _. nat (natAbs (field bs p)) ++ num (field bs (p + 8)))) (sym (eq-eqb (natAbs (field bs p)) 5 e))
+  head-if e =
+      ap (λ t. ifb t (λ _. nat (natAbs (field bs p))) (λ _. nat (natAbs (field bs p)) ++ num (field bs (p + 8))))
+      (sym (eq-eqb (natAbs (field bs p)) 5 e))
 
   pub head-other : (natAbs (field bs p) ≡ 5 → ⊥) → nat (natAbs (field bs p)) ++ num (field bs (p + 8)) ≡ headBytes bs p
-  head-other e = ap (λ t. ifb t (λ _. nat (natAbs (field bs p))) (λ _. nat (natAbs (field bs p)) ++ num (field bs (p + 8)))) (sym (ne-eqb (natAbs (field bs p)) 5 e))
+  head-other e =
+      ap (λ t. ifb t (λ _. nat (natAbs (field bs p))) (λ _. nat (natAbs (field bs p)) ++ num (field bs (p + 8))))
+      (sym (ne-eqb (natAbs (field bs p)) 5 e))
 
   pub head-other-long : (natAbs (field bs p) ≡ 5 → ⊥) → length (headBytes bs p) ≡ 16
   head-other-long e =
@@ -318,7 +329,8 @@ module _ (bs : List ℕ) (p : ℕ) where
         sets-after out to (24 + m .height * (8 * m .width + 8)) (mapBytes (mapOf m)) (headBytes bs p) (map-long m) first second
         ∙ ap (sets out to) (sym (leaf-out bs p (mapOf m) (varsOf bs) nd (node-of nd q read) (omega arith)))
 
-    pub operator-stores : (to : ℕ) (out : List ℕ) {a : List ℕ} → 3 ≤ natAbs (field bs p) → natAbs (field bs p) ≤ 5 → a ≡ sets out to (headBytes bs p) → Stores bs p m true to out a
+    pub operator-stores : (to : ℕ) (out : List ℕ) {a : List ℕ} → 3 ≤ natAbs (field bs p) → natAbs (field bs p) ≤ 5 →
+        a ≡ sets out to (headBytes bs p) → Stores bs p m true to out a
     operator-stores to out low high first nd q read =
         let c = coded nd q read in
         first ∙ ap (sets out to) (sym (operator-out bs p (mapOf m) (varsOf bs) nd (node-of nd q read) (omega arith) (omega arith)))
@@ -326,18 +338,22 @@ module _ (bs : List ℕ) (p : ℕ) where
     pub other-limits-stores : (to : ℕ) (out : List ℕ) → (natAbs (field bs p) ≡ 7 → ⊥) → Stores bs p m false to out out
     other-limits-stores to out other nd q read = ap (λ z. sets out to (z .out)) (sym (other-limits bs p (varsOf bs) nd (node-of nd q read) m other))
 
-    pub limits-stores : (to k n : ℕ) (out : List ℕ) {a : List ℕ} → natAbs (field bs p) ≡ 7 → k ≡ natAbs (field bs (p + 16)) → n ≡ natAbs (field bs (p + 8)) →
+    pub limits-stores : (to k n : ℕ) (out : List ℕ) {a : List ℕ} → natAbs (field bs p) ≡ 7 → k ≡ natAbs (field bs (p + 16)) →
+        n ≡ natAbs (field bs (p + 8)) →
         a ≡ sets out to (limitBytes m k n bs (p + 24)) → Stores bs p m false to out a
     limits-stores to k n out seven many dim first nd q read =
-        first ∙ ap₂ (λ i j. sets out to (limitBytes m i j bs (p + 24))) many dim ∙ ap (sets out to) (sym (limits-out bs p (varsOf bs) nd (node-of nd q read) m seven))
+        first ∙ ap₂ (λ i j. sets out to (limitBytes m i j bs (p + 24))) many dim
+        ∙ ap (sets out to) (sym (limits-out bs p (varsOf bs) nd (node-of nd q read) m seven))
 
     pub other-sizes : (natAbs (field bs p) ≡ 7 → ⊥) → Sizes bs p m false 0 (record { to = 0; things = 0; deep = 0 })
     other-sizes other nd q read = ap moves (sym (other-limits bs p (varsOf bs) nd (node-of nd q read) m other))
 
-    pub limits-sizes : (k : ℕ) → natAbs (field bs p) ≡ 7 → k ≡ natAbs (field bs (p + 16)) → Sizes bs p m false 0 (record { to = k * (16 + 8 * m .width); things = k; deep = 0 })
+    pub limits-sizes : (k : ℕ) → natAbs (field bs p) ≡ 7 → k ≡ natAbs (field bs (p + 16)) →
+        Sizes bs p m false 0 (record { to = k * (16 + 8 * m .width); things = k; deep = 0 })
     limits-sizes k seven e nd q read = limits-moves bs p (varsOf bs) nd (node-of nd q read) m seven k e
 
-    pub tree-sizes : (code level : ℕ) (r : Pen) → code ≡ natAbs (field bs p) → ((nd : Node) → codeOf nd ≡ code → r ≡ moves (ofTree nd (mapOf m) level)) → Sizes bs p m true level r
+    pub tree-sizes : (code level : ℕ) (r : Pen) → code ≡ natAbs (field bs p) →
+        ((nd : Node) → codeOf nd ≡ code → r ≡ moves (ofTree nd (mapOf m) level)) → Sizes bs p m true level r
     tree-sizes code level r is h nd q read = h nd (sym (is ∙ coded nd q read))
 
     -- room for each part of a leaf, and for the constraints
@@ -351,7 +367,11 @@ module _ (bs : List ℕ) (p : ℕ) where
       pub operator-room : Spot bs p m true to room → 3 ≤ natAbs (field bs p) → natAbs (field bs p) ≤ 5 → to + length (headBytes bs p) ≤ room
       operator-room h low high =
           let c = coded (h .what) (h .next) (h .read) in
-          omega (arith, h .fits-room, ap length (operator-out bs p (mapOf m) (varsOf bs) (h .what) (node-of (h .what) (h .next) (h .read)) (omega arith) (omega arith)))
+          omega (
+            arith,
+            h .fits-room,
+            ap length (operator-out bs p (mapOf m) (varsOf bs) (h .what) (node-of (h .what) (h .next) (h .read)) (omega arith) (omega arith)),
+          )
 
       pub limits-room : Spot bs p m false to room → natAbs (field bs p) ≡ 7 → to + natAbs (field bs (p + 16)) * (16 + 8 * m .width) ≤ room
       limits-room h seven = omega (arith, h .fits-room, limits-long bs p (varsOf bs) (h .what) (node-of (h .what) (h .next) (h .read)) m seven)
@@ -370,17 +390,21 @@ module _ (bs : List ℕ) (p : ℕ) where
           let high = room-high dry out in
           (omega (arith, h .fits-room), omega (arith, h .fits-room))
 
-      pub visit-is : (dry : Bool) (out out′ : List ℕ) (r : Pen) → r ≡ record { to = pen .to + size .to; things = pen .things + size .things; deep = max (pen .deep) (size .deep) } →
-          ((nd : Node) (q : ℕ) → node (varsOf bs) bs p ≡ got nd q → out′ ≡ laid dry out (pen .to) (own t nd (mapOf m) 0 .out)) → Visits bs p m t level dry pen out out′ r
+      pub visit-is : (dry : Bool) (out out′ : List ℕ) (r : Pen) →
+          r ≡ record { to = pen .to + size .to; things = pen .things + size .things; deep = max (pen .deep) (size .deep) } →
+          ((nd : Node) (q : ℕ) → node (varsOf bs) bs p ≡ got nd q → out′ ≡ laid dry out (pen .to) (own t nd (mapOf m) 0 .out)) →
+          Visits bs p m t level dry pen out out′ r
       visit-is dry out out′ r moved stored nd q read = record {
-        pen-is = moved ∙ ap (λ z. record { to = pen .to + z .to; things = pen .things + z .things; deep = max (pen .deep) (z .deep) }) (sized nd q read);
+        pen-is =
+            moved ∙ ap (λ z. record { to = pen .to + z .to; things = pen .things + z .things; deep = max (pen .deep) (z .deep) }) (sized nd q read);
         out-is = stored nd q read ∙ ap (laid dry out (pen .to)) (sym (own-out t nd (mapOf m) level));
       }
 
 pub noded : (bs : List ℕ) (p : ℕ) (m : Map) (t : Bool) (to room : ℕ) → Spot bs p m t to room → Noded (varsOf bs) bs p
 noded bs p m t to room h = record { what = h .what; next = h .next; read = h .read }
 
-pub stores-as : (bs : List ℕ) (p : ℕ) (m : Map) (to : ℕ) (out : List ℕ) {t u : Bool} {out′ : List ℕ} → t ≡ u → Stores bs p m u to out out′ → Stores bs p m t to out out′
+pub stores-as : (bs : List ℕ) (p : ℕ) (m : Map) (to : ℕ) (out : List ℕ) {t u : Bool} {out′ : List ℕ} → t ≡ u → Stores bs p m u to out out′ →
+    Stores bs p m t to out out′
 stores-as bs p m to out e h nd q read = h nd q read ∙ ap (λ x. sets out to (own x nd (mapOf m) 0 .out)) (sym e)
 
 module _ (bs : List ℕ) (p : ℕ) (m : Map) (t dry : Bool) (to : ℕ) (out : List ℕ) where

@@ -29,7 +29,8 @@ branches-many : (n : ℕ) (xs : List Branch) → branchCount (asExprs n xs) ≡ 
 branches-many n [] = refl
 branches-many n (x ∷ xs) = ap suc (branches-many n xs)
 
-module _ (bs tab : List ℕ) (v : ℕ) (h : Writes bs tab v) (at n : ℕ) (place : at ≡ getD tab (69 + v) 0) (dim : n ≡ dimension (headsOf bs) v) (many : ℕ) (counted : Counts bs at many) where
+module _ (bs tab : List ℕ) (v : ℕ) (h : Writes bs tab v) (at n : ℕ) (place : at ≡ getD tab (69 + v) 0) (dim : n ≡ dimension (headsOf bs) v) (many : ℕ)
+    (counted : Counts bs at many) where
   x : List Branch
   x = branchesOf (sheetOf bs) (variable (sheetOf bs) v)
 
@@ -56,11 +57,13 @@ module _ (bs tab : List ℕ) (v : ℕ) (h : Writes bs tab v) (at n : ℕ) (place
   here : IsBody bs at n many (variable (sheetOf bs) v .body)
   here = body-is bs tab (h .formed) v (h .known) (h .body) at n place dim many counted few-branches
 
-  pub body-stored : (l : List ℕ) (to : ℕ) {a b d : List ℕ} {r : ℕ} → a ≡ sets l to (nat 6) → b ≡ sets a (to + 8) (nat many) → StoresFrom bs at n many 0 (to + 16) b d r → Stored (bodyOf bs v) to l d r
+  pub body-stored : (l : List ℕ) (to : ℕ) {a b d : List ℕ} {r : ℕ} → a ≡ sets l to (nat 6) → b ≡ sets a (to + 8) (nat many) →
+      StoresFrom bs at n many 0 (to + 16) b d r → Stored (bodyOf bs v) to l d r
   body-stored l to first second rest =
       let tail = allBytes (asExprs n (branchesIn bs (variable (sheetOf bs) v .body))) in
       let stored = rest (variable (sheetOf bs) v .body) here in (
-        sets-after l to 16 (nat 6 ++ nat many) tail (two-long 6 many) (sets-after l to 8 (nat 6) (nat many) (length-nat 6) first second) (stored .0) ∙ ap (sets l to) (sym body-cut),
+        sets-after l to 16 (nat 6 ++ nat many) tail (two-long 6 many) (sets-after l to 8 (nat 6) (nat many) (length-nat 6) first second) (stored .0)
+            ∙ ap (sets l to) (sym body-cut),
         omega (arith, stored .1, body-long),
       )
 
@@ -68,7 +71,8 @@ module _ (bs tab : List ℕ) (v : ℕ) (h : Writes bs tab v) (at n : ℕ) (place
   head-room l to room = (omega (arith, room, body-long), omega (arith, room, body-long))
 
   -- room for all of its branches, whatever tree the code may take it for
-  pub branch-rooms : (l b : List ℕ) (to : ℕ) → length b ≡ length l → Room (bodyOf bs v) to l → RoomFrom bs at n many 0 (to + 16) (min (2 ^ 40) (length b))
+  pub branch-rooms : (l b : List ℕ) (to : ℕ) → length b ≡ length l → Room (bodyOf bs v) to l →
+      RoomFrom bs at n many 0 (to + 16) (min (2 ^ 40) (length b))
   branch-rooms l b to same room e i =
       let one = at-unique (varsOf bs) bs at e (variable (sheetOf bs) v .body) (i .end) (here .end) (i .at) (here .at) .tree-is in
       let long = ap (λ t. length (allBytes (asExprs n (branchesIn bs t)))) one in
@@ -112,14 +116,17 @@ module _ (bs tab : List ℕ) (v : ℕ) (h : WritesFrom bs tab v) where
       pub body-room : (l : List ℕ) (to : ℕ) → Room (bodiesFrom bs v) to l → Room (bodyOf bs v) to l
       body-room l to room = omega (arith, room, long)
 
-      pub rest-room : (l a : List ℕ) (to next : ℕ) → Room (bodiesFrom bs v) to l → Stored (bodyOf bs v) to l a next → Room (bodiesFrom bs (v + 1)) next a
+      pub rest-room : (l a : List ℕ) (to next : ℕ) → Room (bodiesFrom bs v) to l → Stored (bodyOf bs v) to l a next →
+          Room (bodiesFrom bs (v + 1)) next a
       rest-room l a to next room stored =
           let same = ap length (stored .0) ∙ length-sets l to (bodyOf bs v) in
           omega (arith, room, long, stored .1)
 
-      pub more-stored : (l : List ℕ) (to next : ℕ) {a d : List ℕ} {r : ℕ} → Stored (bodyOf bs v) to l a next → Stored (bodiesFrom bs (v + 1)) next a d r → Stored (bodiesFrom bs v) to l d r
+      pub more-stored : (l : List ℕ) (to next : ℕ) {a d : List ℕ} {r : ℕ} → Stored (bodyOf bs v) to l a next →
+          Stored (bodiesFrom bs (v + 1)) next a d r → Stored (bodiesFrom bs v) to l d r
       more-stored l to next {a} first rest = (
-        sets-after l to (length (bodyOf bs v)) (bodyOf bs v) (bodiesFrom bs (v + 1)) refl (first .0) (rest .0 ∙ ap (λ k. sets a k (bodiesFrom bs (v + 1))) (first .1))
+        sets-after l to (length (bodyOf bs v)) (bodyOf bs v) (bodiesFrom bs (v + 1)) refl (first .0)
+            (rest .0 ∙ ap (λ k. sets a k (bodiesFrom bs (v + 1))) (first .1))
             ∙ ap (sets l to) (sym cut),
         omega (arith, first .1, rest .1, long),
       )

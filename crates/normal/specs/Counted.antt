@@ -17,7 +17,8 @@ Counts bs p r = (r ≤ 65) × ((e : Expr) (q : ℕ) → At e (varsOf bs) bs p q 
 -- r is that of so many trees from p on, after others of which there are `sofar`
 abbrev pub CountsAll : List ℕ → ℕ → ℕ → Bool → ℕ → ℕ → Type 0
 CountsAll bs p many branches sofar r =
-    (r ≤ 65) × ((es : Exprs) (q : ℕ) → AllAt es (varsOf bs) bs p q → branchCount es ≡ many → r ≡ capped (joined branches sofar (countsOf branches es)))
+    (r ≤ 65) × ((es : Exprs) (q : ℕ) → AllAt es (varsOf bs) bs p q → branchCount es ≡ many →
+    r ≡ capped (joined branches sofar (countsOf branches es)))
 
 -- r is where the tree at p ends, and where so many trees from p on end
 abbrev pub Ends : List ℕ → ℕ → ℕ → Type 0

@@ -20,6 +20,7 @@ use Rattle.alpha.specs.Answer.{accepted}
 use Rattle.alpha.specs.Check.{Element, elements, total, check}
 use Rattle.alpha.specs.Ask.{before, numberOf}
 use Rattle.alpha.specs.Outcome.{Outcome, outside, value, loop, inputsBefore, entry}
+use Rattle.laws.specs.Coded.{decoded}
 use Rattle.laws.specs.Sheets.{sheetOf}
 use Rattle.laws.proofs.Tests.{ifb-true, ifb-false}
 use Rattle.laws.proofs.Boxes.{index-pointAt, pointAt-inBox, readBox-ordered}
@@ -28,7 +29,7 @@ use Rattle.laws.proofs.Growth.{outcome-outside, outcome-input}
 use Rattle.laws.proofs.Checked.{check-accepts}
 use Rattle.domain.specs.Inside.{Inside, bit}
 use Rattle.domain.proofs.Records.{VariableLaid}
-use Rattle.evaluate.specs.Memo.{busy, unknown, Memo, codeAt, valueAt, decoded, sum, busyOne, count, Right, noted}
+use Rattle.evaluate.specs.Memo.{busy, unknown, Memo, codeAt, valueAt, sum, busyOne, count, Right, noted}
 use Rattle.evaluate.specs.Working.{elementAt, outcomes, Bodied, Ready}
 use Rattle.evaluate.specs.Settling.{Idle}
 use Rattle.evaluate.proofs.Stores.{decide, code-same, code-other}

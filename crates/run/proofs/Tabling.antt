@@ -19,8 +19,9 @@ use Rattle.alpha.specs.Check.{total}
 use Rattle.alpha.specs.Ask.{before}
 use Rattle.alpha.specs.Outcome.{Outcome, loop, deepest}
 use Rattle.alpha.specs.Run.{codeOf, valueOf, outcomeAt}
+use Rattle.laws.specs.Coded.{decoded}
 use Rattle.laws.proofs.Tests.{ifb-true, ifb-false}
-use Rattle.evaluate.specs.Memo.{Memo, codeAt, valueAt, decoded, sum, settledOne, count, Right}
+use Rattle.evaluate.specs.Memo.{Memo, codeAt, valueAt, sum, settledOne, count, Right}
 use Rattle.evaluate.specs.Working.{elementAt, outcomes, Ready}
 use Rattle.evaluate.specs.Settling.{Idle, Settled}
 use Rattle.evaluate.proofs.Stores.{decide, later}

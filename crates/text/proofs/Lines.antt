@@ -17,9 +17,10 @@ use Rattle.alpha.specs.Outcome.{Outcome, outside, value, divzero, overflow, loo
 use Rattle.alpha.specs.Run.{codeOf, valueOf, outcomeAt}
 use Rattle.alpha.specs.Written.{flat}
 use Rattle.alpha.specs.Program.{acceptedWord, natText, newline, line, report}
+use Rattle.laws.specs.Coded.{decoded}
 use Rattle.laws.proofs.Elements.{length-points, before-suc, getD-map}
 use Rattle.domain.specs.Element.{elementsAt, elementsOf}
-use Rattle.text.specs.Lines.{outcomeFor, outcomeIn, lineOf, lineIn, linesFrom, reportIn}
+use Rattle.text.specs.Lines.{outcomeIn, lineOf, lineIn, linesFrom, reportIn}
 
 module _ (s : Sheet) (codes : List ℕ) (values : List ℤ) where
   lines-append : (xs ys : List Element) (n : ℕ) →
@@ -62,7 +63,8 @@ module _ (s : Sheet) (codes : List ℕ) (values : List ℤ) where
         let g : suc (before s v + i) ≡ before s v + (i + 1) = omega arith in
         ap (λ k. linesFrom s codes values (before s v + i) (elementsAt v (pointsFrom box i k))) e
         ∙ ap (λ n. lineIn s codes values v i ++ linesFrom s codes values n (elementsAt v (pointsFrom box (suc i) (size box - (i + 1))))) g
-        ∙ ap (λ j. lineIn s codes values v i ++ linesFrom s codes values (before s v + (i + 1)) (elementsAt v (pointsFrom box j (size box - (i + 1))))) f
+        ∙ ap (λ j. lineIn s codes values v i ++ linesFrom s codes values (before s v + (i + 1))
+        (elementsAt v (pointsFrom box j (size box - (i + 1))))) f
 
   -- ---- all variables
 
@@ -77,7 +79,8 @@ module _ (s : Sheet) (codes : List ℕ) (values : List ℤ) where
   pub variables-more : (v : ℕ) → v < length s → variableLines v ≡ linesFrom s codes values (before s v) (elementsOf s v) ++ variableLines (v + 1)
   unfolding elementsFrom
   variables-more v h =
-      let many = length-map {B = Element} (points (variable s v .head .box)) (λ z. record { who = v; at = z }) ∙ length-points (variable s v .head .box) in
+      let many =
+      length-map {B = Element} (points (variable s v .head .box)) (λ z. record { who = v; at = z }) ∙ length-points (variable s v .head .box) in
       let n : before s v + length (elementsOf s v) ≡ before s (suc v) = omega (arith, before-suc s v h, many) in
       let f : suc v ≡ v + 1 = omega arith in
       ap (λ t. linesFrom s codes values (before s v) (elementsFrom v t)) (drop-cons s v noVariable h)
@@ -88,7 +91,7 @@ module _ (s : Sheet) (codes : List ℕ) (values : List ℤ) where
 -- ---- the run's tables
 
 -- an outcome is the one with its code and its value
-outcome-told : (o : Outcome) → outcomeFor (codeOf o) (valueOf o) ≡ o
+outcome-told : (o : Outcome) → decoded (codeOf o) (valueOf o) ≡ o
 outcome-told outside = refl
 outcome-told (value x) = refl
 outcome-told divzero = refl

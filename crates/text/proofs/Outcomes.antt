@@ -13,8 +13,8 @@ use Rattle.alpha.specs.Affine.{isZero}
 use Rattle.alpha.specs.Read.{sortOf}
 use Rattle.alpha.specs.Outcome.{outside, value, divzero, overflow, loop}
 use Rattle.alpha.specs.Program.{intText, valueText, outcomeText, trueWord, falseWord, loopWord}
+use Rattle.laws.specs.Coded.{decoded}
 use Rattle.integer.specs.Range.{In32}
-use Rattle.text.specs.Lines.{outcomeFor}
 use Rattle.text.proofs.Numbers.{intText-length}
 
 -- ---- a value
@@ -44,13 +44,13 @@ value-length boolean x h = go (isZero x)
 
 module _ (t : Sort) (code : ℕ) (x : ℤ) where
   -- by the code that it is
-  pub outcome-coded : (n : ℕ) → code ≡ n → outcomeText t (outcomeFor code x) ≡ outcomeText t (outcomeFor n x)
-  outcome-coded n e = ap (λ k. outcomeText t (outcomeFor k x)) e
+  pub outcome-coded : (n : ℕ) → code ≡ n → outcomeText t (decoded code x) ≡ outcomeText t (decoded n x)
+  outcome-coded n e = ap (λ k. outcomeText t (decoded k x)) e
 
-  pub outcome-other : 4 ≤ code → outcomeText t (outcomeFor code x) ≡ loopWord
+  pub outcome-other : 4 ≤ code → outcomeText t (decoded code x) ≡ loopWord
   outcome-other h = ap (outcomeText t) (List·getD-eq-default (outside ∷ value x ∷ divzero ∷ overflow ∷ []) loop h)
 
-pub outcome-length : (t : Sort) (code : ℕ) (x : ℤ) → In32 x → length (outcomeText t (outcomeFor code x)) ≤ 14
+pub outcome-length : (t : Sort) (code : ℕ) (x : ℤ) → In32 x → length (outcomeText t (decoded code x)) ≤ 14
 outcome-length t zero x h = omega arith
 outcome-length t (suc zero) x h = omega (arith, value-length t x h)
 outcome-length t (suc (suc zero)) x h = omega arith

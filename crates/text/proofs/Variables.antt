@@ -61,15 +61,21 @@ module _ (bs tab : List ℕ) (f : Formed bs tab) (v : ℕ) (lt : v < varsOf bs) 
     abbrev box : List Range
     box = variable (sheetOf bs) v .head .box
 
-    pub laid-point : (n : ℕ) (z : List Int) → n ≡ dimension (headsOf bs) v → PointAt bs (getD tab v 0) i z → spaced (pointOf n z) ≡ spaced (pointAt box i)
+    pub laid-point : (n : ℕ) (z : List Int) → n ≡ dimension (headsOf bs) v → PointAt bs (getD tab v 0) i z →
+        spaced (pointOf n z) ≡ spaced (pointAt box i)
     laid-point n z e at = ap spaced (ap (λ k. pointOf k z) e ∙ point-at bs tab v i laid low z at)
 
     pub laid-length : length (spaced (pointAt box i)) ≤ 28
     laid-length =
         let inside = pointAt-inBox box i (readBox-ordered box (laid .box-read)) low in
         let dims = laid .dims-are ∙ ap (λ h. length (h .box)) (sym (laid .head-is)) in
-        omega
-        (arith, spaced-length (pointAt box i) (λ j. inBox-small box (pointAt box i) j (laid .box-read) inside), length-pointAt box i, dims, laid .recorded .small)
+        omega (
+          arith,
+          spaced-length (pointAt box i) (λ j. inBox-small box (pointAt box i) j (laid .box-read) inside),
+          length-pointAt box i,
+          dims,
+          laid .recorded .small,
+        )
 
     pub laid-number : getD tab (32 + v) 0 + i < 4096
     laid-number = omega (arith, laid .first-is, laid .few)

@@ -9,8 +9,9 @@ use Rattle.alpha.specs.Box.{size, pointAt}
 use Rattle.alpha.specs.Holds.{variable}
 use Rattle.alpha.specs.Check.{Element, elements, total}
 use Rattle.alpha.specs.Ask.{before}
-use Rattle.alpha.specs.Outcome.{Outcome, outside, value, divzero, overflow, loop}
+use Rattle.alpha.specs.Outcome.{Outcome}
 use Rattle.alpha.specs.Program.{acceptedWord, natText, trimmed, spaced, outcomeText, newline}
+use Rattle.laws.specs.Coded.{decoded}
 use Rattle.laws.specs.Sheets.{varsOf, sheetOf}
 
 -- ---- one element
@@ -22,20 +23,16 @@ pub record PointOf (bs : List ℕ) (v n i : ℕ) : Type 0 where
   pub low : i < n
 
 -- the element of variable v at the i-th point of its box
-abbrev pub elementAt : Sheet → ℕ → ℕ → Element
-elementAt s v i = record { who = v; at = pointAt (variable s v .head .box) i }
+abbrev pub elementOf : Sheet → ℕ → ℕ → Element
+elementOf s v i = record { who = v; at = pointAt (variable s v .head .box) i }
 
 -- its name and its coordinates
 abbrev pub elementText : Sheet → Element → List ℕ
 elementText s e = trimmed (variable s (e .who) .head .name) ++ spaced (e .at)
 
--- the outcome with that code and that value: 0 outside, 1 value, 2 DIVZERO, 3 OVERFLOW, 4 LOOP
-abbrev pub outcomeFor : ℕ → ℤ → Outcome
-outcomeFor code x = getD (outside ∷ value x ∷ divzero ∷ overflow ∷ []) code loop
-
 -- the outcome of the element numbered n, by the tables
 abbrev pub outcomeIn : List ℕ → List ℤ → ℕ → Outcome
-outcomeIn codes values n = outcomeFor (getD codes n 0) (getD values n (pos 0))
+outcomeIn codes values n = decoded (getD codes n 0) (getD values n (pos 0))
 
 -- the line of the element e with the outcome o
 unfoldable pub lineOf : Sheet → Element → Outcome → List ℕ
@@ -43,7 +40,7 @@ lineOf s e o = elementText s e ++ outcomeText (variable s (e .who) .head .sort) 
 
 -- the line of the element of variable v at the i-th point of its box, by the tables
 abbrev pub lineIn : Sheet → List ℕ → List ℤ → ℕ → ℕ → List ℕ
-lineIn s codes values v i = lineOf s (elementAt s v i) (outcomeIn codes values (before s v + i))
+lineIn s codes values v i = lineOf s (elementOf s v i) (outcomeIn codes values (before s v + i))
 
 -- ---- several
 

@@ -17,7 +17,7 @@ ghost use Rattle.laws.specs.Sheets.{sheetOf};
 ghost use Rattle.affine.specs.Value.{pointOf};
 ghost use Rattle.tree.specs.Formed.{Formed};
 ghost use Rattle.text.specs.Wrote.{Wrote};
-ghost use Rattle.text.specs.Lines.{PointOf, elementAt, elementText, lineIn};
+ghost use Rattle.text.specs.Lines.{PointOf, elementOf, elementText, lineIn};
 
 // The name at `place` without the zero bytes at its end.
 pub fn name(s: &[u8], place: usize, out: &mut [u8], at: usize) -> usize
@@ -62,7 +62,7 @@ fn element(
     at: usize,
 ) -> usize
     requires { ⌜ Formed (now s) (now tab) × PointOf (now s) v points i × (at + 36 ≤ length (now out)) ⌝ }
-    ensures { λ r. ⌜ Wrote (now (out .entry)) (now (out .exit)) at r (elementText (sheetOf (now (s .entry))) (elementAt (sheetOf (now (s .entry))) v i)) × (r ≤ at + 36) ⌝ }
+    ensures { λ r. ⌜ Wrote (now (out .entry)) (now (out .exit)) at r (elementText (sheetOf (now (s .entry))) (elementOf (sheetOf (now (s .entry))) v i)) × (r ≤ at + 36) ⌝ }
 {
     let place = record_place(tab, v);
     let z = points::point(s, place, points, i);

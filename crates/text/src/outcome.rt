@@ -13,8 +13,8 @@ ghost use Prim.Native.Nat.{_+_, _≤_};
 ghost use lib.ListN.{length};
 ghost use Rattle.alpha.specs.Read.{sortOf};
 ghost use Rattle.alpha.specs.Program.{valueText, outcomeText};
+ghost use Rattle.laws.specs.Coded.{decoded};
 ghost use Rattle.text.specs.Wrote.{Wrote};
-ghost use Rattle.text.specs.Lines.{outcomeFor};
 
 // The value x of a variable whose type has the number `sort`: 0 is integer, 1 is boolean.
 pub fn value(out: &mut [u8], at: usize, sort: usize, x: Int) -> usize
@@ -32,8 +32,8 @@ pub fn value(out: &mut [u8], at: usize, sort: usize, x: Int) -> usize
 
 // The outcome with that code and that value.
 pub fn outcome(out: &mut [u8], at: usize, sort: usize, code: u8, x: Int) -> usize
-    requires { ⌜ (sort ≤ 1) × (at + length (outcomeText (sortOf sort) (outcomeFor code (x .v))) ≤ length (now out)) ⌝ }
-    ensures { λ r. ⌜ Wrote (now (out .entry)) (now (out .exit)) at r (outcomeText (sortOf sort) (outcomeFor code (x .v))) ⌝ }
+    requires { ⌜ (sort ≤ 1) × (at + length (outcomeText (sortOf sort) (decoded code (x .v))) ≤ length (now out)) ⌝ }
+    ensures { λ r. ⌜ Wrote (now (out .entry)) (now (out .exit)) at r (outcomeText (sortOf sort) (decoded code (x .v))) ⌝ }
 {
     match code {
         0 => word(out, at, &OUTSIDE),

@@ -27,7 +27,9 @@ returns c = read-admits _ _ _ _ _ (c .enum-told .given .1) (c .before .before .r
 
 -- src/lib.rt:20:9
 forms-requires : tie.Need-forms-requires
-forms-requires c κs = prepared-after _ _ _ _ (c .before .before .r .given .1) (c .before .before .before .before .read .ensures)
+forms-requires c κs =
+    let after-read = c .before .before .before .before in
+    prepared-after _ _ _ _ (c .before .before .r .given .1) (after-read .read .ensures)
 
 -- src/lib.rt:21:28
 enum-known-f : tie.Need-enum-known-f
@@ -36,8 +38,11 @@ enum-known-f c = search needs
 -- src/lib.rt:22:9
 returns-2 : tie.Need-returns-2
 returns-2 c =
-    let prepared = prepared-after _ _ _ _ (c .before .before .before .before .before .before .r .given .1) (c .before .before .before .before .before .before .before .before .read .ensures) in
-    forms-admit _ _ _ _ _ _ prepared (c .before .f .given .1) (c .before .before .before .forms .ensures .answer)
+    let after-forms = c .before .before .before in
+    let after-r = after-forms .before .before .before in
+    let after-read = after-r .before .before in
+    let prepared = prepared-after _ _ _ _ (after-r .r .given .1) (after-read .read .ensures) in
+    forms-admit _ _ _ _ _ _ prepared (c .before .f .given .1) (after-forms .forms .ensures .answer)
 
 enum-told-2 : tie.Need-enum-told-2
 enum-told-2 c = search needs
@@ -45,8 +50,10 @@ enum-told-2 c = search needs
 -- src/lib.rt:24:9
 domains-requires : tie.Need-domains-requires
 domains-requires c κs =
-    let formed = c .before .before .before .before .forms .ensures .formed (c .before .before .enum-told2 .given .1) in
-    (formed, c .before .before .before .before .before .before .before .before .before .before .before .before .pre)
+    let after-forms = c .before .before .before .before in
+    let s = after-forms .before .before .before .before .before .before .before .before in
+    let formed = after-forms .forms .ensures .formed (c .before .before .enum-told2 .given .1) in
+    (formed, s .pre)
 
 -- src/lib.rt:25:28
 enum-known-g : tie.Need-enum-known-g
@@ -55,8 +62,11 @@ enum-known-g c = search needs
 -- src/lib.rt:26:9
 returns-3 : tie.Need-returns-3
 returns-3 c =
-    let formed = c .before .before .before .before .before .before .before .before .forms .ensures .formed (c .before .before .before .before .before .before .enum-told2 .given .1) in
-    faults-admit _ _ _ _ _ formed (c .before .g .given .1) (c .before .before .before .domains .ensures .1)
+    let after-domains = c .before .before .before in
+    let after-enum-told2 = after-domains .before .before .before in
+    let after-forms = after-enum-told2 .before .before in
+    let formed = after-forms .forms .ensures .formed (after-enum-told2 .enum-told2 .given .1) in
+    faults-admit _ _ _ _ _ formed (c .before .g .given .1) (after-domains .domains .ensures .1)
 
 enum-told-3 : tie.Need-enum-told-3
 enum-told-3 c = search needs
@@ -64,10 +74,14 @@ enum-told-3 c = search needs
 -- src/lib.rt:12:1
 returns-4 : tie.Need-returns-4
 returns-4 c =
-    let formed = c .before .before .before .before .before .before .before .forms .ensures .formed (c .before .before .before .before .before .enum-told2 .given .1) in
-    let read = c .before .before .before .before .before .before .before .before .before .before .before .before .read .ensures .answer in
+    let after-enum-told2 = c .before .before .before .before .before in
+    let after-forms = after-enum-told2 .before .before in
+    let after-r = after-forms .before .before .before in
+    let after-read = after-r .before .before in
+    let formed = after-forms .forms .ensures .formed (after-enum-told2 .enum-told2 .given .1) in
+    let read = after-read .read .ensures .answer in
     let walked = c .before .before .domains .ensures in
-    all-admit _ _ _ _ _ _ formed (walked .0) (c .before .before .before .before .before .before .before .before .before .before .r .given .1) read (c .enum-told3 .given .1) (walked .1)
+    all-admit _ _ _ _ _ _ formed (walked .0) (after-r .r .given .1) read (c .enum-told3 .given .1) (walked .1)
 
 pub admit-spec : {M : Type 1} → statement M
 admit-spec =

@@ -34,8 +34,9 @@ part-result-end c = search needs
 -- src/lib.rt:94:1
 returns : tie.Need-returns
 returns c =
+    let s = c .before .before .before .before in
     let p = c .before .before .find-body .result in
-    let bs = c .before .before .before .before .args .s .now in
+    let bs = s .args .s .now in
     let found = c .before .before .find-body .ensures in
     let len : p .start + p .len - p .start ≡ p .len = omega arith in
     record { answer = ap (λ n. take n (drop (p .start) bs)) len ∙ ap (λ q. bytesIn q bs) (sym (found .is)) }

@@ -44,7 +44,9 @@ mul-z c = search needs
 
 -- src/lib.rt:122:9
 array-set-from-z : tie.Need-array-set-from-z Inv-loop μ-loop
-array-set-from-z c = omega (arith, c .before .before .loop-test .taken, c .before .before .before .before .before .pre)
+array-set-from-z c =
+    let s = c .before .before .before .before .before in
+    omega (arith, c .before .before .loop-test .taken, s .pre)
 
 -- src/lib.rt:123:9
 add-i : tie.Need-add-i Inv-loop μ-loop
@@ -57,7 +59,10 @@ loop-less c = search needs
 -- src/lib.rt:120:5
 loop-again : tie.Need-loop-again Inv-loop μ-loop
 loop-again c =
-    copied-more _ _ _ _ (omega (arith, c .before .before .loop-test .taken, c .before .before .before .before .before .pre)) (c .before .before .before .loop .inv) (c .of2 .ensures ∙ toZ-ofZ (sfits-of (c .before .x .given)))
+    let at-loop = c .before .before .before in
+    let s = at-loop .before .before in
+    copied-more _ _ _ _ (omega (arith, c .before .before .loop-test .taken, s .pre)) (at-loop .loop .inv)
+    (c .of2 .ensures ∙ toZ-ofZ (sfits-of (c .before .x .given)))
 
 -- src/lib.rt:113:1
 returns : tie.Need-returns Inv-loop μ-loop

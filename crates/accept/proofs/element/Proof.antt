@@ -26,12 +26,15 @@ returns c = record { answer = refused-number _ _ _ _ _ (c .enum-told2 .given .1)
 
 -- src/lib.rt:160:5
 number-of-requires : tie.Need-number-of-requires
-number-of-requires c κs = c .before .before .before .admit .ensures .admitted _ (c .before .enum-told .given .1) .formed
+number-of-requires c κs =
+    let after-admit = c .before .before .before in
+    after-admit .admit .ensures .admitted _ (c .before .enum-told .given .1) .formed
 
 -- src/lib.rt:151:1
 returns-2 : tie.Need-returns-2
 returns-2 c =
-    let admitted = c .before .before .before .before .admit .ensures .admitted _ (c .before .before .enum-told .given .1) in
+    let after-admit = c .before .before .before .before in
+    let admitted = after-admit .admit .ensures .admitted _ (c .before .before .enum-told .given .1) in
     record { answer = c .number-of .ensures ∙ sym (accepted-number _ _ _ _ (admitted .sheet-is)) }
 
 pub element-spec : {M : Type 1} → statement M

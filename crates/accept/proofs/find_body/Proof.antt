@@ -27,16 +27,21 @@ nothing-requires c κs = search needs
 
 -- src/lib.rt:88:9
 returns : tie.Need-returns
-returns c = no-part _ _ _ (refused-part _ _ _ _ (c .before .enum-told2 .given .1) (c .before .before .before .admit .ensures .answer)) (c .nothing .ensures)
+returns c =
+    let after-admit = c .before .before .before in
+    no-part _ _ _ (refused-part _ _ _ _ (c .before .enum-told2 .given .1) (after-admit .admit .ensures .answer)) (c .nothing .ensures)
 
 -- src/lib.rt:90:5
 part-of-requires : tie.Need-part-of-requires
-part-of-requires c κs = c .before .before .before .admit .ensures .admitted _ (c .before .enum-told .given .1) .formed
+part-of-requires c κs =
+    let after-admit = c .before .before .before in
+    after-admit .admit .ensures .admitted _ (c .before .enum-told .given .1) .formed
 
 -- src/lib.rt:81:1
 returns-2 : tie.Need-returns-2
 returns-2 c =
-    let admitted = c .before .before .before .before .admit .ensures .admitted _ (c .before .before .enum-told .given .1) in
+    let after-admit = c .before .before .before .before in
+    let admitted = after-admit .admit .ensures .admitted _ (c .before .before .enum-told .given .1) in
     let p = c .part-of .ensures in
     record { is = accepted-part _ _ (admitted .sheet-is) ∙ p .is; there = p .there }
 

@@ -22,18 +22,16 @@ use Rattle.sheet.proofs.table.record_place.Reads as record-place-reads
 use Rattle.sheet.proofs.table.variable_count.Reads as variable-count-reads
 use Rattle.tree.proofs.variable.dimension_of.Reads as dimension-of-reads
 
--- src/lib.rt:133:9
 variable-count-requires : tie.Need-variable-count-requires
 variable-count-requires c κs = search needs
 
--- src/lib.rt:135:9
 returns : tie.Need-returns
 returns c =
     let start = c .before .before .before in
     let count = c .before .variable-count .ensures ∙ start .pre .placed .prepared .table .variables in
-    unknown-asked (sheetOf (start .args .s .now)) (start .args .variable) (start .args .point .now) (omega (arith, c .if1 .taken, count, laid-length _ _ (start .pre .placed)))
+    unknown-asked (sheetOf (start .args .s .now)) (start .args .variable) (start .args .point .now)
+    (omega (arith, c .if1 .taken, count, laid-length _ _ (start .pre .placed)))
 
--- src/lib.rt:138:9
 dimension-of-requires : tie.Need-dimension-of-requires
 dimension-of-requires c κs =
     let start = c .before .before .before in
@@ -42,89 +40,117 @@ dimension-of-requires c κs =
     let laid = laid-variable _ _ (start .pre .placed) _ lt in
     (start .pre .placed .prepared, lt)
 
--- src/lib.rt:140:9
 returns-2 : tie.Need-returns-2
 returns-2 c =
-    let start = c .before .before .before .before .before in
-    let count = c .before .before .before .variable-count .ensures ∙ start .pre .placed .prepared .table .variables in
+    let after-variable-count = c .before .before .before in
+    let start = after-variable-count .before .before in
+    let count = after-variable-count .variable-count .ensures ∙ start .pre .placed .prepared .table .variables in
     let lt : start .args .variable < varsOf (start .args .s .now) = omega (arith, c .before .before .if1 .left, count) in
     let laid = laid-variable _ _ (start .pre .placed) _ lt in
     let dims = c .before .dimension-of .ensures .0 in
-    other-asked (sheetOf (start .args .s .now)) (start .args .variable) (start .args .point .now) (λ e. c .if2 .taken (e ∙ ap (λ h. length (h .box)) (laid .head-is) ∙ sym dims))
+    other-asked (sheetOf (start .args .s .now)) (start .args .variable) (start .args .point .now)
+    (λ e. c .if2 .taken (e ∙ ap (λ h. length (h .box)) (laid .head-is) ∙ sym dims))
 
--- src/lib.rt:142:9
 coordinates-requires : tie.Need-coordinates-requires
 coordinates-requires c κs = search needs
 
--- src/lib.rt:143:34
 record-place-requires : tie.Need-record-place-requires
 record-place-requires c κs =
-    let start = c .before .before .before .before .before .before in
-    let count = c .before .before .before .before .variable-count .ensures ∙ start .pre .placed .prepared .table .variables in
-    let lt : start .args .variable < varsOf (start .args .s .now) = omega (arith, c .before .before .before .if1 .left, count) in
+    let else1 = c .before .before .before in
+    let after-variable-count = else1 .before in
+    let start = after-variable-count .before .before in
+    let count = after-variable-count .variable-count .ensures ∙ start .pre .placed .prepared .table .variables in
+    let lt : start .args .variable < varsOf (start .args .s .now) = omega (arith, else1 .if1 .left, count) in
     let laid = laid-variable _ _ (start .pre .placed) _ lt in
     laid .low
 
--- src/lib.rt:143:9
 index-requires : tie.Need-index-requires
 index-requires c κs =
-    let start = c .before .before .before .before .before .before .before in
-    let count = c .before .before .before .before .before .variable-count .ensures ∙ start .pre .placed .prepared .table .variables in
-    let lt : start .args .variable < varsOf (start .args .s .now) = omega (arith, c .before .before .before .before .if1 .left, count) in
+    let else1 = c .before .before .before .before in
+    let after-variable-count = else1 .before in
+    let start = after-variable-count .before .before in
+    let count = after-variable-count .variable-count .ensures ∙ start .pre .placed .prepared .table .variables in
+    let lt : start .args .variable < varsOf (start .args .s .now) = omega (arith, else1 .if1 .left, count) in
     let laid = laid-variable _ _ (start .pre .placed) _ lt in
     let place = c .record-place .ensures in
     let box = ap size (ap (boxOf (start .args .s .now)) place ∙ laid .box-is) in
     (rw place (laid .recorded), omega (arith, box, laid .few))
 
--- src/lib.rt:144:19
 enum-known-found : tie.Need-enum-known-found
 enum-known-found c = search needs
 
--- src/lib.rt:145:33
 enum-told : tie.Need-enum-told
 enum-told c = search needs
 
--- src/lib.rt:145:9
 returns-3 : tie.Need-returns-3
 returns-3 c =
-    let start = c .before .before .before .before .before .before .before .before .before .before in
-    let count = c .before .before .before .before .before .before .before .before .variable-count .ensures ∙ start .pre .placed .prepared .table .variables in
-    let lt : start .args .variable < varsOf (start .args .s .now) = omega (arith, c .before .before .before .before .before .before .before .if1 .left, count) in
-    let dims = c .before .before .before .before .before .if2 .left ∙ c .before .before .before .before .before .before .dimension-of .ensures .0 in
-    let found = c .before .before .index .ensures ∙ index-is _ _ (start .pre) _ lt _ (c .before .before .before .before .coordinates .result) (start .args .point .now) (c .before .before .before .record-place .ensures) dims (c .before .before .before .before .coordinates .ensures) in
+    let after-record-place = c .before .before .before in
+    let after-coordinates = after-record-place .before in
+    let else2 = after-coordinates .before in
+    let after-dimension-of = else2 .before in
+    let else1 = after-dimension-of .before in
+    let after-variable-count = else1 .before in
+    let start = after-variable-count .before .before in
+    let count = after-variable-count .variable-count .ensures ∙ start .pre .placed .prepared .table .variables in
+    let lt : start .args .variable < varsOf (start .args .s .now) = omega (arith, else1 .if1 .left, count) in
+    let dims = else2 .if2 .left ∙ after-dimension-of .dimension-of .ensures .0 in
+    let found =
+    c .before .before .index .ensures
+    ∙ index-is _ _ (start .pre) _ lt _ (after-coordinates .coordinates .result) (start .args .point .now)
+    (after-record-place .record-place .ensures) dims (after-coordinates .coordinates .ensures) in
     off-asked (sheetOf (start .args .s .now)) (start .args .variable) (start .args .point .now) (sym (c .enum-told .given .1) ∙ found)
 
--- src/lib.rt:147:23
 first-element-requires : tie.Need-first-element-requires
 first-element-requires c κs =
-    let start = c .before .before .before .before .before .before .before .before .before .before .before in
-    let count = c .before .before .before .before .before .before .before .before .before .variable-count .ensures ∙ start .pre .placed .prepared .table .variables in
-    let lt : start .args .variable < varsOf (start .args .s .now) = omega (arith, c .before .before .before .before .before .before .before .before .if1 .left, count) in
+    let else1 = c .before .before .before .before .before .before .before .before in
+    let after-variable-count = else1 .before in
+    let start = after-variable-count .before .before in
+    let count = after-variable-count .variable-count .ensures ∙ start .pre .placed .prepared .table .variables in
+    let lt : start .args .variable < varsOf (start .args .s .now) = omega (arith, else1 .if1 .left, count) in
     let laid = laid-variable _ _ (start .pre .placed) _ lt in
     omega (arith, laid .low)
 
--- src/lib.rt:147:23
 add-t17 : tie.Need-add-t17
 add-t17 c =
-    let start = c .before .before .before .before .before .before .before .before .before .before .before .before in
-    let count = c .before .before .before .before .before .before .before .before .before .before .variable-count .ensures ∙ start .pre .placed .prepared .table .variables in
-    let lt : start .args .variable < varsOf (start .args .s .now) = omega (arith, c .before .before .before .before .before .before .before .before .before .if1 .left, count) in
-    let dims = c .before .before .before .before .before .before .before .if2 .left ∙ c .before .before .before .before .before .before .before .before .dimension-of .ensures .0 in
-    let found = c .before .before .before .before .index .ensures ∙ index-is _ _ (start .pre) _ lt _ (c .before .before .before .before .before .before .coordinates .result) (start .args .point .now) (c .before .before .before .before .before .record-place .ensures) dims (c .before .before .before .before .before .before .coordinates .ensures) in
+    let after-index = c .before .before .before .before in
+    let after-record-place = after-index .before in
+    let after-coordinates = after-record-place .before in
+    let else2 = after-coordinates .before in
+    let after-dimension-of = else2 .before in
+    let else1 = after-dimension-of .before in
+    let after-variable-count = else1 .before in
+    let start = after-variable-count .before .before in
+    let count = after-variable-count .variable-count .ensures ∙ start .pre .placed .prepared .table .variables in
+    let lt : start .args .variable < varsOf (start .args .s .now) = omega (arith, else1 .if1 .left, count) in
+    let dims = else2 .if2 .left ∙ after-dimension-of .dimension-of .ensures .0 in
+    let found =
+    after-index .index .ensures
+    ∙ index-is _ _ (start .pre) _ lt _ (after-coordinates .coordinates .result) (start .args .point .now)
+    (after-record-place .record-place .ensures) dims (after-coordinates .coordinates .ensures) in
     let first = c .first-element .ensures ∙ laid-variable _ _ (start .pre .placed) _ lt .first-is in
     omega (arith, first, found-low _ _ (start .pre) _ lt (c .before .before .found .given .0 .0) _ (sym (c .before .before .found .given .1) ∙ found))
 
--- src/lib.rt:129:1
 returns-4 : tie.Need-returns-4
 returns-4 c =
-    let start = c .before .before .before .before .before .before .before .before .before .before .before .before in
-    let count = c .before .before .before .before .before .before .before .before .before .before .variable-count .ensures ∙ start .pre .placed .prepared .table .variables in
-    let lt : start .args .variable < varsOf (start .args .s .now) = omega (arith, c .before .before .before .before .before .before .before .before .before .if1 .left, count) in
-    let dims = c .before .before .before .before .before .before .before .if2 .left ∙ c .before .before .before .before .before .before .before .before .dimension-of .ensures .0 in
-    let found = c .before .before .before .before .index .ensures ∙ index-is _ _ (start .pre) _ lt _ (c .before .before .before .before .before .before .coordinates .result) (start .args .point .now) (c .before .before .before .before .before .record-place .ensures) dims (c .before .before .before .before .before .before .coordinates .ensures) in
+    let after-index = c .before .before .before .before in
+    let after-record-place = after-index .before in
+    let after-coordinates = after-record-place .before in
+    let else2 = after-coordinates .before in
+    let after-dimension-of = else2 .before in
+    let else1 = after-dimension-of .before in
+    let after-variable-count = else1 .before in
+    let start = after-variable-count .before .before in
+    let count = after-variable-count .variable-count .ensures ∙ start .pre .placed .prepared .table .variables in
+    let lt : start .args .variable < varsOf (start .args .s .now) = omega (arith, else1 .if1 .left, count) in
+    let dims = else2 .if2 .left ∙ after-dimension-of .dimension-of .ensures .0 in
+    let found =
+    after-index .index .ensures
+    ∙ index-is _ _ (start .pre) _ lt _ (after-coordinates .coordinates .result) (start .args .point .now)
+    (after-record-place .record-place .ensures) dims (after-coordinates .coordinates .ensures) in
     let laid = laid-variable _ _ (start .pre .placed) _ lt in
     let first = c .first-element .ensures ∙ laid .first-is in
-    found-asked (sheetOf (start .args .s .now)) (start .args .variable) (start .args .point .now) _ _ (laid .known) (sym (c .before .before .found .given .1) ∙ found) (ap (λ n. n + c .before .before .found .given .0 .0) first)
+    found-asked (sheetOf (start .args .s .now)) (start .args .variable) (start .args .point .now) _ _ (laid .known)
+    (sym (c .before .before .found .given .1) ∙ found) (ap (λ n. n + c .before .before .found .given .0 .0) first)
 
 pub number-of-spec : {M : Type 1} → statement M
 number-of-spec =

@@ -45,16 +45,19 @@ nothing-requires-2 c κs = search needs
 -- src/lib.rt:70:9
 returns-2 : tie.Need-returns-2
 returns-2 c =
-    let start = c .before .before .before .before .before .before in
-    let count = c .before .before .before .before .variable-count .ensures ∙ start .pre .placed .prepared .table .variables in
-    let lt : start .args .variable < varsOf (start .args .s .now) = omega (arith, c .before .before .before .if1 .left, count) in
+    let else1 = c .before .before .before in
+    let after-variable-count = else1 .before in
+    let start = after-variable-count .before .before in
+    let count = after-variable-count .variable-count .ensures ∙ start .pre .placed .prepared .table .variables in
+    let lt : start .args .variable < varsOf (start .args .s .now) = omega (arith, else1 .if1 .left, count) in
     no-part _ _ _ (input-part _ _ (start .pre) _ lt _ (c .before .before .kind-of .ensures .0) (c .before .if2 .taken)) (c .nothing2 .ensures)
 
 -- src/lib.rt:72:9
 body-place-requires : tie.Need-body-place-requires
 body-place-requires c κs =
-    let start = c .before .before .before .before .before in
-    let count = c .before .before .before .variable-count .ensures ∙ start .pre .placed .prepared .table .variables in
+    let after-variable-count = c .before .before .before in
+    let start = after-variable-count .before .before in
+    let count = after-variable-count .variable-count .ensures ∙ start .pre .placed .prepared .table .variables in
     let lt : start .args .variable < varsOf (start .args .s .now) = omega (arith, c .before .before .if1 .left, count) in
     omega (arith, laid-variable _ _ (start .pre .placed) _ lt .low)
 
@@ -65,27 +68,40 @@ add-body-place c = search needs
 -- src/lib.rt:73:9
 body-place-requires-2 : tie.Need-body-place-requires-2
 body-place-requires-2 c κs =
-    let start = c .before .before .before .before .before .before in
-    let count = c .before .before .before .before .variable-count .ensures ∙ start .pre .placed .prepared .table .variables in
-    let lt : start .args .variable < varsOf (start .args .s .now) = omega (arith, c .before .before .before .if1 .left, count) in
+    let else1 = c .before .before .before in
+    let after-variable-count = else1 .before in
+    let start = after-variable-count .before .before in
+    let count = after-variable-count .variable-count .ensures ∙ start .pre .placed .prepared .table .variables in
+    let lt : start .args .variable < varsOf (start .args .s .now) = omega (arith, else1 .if1 .left, count) in
     omega (arith, laid-variable _ _ (start .pre .placed) _ lt .low)
 
 -- src/lib.rt:76:14
 sub-t10 : tie.Need-sub-t10
 sub-t10 c =
-    let start = c .before .before .before .before .before .before .before in
-    let count = c .before .before .before .before .before .variable-count .ensures ∙ start .pre .placed .prepared .table .variables in
-    let lt : start .args .variable < varsOf (start .args .s .now) = omega (arith, c .before .before .before .before .if1 .left, count) in
-    let kind = c .before .before .before .kind-of .ensures in
-    omega (arith, c .body-place2 .ensures, c .before .body-place .ensures, places-ordered _ _ (start .pre) _ lt _ (kind .0) (c .before .before .if2 .left) (kind .1))
+    let after-kind-of = c .before .before .before in
+    let else1 = after-kind-of .before in
+    let after-variable-count = else1 .before in
+    let start = after-variable-count .before .before in
+    let count = after-variable-count .variable-count .ensures ∙ start .pre .placed .prepared .table .variables in
+    let lt : start .args .variable < varsOf (start .args .s .now) = omega (arith, else1 .if1 .left, count) in
+    let kind = after-kind-of .kind-of .ensures in
+    omega (
+      arith,
+      c .body-place2 .ensures,
+      c .before .body-place .ensures,
+      places-ordered _ _ (start .pre) _ lt _ (kind .0) (c .before .before .if2 .left) (kind .1),
+    )
 
 -- src/lib.rt:60:1
 returns-3 : tie.Need-returns-3
 returns-3 c =
-    let start = c .before .before .before .before .before .before .before in
-    let count = c .before .before .before .before .before .variable-count .ensures ∙ start .pre .placed .prepared .table .variables in
-    let lt : start .args .variable < varsOf (start .args .s .now) = omega (arith, c .before .before .before .before .if1 .left, count) in
-    let kind = c .before .before .before .kind-of .ensures in
+    let after-kind-of = c .before .before .before in
+    let else1 = after-kind-of .before in
+    let after-variable-count = else1 .before in
+    let start = after-variable-count .before .before in
+    let count = after-variable-count .variable-count .ensures ∙ start .pre .placed .prepared .table .variables in
+    let lt : start .args .variable < varsOf (start .args .s .now) = omega (arith, else1 .if1 .left, count) in
+    let kind = after-kind-of .kind-of .ensures in
     let from = c .before .body-place .ensures in
     let to = c .body-place2 .ensures in
     body-part _ _ (start .pre) _ lt _ (kind .0) (c .before .before .if2 .left) (kind .1) _ from (rw (from, to) refl)

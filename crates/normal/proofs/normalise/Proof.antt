@@ -18,20 +18,26 @@ enum-told-2 : tie.Need-enum-told-2
 enum-told-2 c = search needs
 
 returns : tie.Need-returns
-returns c = check-refuses _ (c .before .before .before .before .before .before .before .args .out .now) _ _ (c .enum-told2 .given .1) (c .before .before .admit .ensures .answer)
+returns c =
+    let s = c .before .before .before .before .before .before .before in
+    check-refuses _ (s .args .out .now) _ _ (c .enum-told2 .given .1) (c .before .before .admit .ensures .answer)
 
 third-place-requires : tie.Need-third-place-requires
 third-place-requires c κs = search needs
 
 add-plan-from : tie.Need-add-plan-from
 add-plan-from c =
-    let admitted = c .before .before .before .before .before .admit .ensures .admitted _ (c .before .before .before .enum-told .given .1) in
+    let after-enum-told = c .before .before .before in
+    let after-admit = after-enum-told .before .before in
+    let admitted = after-admit .admit .ensures .admitted _ (after-enum-told .enum-told .given .1) in
     let third = c .third-place .ensures ∙ admitted .formed .placed .prepared .table .third in
     omega (arith, third, front-there _ _ (admitted .formed) (admitted .sheet-is), prepared-read _ _ (admitted .formed .placed .prepared) .short)
 
 plan-from-requires : tie.Need-plan-from-requires
 plan-from-requires c κs =
-    let admitted = c .before .before .before .before .before .admit .ensures .admitted _ (c .before .before .before .enum-told .given .1) in
+    let after-enum-told = c .before .before .before in
+    let after-admit = after-enum-told .before .before in
+    let admitted = after-admit .admit .ensures .admitted _ (after-enum-told .enum-told .given .1) in
     let third = c .third-place .ensures ∙ admitted .formed .placed .prepared .table .third in (
       admitted .formed,
       omega arith,
@@ -44,8 +50,14 @@ enum-known-plan c = search needs
 
 write-all-requires : tie.Need-write-all-requires
 write-all-requires c κs =
-    let admitted = c .before .before .before .before .before .before .before .before .before .before .before .admit .ensures .admitted _ (c .before .before .before .before .before .before .before .before .before .enum-told .given .1) in
-    plan-holds _ _ (admitted .formed) (admitted .sheet-is) _ (c .before .before .before .before .before .before .third-place .ensures) _ (c .before .before .before .before .before .plan-from .ensures) _ _ (c .before .before .before .plan .given .1)
+    let after-plan = c .before .before .before in
+    let after-plan-from = after-plan .before .before in
+    let after-third-place = after-plan-from .before in
+    let after-enum-told = after-third-place .before .before .before in
+    let after-admit = after-enum-told .before .before in
+    let admitted = after-admit .admit .ensures .admitted _ (after-enum-told .enum-told .given .1) in
+    plan-holds _ _ (admitted .formed) (admitted .sheet-is) _ (after-third-place .third-place .ensures) _ (after-plan-from .plan-from .ensures) _ _
+    (after-plan .plan .given .1)
 
 enum-known-plan-2 : tie.Need-enum-known-plan-2
 enum-known-plan-2 c = search needs
@@ -58,8 +70,14 @@ returns-2 c = c .before .before .write-all .ensures
 
 returns-3 : tie.Need-returns-3
 returns-3 c =
-    let admitted = c .before .before .before .before .before .before .before .before .before .admit .ensures .admitted _ (c .before .before .before .before .before .before .before .enum-told .given .1) in
-    wide-refuses _ _ (admitted .formed) (admitted .sheet-is) _ (c .before .before .before .before .third-place .ensures) _ (c .before .before .before .plan-from .ensures) (c .before .before .before .before .before .before .before .before .before .before .before .before .before .before .args .out .now) _ (c .before .plan2 .given .1)
+    let after-plan-from = c .before .before .before in
+    let after-third-place = after-plan-from .before in
+    let after-enum-told = after-third-place .before .before .before in
+    let after-admit = after-enum-told .before .before in
+    let s = after-admit .before .before .before .before .before in
+    let admitted = after-admit .admit .ensures .admitted _ (after-enum-told .enum-told .given .1) in
+    wide-refuses _ _ (admitted .formed) (admitted .sheet-is) _ (after-third-place .third-place .ensures) _ (after-plan-from .plan-from .ensures)
+    (s .args .out .now) _ (c .before .plan2 .given .1)
 
 pub normalise-spec : {M : Type 1} → statement M
 normalise-spec =

@@ -41,7 +41,9 @@ measure-from-measure-requires : (t : ℕ) → measure-from-lts.Need-measure-requ
 measure-from-measure-requires t c κs = (c .before .before .pre .1 .0, c .if1 .left)
 
 measure-from-add-measure-from : (t : ℕ) → measure-from-lts.Need-add-measure-from (measure-from-uses t) (measure-from-at t) measure-from.Post
-measure-from-add-measure-from t c = omega (arith, c .before .before .before .pre .1 .0 .low, c .before .if1 .left)
+measure-from-add-measure-from t c =
+    let s = c .before .before .before in
+    omega (arith, s .pre .1 .0 .low, c .before .if1 .left)
 
 measure-from-both-requires : (t : ℕ) → measure-from-lts.Need-both-requires (measure-from-uses t) (measure-from-at t) measure-from.Post
 measure-from-both-requires t c κs =
@@ -61,7 +63,11 @@ measure-from-measure-from-requires t c κs =
     (omega arith, (s .pre .1 .0, omega arith, omega (arith, took .few-bytes, s .pre .1 .2), omega (arith, took .few-nodes, s .pre .1 .3)))
 
 measure-from-returns-2 : (t : ℕ) → measure-from-lts.Need-returns-2 (measure-from-uses t) (measure-from-at t) measure-from.Post
-measure-from-returns-2 t c = measure-more _ _ _ _ _ (c .before .before .before .before .before .args .sofar) (c .before .before .measure .result) _ _ (c .before .before .before .if1 .left) (c .before .before .measure .ensures) (c .before .both .ensures) (c .measure-from .ensures)
+measure-from-returns-2 t c =
+    let else1 = c .before .before .before in
+    let s = else1 .before .before in
+    measure-more _ _ _ _ _ (s .args .sofar) (c .before .before .measure .result) _ _ (else1 .if1 .left) (c .before .before .measure .ensures)
+    (c .before .both .ensures) (c .measure-from .ensures)
 
 pub +measure-from-spec : {M : Type 1} → statement M
 +measure-from-spec = close μ-measure-from λ t. measure-from-lts.spec (measure-from-uses t) (measure-from-at t)

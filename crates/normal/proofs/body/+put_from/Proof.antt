@@ -27,7 +27,9 @@ abbrev put-from-uses : ℕ → put-from-lts.Claims
 put-from-uses t = (put-branch-reads.Asked, put-branch-reads.Learnt, put-from-below t, put-from.Post)
 
 put-from-returns : (t : ℕ) → put-from-lts.Need-returns (put-from-uses t) (put-from-at t) put-from.Post
-put-from-returns t c = store-none _ _ _ _ _ _ (c .before .before .before .args .to) (c .if1 .taken)
+put-from-returns t c =
+    let s = c .before .before .before in
+    store-none _ _ _ _ _ _ (s .args .to) (c .if1 .taken)
 
 put-from-put-branch-requires : (t : ℕ) → put-from-lts.Need-put-branch-requires (put-from-uses t) (put-from-at t) put-from.Post
 put-from-put-branch-requires t c κs =
@@ -35,18 +37,23 @@ put-from-put-branch-requires t c κs =
     (s .pre .1 .0, c .before .if1 .left, first-room _ _ _ _ _ (s .args .out .now) _ (c .before .if1 .left) _ (s .pre .1 .2))
 
 put-from-add-put-from : (t : ℕ) → put-from-lts.Need-add-put-from (put-from-uses t) (put-from-at t) put-from.Post
-put-from-add-put-from t c = omega (arith, c .before .before .before .before .before .before .before .pre .1 .0 .low, c .before .before .before .before .if1 .left)
+put-from-add-put-from t c =
+    let else1 = c .before .before .before .before in
+    let s = else1 .before .before .before in
+    omega (arith, s .pre .1 .0 .low, else1 .if1 .left)
 
 put-from-put-from-requires : (t : ℕ) → put-from-lts.Need-put-from-requires (put-from-uses t) (put-from-at t) put-from.Post
 put-from-put-from-requires t c κs =
-    let s = c .before .before .before .before .before .before .before .before in
-    let more = c .before .before .before .before .before .if1 .left in
+    let after-put-branch = c .before .before .before in
+    let else1 = after-put-branch .before .before in
+    let s = else1 .before .before .before in
+    let more = else1 .if1 .left in
     let is = s .pre .0 in (
       omega arith,
       (
         s .pre .1 .0,
         omega arith,
-        rest-room _ _ _ _ _ (s .args .out .now) _ more _ _ (c .before .before .before .put-branch .ensures) _ (is-body _ _ _ _ (s .pre .1 .0)) (s .pre .1 .2),
+        rest-room _ _ _ _ _ (s .args .out .now) _ more _ _ (after-put-branch .put-branch .ensures) _ (is-body _ _ _ _ (s .pre .1 .0)) (s .pre .1 .2),
       ),
     )
 
@@ -54,7 +61,12 @@ put-from-same-length : (t : ℕ) → put-from-lts.Need-same-length (put-from-use
 put-from-same-length t c = search needs
 
 put-from-returns-2 : (t : ℕ) → put-from-lts.Need-returns-2 (put-from-uses t) (put-from-at t) put-from.Post
-put-from-returns-2 t c = store-more _ _ _ _ _ (c .before .before .before .before .before .before .before .before .before .before .before .args .out .now) _ (c .before .before .before .before .before .before .before .before .if1 .left) _ _ _ _ (c .before .before .before .before .before .before .put-branch .ensures) (c .before .before .put-from .ensures)
+put-from-returns-2 t c =
+    let after-put-branch = c .before .before .before .before .before .before in
+    let else1 = after-put-branch .before .before in
+    let s = else1 .before .before .before in
+    store-more _ _ _ _ _ (s .args .out .now) _ (else1 .if1 .left) _ _ _ _ (after-put-branch .put-branch .ensures)
+    (c .before .before .put-from .ensures)
 
 pub +put-from-spec : {M : Type 1} → statement M
 +put-from-spec = close μ-put-from λ t. put-from-lts.spec (put-from-uses t) (put-from-at t)

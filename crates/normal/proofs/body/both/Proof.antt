@@ -19,9 +19,13 @@ add-t6 c = search needs
 
 returns : tie.Need-returns
 returns c =
-    let a = c .before .before .before .before .before .before .args .a in
-    let b = c .before .before .before .before .before .before .args .b in
-    ap₂ (λ i j. record { nodes = a .nodes + b .nodes; bytes = a .bytes + b .bytes; limits = i; deep = j }) (c .before .before .before .before .before .larger .ensures) (c .before .before .before .before .larger2 .ensures)
+    let after-larger2 = c .before .before .before .before in
+    let after-larger = after-larger2 .before in
+    let s = after-larger .before in
+    let a = s .args .a in
+    let b = s .args .b in
+    ap₂ (λ i j. record { nodes = a .nodes + b .nodes; bytes = a .bytes + b .bytes; limits = i; deep = j }) (after-larger .larger .ensures)
+    (after-larger2 .larger2 .ensures)
 
 pub both-spec : {M : Type 1} → statement M
 both-spec = tie.close (tie.spec larger-requires larger-requires-2 add-t5 add-t6 returns)

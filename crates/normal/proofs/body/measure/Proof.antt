@@ -23,34 +23,59 @@ slice-aggregate-follow-2 c = search needs
 
 follow-requires-2 : tie.Need-follow-requires-2
 follow-requires-2 c κs =
-    let s = c .before .before .before .before .before .before in
-    let m = c .before .before .before .before .identity .ensures in
+    let after-identity = c .before .before .before .before in
+    let s = after-identity .before .before in
+    let m = after-identity .identity .ensures in
     (measure-route _ _ _ _ (s .pre .0) _ (m .0) (m .1) (m .2) _ (s .pre .1) _, omega arith, omega arith, omega arith)
 
 add-t15 : tie.Need-add-t15
 add-t15 c =
-    let s = c .before .before .before .before .before .before .before .before .before in
-    let m = c .before .before .before .before .before .before .before .identity .ensures in
-    omega (arith, measured-low _ _ _ _ (s .pre .0) _ (m .0) (m .1) (m .2) _ (s .pre .1) _ _ _ _ _ (c .before .before .before .before .before .follow .ensures) (c .before .before .follow2 .ensures))
+    let after-follow = c .before .before .before .before .before in
+    let after-identity = after-follow .before .before in
+    let s = after-identity .before .before in
+    let m = after-identity .identity .ensures in
+    omega (
+      arith,
+      measured-low _ _ _ _ (s .pre .0) _ (m .0) (m .1) (m .2) _ (s .pre .1) _ _ _ _ _ (after-follow .follow .ensures)
+          (c .before .before .follow2 .ensures),
+    )
 
 add-t16 : tie.Need-add-t16
 add-t16 c =
-    let s = c .before .before .before .before .before .before .before .before .before .before in
-    let m = c .before .before .before .before .before .before .before .before .identity .ensures in
-    omega (arith, measured-low _ _ _ _ (s .pre .0) _ (m .0) (m .1) (m .2) _ (s .pre .1) _ _ _ _ _ (c .before .before .before .before .before .before .follow .ensures) (c .before .before .before .follow2 .ensures))
+    let after-follow2 = c .before .before .before in
+    let after-follow = after-follow2 .before .before .before in
+    let after-identity = after-follow .before .before in
+    let s = after-identity .before .before in
+    let m = after-identity .identity .ensures in
+    omega (
+      arith,
+      measured-low _ _ _ _ (s .pre .0) _ (m .0) (m .1) (m .2) _ (s .pre .1) _ _ _ _ _ (after-follow .follow .ensures)
+          (after-follow2 .follow2 .ensures),
+    )
 
 add-t17 : tie.Need-add-t17
 add-t17 c =
-    let s = c .before .before .before .before .before .before .before .before .before .before .before in
-    let m = c .before .before .before .before .before .before .before .before .before .identity .ensures in
-    omega (arith, measured-low _ _ _ _ (s .pre .0) _ (m .0) (m .1) (m .2) _ (s .pre .1) _ _ _ _ _ (c .before .before .before .before .before .before .before .follow .ensures) (c .before .before .before .before .follow2 .ensures))
+    let after-follow2 = c .before .before .before .before in
+    let after-follow = after-follow2 .before .before .before in
+    let after-identity = after-follow .before .before in
+    let s = after-identity .before .before in
+    let m = after-identity .identity .ensures in
+    omega (
+      arith,
+      measured-low _ _ _ _ (s .pre .0) _ (m .0) (m .1) (m .2) _ (s .pre .1) _ _ _ _ _ (after-follow .follow .ensures)
+          (after-follow2 .follow2 .ensures),
+    )
 
 returns : tie.Need-returns
 returns c =
-    let s = c .before .before .before .before .before .before .before .before .before .before .before in
-    let m = c .before .before .before .before .before .before .before .before .before .identity .ensures in
-    measured _ _ _ _ (s .pre .0) (c .before .before .before .before .before .before .before .before .before .identity .result) (m .0) (m .1) (m .2) _ (s .pre .1) _ _ _ (c .before .before .before .before .before .before .before .follow .result) (c .before .before .before .before .follow2 .result)
-    (c .before .before .before .before .before .before .before .follow .ensures) (c .before .before .before .before .follow2 .ensures)
+    let after-follow2 = c .before .before .before .before in
+    let after-follow = after-follow2 .before .before .before in
+    let after-identity = after-follow .before .before in
+    let s = after-identity .before .before in
+    let m = after-identity .identity .ensures in
+    measured _ _ _ _ (s .pre .0) (after-identity .identity .result) (m .0) (m .1) (m .2) _ (s .pre .1) _ _ _ (after-follow .follow .result)
+    (after-follow2 .follow2 .result)
+    (after-follow .follow .ensures) (after-follow2 .follow2 .ensures)
 
 pub measure-spec : {M : Type 1} → statement M
 measure-spec =

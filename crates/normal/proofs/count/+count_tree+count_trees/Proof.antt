@@ -47,7 +47,18 @@ count-trees-below t =
     and 1 count-trees-kinds.ps (falls 1 count-trees-kinds.ps _<_ μ-count-trees t) count-trees.Pre
 
 abbrev count-tree-uses : ℕ → count-tree-lts.Claims
-count-tree-uses t = (natural-reads.Asked, natural-reads.Learnt, node-len-reads.Asked, node-len-reads.Learnt, children-reads.Asked, children-reads.Learnt, alone-reads.Asked, alone-reads.Learnt, count-trees-below t, count-trees.Post)
+count-tree-uses t = (
+  natural-reads.Asked,
+  natural-reads.Learnt,
+  node-len-reads.Asked,
+  node-len-reads.Learnt,
+  children-reads.Asked,
+  children-reads.Learnt,
+  alone-reads.Asked,
+  alone-reads.Learnt,
+  count-trees-below t,
+  count-trees.Post,
+)
 
 abbrev count-trees-uses : ℕ → count-trees-lts.Claims
 count-trees-uses t = (count-tree-below t, count-tree.Post, joined-reads.Asked, joined-reads.Learnt, count-trees-below t, count-trees.Post)
@@ -59,37 +70,56 @@ count-tree-node-len-requires : (t : ℕ) → count-tree-lts.Need-node-len-requir
 count-tree-node-len-requires t c κs = standing-noded _ _ _ _ (c .before .before .pre .1 .0)
 
 count-tree-add-next : (t : ℕ) → count-tree-lts.Need-add-next (count-tree-uses t) (count-tree-at t) count-tree.Post
-count-tree-add-next t c = omega (arith, standing-there _ _ _ _ (c .before .before .before .pre .1 .0), c .node-len .ensures)
+count-tree-add-next t c =
+    let s = c .before .before .before in
+    omega (arith, standing-there _ _ _ _ (s .pre .1 .0), c .node-len .ensures)
 
 count-tree-sub-count-trees : (t : ℕ) → count-tree-lts.Need-sub-count-trees (count-tree-uses t) (count-tree-at t) count-tree.Post
-count-tree-sub-count-trees t c = omega (arith, standing-some _ _ _ _ (c .before .before .before .pre .1 .0))
+count-tree-sub-count-trees t c =
+    let s = c .before .before .before in
+    omega (arith, standing-some _ _ _ _ (s .pre .1 .0))
 
 count-tree-children-requires : (t : ℕ) → count-tree-lts.Need-children-requires (count-tree-uses t) (count-tree-at t) count-tree.Post
-count-tree-children-requires t c κs = standing-noded _ _ _ _ (c .before .before .before .pre .1 .0)
+count-tree-children-requires t c κs =
+    let s = c .before .before .before in
+    standing-noded _ _ _ _ (s .pre .1 .0)
 
 count-tree-alone-requires : (t : ℕ) → count-tree-lts.Need-alone-requires (count-tree-uses t) (count-tree-at t) count-tree.Post
 count-tree-alone-requires t c κs = search needs
 
 count-tree-count-trees-requires : (t : ℕ) → count-tree-lts.Need-count-trees-requires (count-tree-uses t) (count-tree-at t) count-tree.Post
 count-tree-count-trees-requires t c κs =
-    let s = c .before .before .before .before .before in
+    let after-natural = c .before .before .before in
+    let s = after-natural .before .before in
     let h = s .pre .1 .0 in
     let some = standing-some _ _ _ _ h in
     let long = c .before .before .node-len .ensures in
     let many = c .before .children .ensures in
     let few = children-few _ _ _ _ h _ _ long many in
     let is = s .pre .0 in
-    let start = c .alone .ensures in
-    (omega arith, (standing-children _ _ _ _ h _ _ long many, omega (arith, s .pre .1 .1), few, alone-low (eqb (c .before .before .before .natural .result) 6) _ start))
+    let start = c .alone .ensures in (
+      omega arith,
+      (
+        standing-children _ _ _ _ h _ _ long many,
+        omega (arith, s .pre .1 .1),
+        few,
+        alone-low (eqb (after-natural .natural .result) 6) _ start,
+      ),
+    )
 
 count-tree-returns : (t : ℕ) → count-tree-lts.Need-returns (count-tree-uses t) (count-tree-at t) count-tree.Post
 count-tree-returns t c =
-    let long = c .before .before .before .node-len .ensures in
-    let many = c .before .before .children .ensures in
-    (node-way _ _ _ _ _ _ _ long many (c .before .before .before .before .natural .ensures) (c .before .alone .ensures) (c .count-trees .ensures .0), node-ends _ _ _ _ _ long many (c .count-trees .ensures .1))
+    let after-node-len = c .before .before .before in
+    let after-natural = after-node-len .before in
+    let long = after-node-len .node-len .ensures in
+    let many = c .before .before .children .ensures in (
+      node-way _ _ _ _ _ _ _ long many (after-natural .natural .ensures) (c .before .alone .ensures) (c .count-trees .ensures .0),
+      node-ends _ _ _ _ _ long many (c .count-trees .ensures .1),
+    )
 
 count-trees-returns : (t : ℕ) → count-trees-lts.Need-returns (count-trees-uses t) (count-trees-at t) count-trees.Post
-count-trees-returns t c = (none-way _ _ _ (c .before .before .args .branches) _ (c .if1 .taken) (c .before .before .pre .1 .3), none-ends _ _ _ (c .if1 .taken))
+count-trees-returns t c =
+    (none-way _ _ _ (c .before .before .args .branches) _ (c .if1 .taken) (c .before .before .pre .1 .3), none-ends _ _ _ (c .if1 .taken))
 
 count-trees-count-tree-requires : (t : ℕ) → count-trees-lts.Need-count-tree-requires (count-trees-uses t) (count-trees-at t) count-trees.Post
 count-trees-count-tree-requires t c κs =
@@ -97,21 +127,32 @@ count-trees-count-tree-requires t c κs =
     (omega arith, (first-standing _ _ _ _ _ (c .if1 .left) (s .pre .1 .0), s .pre .1 .1))
 
 count-trees-joined-requires : (t : ℕ) → count-trees-lts.Need-joined-requires (count-trees-uses t) (count-trees-at t) count-trees.Post
-count-trees-joined-requires t c κs = (c .before .before .before .pre .1 .3, c .count-tree .ensures .0 .0)
+count-trees-joined-requires t c κs =
+    let s = c .before .before .before in
+    (s .pre .1 .3, c .count-tree .ensures .0 .0)
 
 count-trees-count-trees-requires : (t : ℕ) → count-trees-lts.Need-count-trees-requires (count-trees-uses t) (count-trees-at t) count-trees.Post
 count-trees-count-trees-requires t c κs =
     let s = c .before .before .before .before in
     let some = c .before .before .if1 .left in
-    let is = s .pre .0 in
-    (omega arith, (rest-standing _ _ _ _ _ some (s .pre .1 .0) _ (c .before .count-tree .ensures .1), s .pre .1 .1, omega (arith, s .pre .1 .2), omega (arith, c .joined .ensures)))
+    let is = s .pre .0 in (
+      omega arith,
+      (
+        rest-standing _ _ _ _ _ some (s .pre .1 .0) _ (c .before .count-tree .ensures .1),
+        s .pre .1 .1,
+        omega (arith, s .pre .1 .2),
+        omega (arith, c .joined .ensures),
+      ),
+    )
 
 count-trees-returns-2 : (t : ℕ) → count-trees-lts.Need-returns-2 (count-trees-uses t) (count-trees-at t) count-trees.Post
 count-trees-returns-2 t c =
-    let s = c .before .before .before .before .before in
-    let more = c .before .before .before .if1 .left in
+    let else1 = c .before .before .before in
+    let s = else1 .before .before in
+    let more = else1 .if1 .left in
     let first = c .before .before .count-tree .ensures in (
-      more-way _ _ _ (s .args .branches) (s .args .sofar) _ _ _ _ more (first .0) (first .1) (c .before .joined .ensures) (c .count-trees .ensures .0),
+      more-way _ _ _ (s .args .branches) (s .args .sofar) _ _ _ _ more (first .0) (first .1) (c .before .joined .ensures)
+          (c .count-trees .ensures .0),
       more-ends _ _ _ _ _ more (first .1) (c .count-trees .ensures .1),
     )
 

@@ -30,8 +30,10 @@ use Rattle.tree.specs.Standing.{Noded}
 use Rattle.tree.proofs.Noding.{code-there}
 use Rattle.tree.proofs.Standings.{standing-noded, standing-some, standing-there, first-standing, rest-standing}
 use Rattle.normal.specs.Followed.{Route, RouteAll}
-use Rattle.normal.proofs.Routes.{route-standing, route-choice, route-chosen, dep-dims, dep-composes, route-below, route-spot, route-after, visited-things, route-many}
-use Rattle.normal.proofs.Routes.{operands-standing, count-some, route-first, followed-things, route-next, case-way, node-way, dep-way, none-way, more-way}
+use Rattle.normal.proofs.Routes.{route-standing, route-choice, route-chosen, dep-dims, dep-composes, route-below, route-spot, route-after}
+use Rattle.normal.proofs.Routes.{visited-things, route-many}
+use Rattle.normal.proofs.Routes.{operands-standing, count-some, route-first, followed-things, route-next, case-way, node-way, dep-way}
+use Rattle.normal.proofs.Routes.{none-way, more-way}
 
 abbrev μ-follow : Measures 2 follow-kinds.ps ℕ
 μ-follow κs a = 70 * a .1 .1 .0
@@ -54,10 +56,40 @@ follow-all-below t =
     and 2 follow-all-kinds.ps (falls 2 follow-all-kinds.ps _<_ μ-follow-all t) follow-all.Pre
 
 abbrev follow-uses : ℕ → follow-lts.Claims
-follow-uses t = (natural-reads.Asked, natural-reads.Learnt, node-len-reads.Asked, node-len-reads.Learnt, children-reads.Asked, children-reads.Learnt, choose-reads.Asked, choose-reads.Learnt, follow-below t, follow.Post, map-read-reads.Asked, map-read-reads.Learnt, compose-reads.Asked, compose-reads.Learnt, visit-reads.Asked, visit-reads.Learnt, level-below-reads.Asked, level-below-reads.Learnt, follow-all-below t, follow-all.Post)
+follow-uses t = (
+  natural-reads.Asked,
+  natural-reads.Learnt,
+  node-len-reads.Asked,
+  node-len-reads.Learnt,
+  children-reads.Asked,
+  children-reads.Learnt,
+  choose-reads.Asked,
+  choose-reads.Learnt,
+  follow-below t,
+  follow.Post,
+  map-read-reads.Asked,
+  map-read-reads.Learnt,
+  compose-reads.Asked,
+  compose-reads.Learnt,
+  visit-reads.Asked,
+  visit-reads.Learnt,
+  level-below-reads.Asked,
+  level-below-reads.Learnt,
+  follow-all-below t,
+  follow-all.Post,
+)
 
 abbrev follow-all-uses : ℕ → follow-all-lts.Claims
-follow-all-uses t = (skip-reads.Asked, skip-reads.Learnt, count-all-reads.Asked, count-all-reads.Learnt, follow-below t, follow.Post, follow-all-below t, follow-all.Post)
+follow-all-uses t = (
+  skip-reads.Asked,
+  skip-reads.Learnt,
+  count-all-reads.Asked,
+  count-all-reads.Learnt,
+  follow-below t,
+  follow.Post,
+  follow-all-below t,
+  follow-all.Post,
+)
 
 -- the node
 noded : (t : ℕ) (c : follow-lts.Start (follow-uses t) (follow-at t) follow.Post) → Noded (varsOf (c .args .s .now)) (c .args .s .now) (c .args .at)
@@ -71,35 +103,52 @@ follow-natural-requires : (t : ℕ) → follow-lts.Need-natural-requires (follow
 follow-natural-requires t c κs = code-there _ _ _ (noded t (c .before .before))
 
 follow-node-len-requires : (t : ℕ) → follow-lts.Need-node-len-requires (follow-uses t) (follow-at t) follow.Post
-follow-node-len-requires t c κs = noded t (c .before .before .before)
+follow-node-len-requires t c κs =
+    let s = c .before .before .before in
+    noded t (s)
 
 follow-add-next : (t : ℕ) → follow-lts.Need-add-next (follow-uses t) (follow-at t) follow.Post
-follow-add-next t c = omega (arith, standing-there _ _ _ _ (route-standing _ _ _ _ _ _ _ _ _ (c .before .before .before .before .pre .1 .0)), c .node-len .ensures)
+follow-add-next t c =
+    let s = c .before .before .before .before in
+    omega (arith, standing-there _ _ _ _ (route-standing _ _ _ _ _ _ _ _ _ (s .pre .1 .0)), c .node-len .ensures)
 
 follow-children-requires : (t : ℕ) → follow-lts.Need-children-requires (follow-uses t) (follow-at t) follow.Post
-follow-children-requires t c κs = noded t (c .before .before .before .before)
+follow-children-requires t c κs =
+    let s = c .before .before .before .before in
+    noded t (s)
 
 follow-sub-choose : (t : ℕ) → follow-lts.Need-sub-choose (follow-uses t) (follow-at t) follow.Post
-follow-sub-choose t c = omega (arith, some t (c .before .before .before .before .before .before))
+follow-sub-choose t c =
+    let s = c .before .before .before .before .before .before in
+    omega (arith, some t (s))
 
 follow-choose-requires : (t : ℕ) → follow-lts.Need-choose-requires (follow-uses t) (follow-at t) follow.Post
 follow-choose-requires t c κs =
-    let s = c .before .before .before .before .before .before in
-    let six = sym (c .before .before .before .natural .ensures) ∙ c .if1 .taken in
-    (route-choice _ _ _ _ _ _ _ _ _ (s .pre .1 .0) six _ _ (c .before .before .node-len .ensures) (c .before .children .ensures), omega (arith, s .pre .1 .1))
+    let after-natural = c .before .before .before in
+    let s = after-natural .before .before .before in
+    let six = sym (after-natural .natural .ensures) ∙ c .if1 .taken in (
+      route-choice _ _ _ _ _ _ _ _ _ (s .pre .1 .0) six _ _ (c .before .before .node-len .ensures) (c .before .children .ensures),
+      omega (arith, s .pre .1 .1),
+    )
 
 follow-sub-follow : (t : ℕ) → follow-lts.Need-sub-follow (follow-uses t) (follow-at t) follow.Post
-follow-sub-follow t c = omega (arith, some t (c .before .before .before .before .before .before .before))
+follow-sub-follow t c =
+    let s = c .before .before .before .before .before .before .before in
+    omega (arith, some t (s))
 
 follow-follow-requires : (t : ℕ) → follow-lts.Need-follow-requires (follow-uses t) (follow-at t) follow.Post
 follow-follow-requires t c κs =
-    let s = c .before .before .before .before .before .before .before .before in
-    let six = sym (c .before .before .before .before .before .natural .ensures) ∙ c .before .before .if1 .taken in
+    let after-children = c .before .before .before in
+    let after-node-len = after-children .before in
+    let after-natural = after-node-len .before in
+    let s = after-natural .before .before .before in
+    let six = sym (after-natural .natural .ensures) ∙ c .before .before .if1 .taken in
     let left = some t s in
     let is = s .pre .0 in (
       omega arith,
       (
-        route-chosen _ _ _ _ _ _ _ _ _ (s .pre .1 .0) six _ _ (c .before .before .before .before .node-len .ensures) (c .before .before .before .children .ensures) _ (c .before .choose .ensures),
+        route-chosen _ _ _ _ _ _ _ _ _ (s .pre .1 .0) six _ _ (after-node-len .node-len .ensures) (after-children .children .ensures) _
+            (c .before .choose .ensures),
         omega (arith, s .pre .1 .1),
         omega (arith, s .pre .1 .2),
         s .pre .1 .3,
@@ -111,38 +160,56 @@ follow-same-length t c = search needs
 
 follow-returns : (t : ℕ) → follow-lts.Need-returns (follow-uses t) (follow-at t) follow.Post
 follow-returns t c =
-    let s = c .before .before .before .before .before .before .before .before .before .before .before in
-    let six = sym (c .before .before .before .before .before .before .before .before .natural .ensures) ∙ c .before .before .before .before .before .if1 .taken in
-    case-way _ _ (s .args .m) (s .args .b) (s .args .tree) (s .args .level) (s .args .dry) (s .args .pen) _ _ (c .before .before .before .before .before .before .before .node-len .ensures) _ (c .before .before .before .before .before .before .children .ensures)
-    _ six (c .before .before .before .before .choose .ensures) (c .before .before .follow .ensures)
+    let after-choose = c .before .before .before .before in
+    let then1 = after-choose .before in
+    let after-children = then1 .before in
+    let after-node-len = after-children .before in
+    let after-natural = after-node-len .before in
+    let s = after-natural .before .before .before in
+    let six = sym (after-natural .natural .ensures) ∙ then1 .if1 .taken in
+    case-way _ _ (s .args .m) (s .args .b) (s .args .tree) (s .args .level) (s .args .dry) (s .args .pen) _ _ (after-node-len .node-len .ensures) _
+    (after-children .children .ensures)
+    _ six (after-choose .choose .ensures) (c .before .before .follow .ensures)
 
 follow-add-map-read : (t : ℕ) → follow-lts.Need-add-map-read (follow-uses t) (follow-at t) follow.Post
-follow-add-map-read t c = omega (arith, code-there _ _ _ (noded t (c .before .before .before .before .before .before .before)))
+follow-add-map-read t c =
+    let s = c .before .before .before .before .before .before .before in
+    omega (arith, code-there _ _ _ (noded t (s)))
 
 follow-map-read-requires : (t : ℕ) → follow-lts.Need-map-read-requires (follow-uses t) (follow-at t) follow.Post
 follow-map-read-requires t c κs = search needs
 
 follow-compose-requires : (t : ℕ) → follow-lts.Need-compose-requires (follow-uses t) (follow-at t) follow.Post
 follow-compose-requires t c κs =
-    let s = c .before .before .before .before .before .before .before .before in
-    let eight = sym (c .before .before .before .before .before .natural .ensures) ∙ c .before .if2 .taken in
-    let read = c .map-read .ensures in
-    (read .neat, s .pre .1 .0 .carried .neat, dep-dims _ _ _ _ _ _ _ _ _ (s .pre .1 .0) eight _ read, dep-composes _ _ _ _ _ _ _ _ _ (s .pre .1 .0) eight _ read)
+    let after-natural = c .before .before .before .before .before in
+    let s = after-natural .before .before .before in
+    let eight = sym (after-natural .natural .ensures) ∙ c .before .if2 .taken in
+    let read = c .map-read .ensures in (
+      read .neat,
+      s .pre .1 .0 .carried .neat,
+      dep-dims _ _ _ _ _ _ _ _ _ (s .pre .1 .0) eight _ read,
+      dep-composes _ _ _ _ _ _ _ _ _ (s .pre .1 .0) eight _ read,
+    )
 
 follow-sub-follow-2 : (t : ℕ) → follow-lts.Need-sub-follow-2 (follow-uses t) (follow-at t) follow.Post
-follow-sub-follow-2 t c = omega (arith, some t (c .before .before .before .before .before .before .before .before .before))
+follow-sub-follow-2 t c =
+    let s = c .before .before .before .before .before .before .before .before .before in
+    omega (arith, some t (s))
 
 follow-follow-requires-2 : (t : ℕ) → follow-lts.Need-follow-requires-2 (follow-uses t) (follow-at t) follow.Post
 follow-follow-requires-2 t c κs =
-    let s = c .before .before .before .before .before .before .before .before .before .before in
-    let eight = sym (c .before .before .before .before .before .before .before .natural .ensures) ∙ c .before .before .before .if2 .taken in
+    let then2 = c .before .before .before in
+    let after-node-len = then2 .before .before .before in
+    let after-natural = after-node-len .before in
+    let s = after-natural .before .before .before in
+    let eight = sym (after-natural .natural .ensures) ∙ then2 .if2 .taken in
     let read = c .before .before .map-read .ensures in
     let w = c .before .compose .ensures in
     let left = some t s in
     let is = s .pre .0 in (
       omega arith,
       (
-        route-below _ _ _ _ _ _ _ _ _ (s .pre .1 .0) eight _ read _ (c .before .before .before .before .before .before .node-len .ensures) _ (w .0) (w .1) (w .2),
+        route-below _ _ _ _ _ _ _ _ _ (s .pre .1 .0) eight _ read _ (after-node-len .node-len .ensures) _ (w .0) (w .1) (w .2),
         omega (arith, s .pre .1 .1),
         omega (arith, s .pre .1 .2),
         s .pre .1 .3,
@@ -154,17 +221,31 @@ follow-same-length-2 t c = search needs
 
 follow-returns-2 : (t : ℕ) → follow-lts.Need-returns-2 (follow-uses t) (follow-at t) follow.Post
 follow-returns-2 t c =
-    let s = c .before .before .before .before .before .before .before .before .before .before .before .before .before in
-    let eight = sym (c .before .before .before .before .before .before .before .before .before .before .natural .ensures) ∙ c .before .before .before .before .before .before .if2 .taken in
-    dep-way _ _ (s .args .m) (s .args .b) (s .args .tree) (s .args .level) (s .args .dry) (s .args .pen) _ _ (c .before .before .before .before .before .before .before .before .before .node-len .ensures) (c .before .before .before .before .before .map-read .result) (c .before .before .before .before .compose .result) eight (c .before .before .before .before .before .map-read .ensures)
-    (c .before .before .before .before .compose .ensures .0) (c .before .before .follow2 .ensures)
+    let after-compose = c .before .before .before .before in
+    let after-map-read = after-compose .before in
+    let then2 = after-map-read .before in
+    let after-node-len = then2 .before .before .before in
+    let after-natural = after-node-len .before in
+    let s = after-natural .before .before .before in
+    let eight = sym (after-natural .natural .ensures) ∙ then2 .if2 .taken in
+    dep-way _ _ (s .args .m) (s .args .b) (s .args .tree) (s .args .level) (s .args .dry) (s .args .pen) _ _ (after-node-len .node-len .ensures)
+    (after-map-read .map-read .result) (after-compose .compose .result) eight (after-map-read .map-read .ensures)
+    (after-compose .compose .ensures .0) (c .before .before .follow2 .ensures)
 
 -- any other code
-six : (t : ℕ) (c : follow-lts.Else2 (follow-uses t) (follow-at t) follow.Post) → natAbs (field (c .before .before .before .before .before .before .before .args .s .now) (c .before .before .before .before .before .before .before .args .at)) ≡ 6 → ⊥
-six t c e = c .before .if1 .left (c .before .before .before .before .natural .ensures ∙ e)
+six : (t : ℕ) (c : follow-lts.Else2 (follow-uses t) (follow-at t) follow.Post) →
+    natAbs (field (c .before .before .before .before .before .before .before .args .s .now)
+    (c .before .before .before .before .before .before .before .args .at)) ≡ 6 → ⊥
+six t c e =
+    let after-natural = c .before .before .before .before in
+    c .before .if1 .left (after-natural .natural .ensures ∙ e)
 
-eight : (t : ℕ) (c : follow-lts.Else2 (follow-uses t) (follow-at t) follow.Post) → natAbs (field (c .before .before .before .before .before .before .before .args .s .now) (c .before .before .before .before .before .before .before .args .at)) ≡ 8 → ⊥
-eight t c e = c .if2 .left (c .before .before .before .before .natural .ensures ∙ e)
+eight : (t : ℕ) (c : follow-lts.Else2 (follow-uses t) (follow-at t) follow.Post) →
+    natAbs (field (c .before .before .before .before .before .before .before .args .s .now)
+    (c .before .before .before .before .before .before .before .args .at)) ≡ 8 → ⊥
+eight t c e =
+    let after-natural = c .before .before .before .before in
+    c .if2 .left (after-natural .natural .ensures ∙ e)
 
 follow-visit-requires : (t : ℕ) → follow-lts.Need-visit-requires (follow-uses t) (follow-at t) follow.Post
 follow-visit-requires t c κs =
@@ -172,26 +253,37 @@ follow-visit-requires t c κs =
     (route-spot _ _ _ _ _ _ _ _ _ (s .pre .1 .0) (six t (c .before)) (eight t (c .before)), omega (arith, s .pre .1 .2), s .pre .1 .3)
 
 follow-level-below-requires : (t : ℕ) → follow-lts.Need-level-below-requires (follow-uses t) (follow-at t) follow.Post
-follow-level-below-requires t c κs = omega (arith, c .before .before .before .before .before .before .before .before .before .before .before .pre .1 .2)
+follow-level-below-requires t c κs =
+    let s = c .before .before .before .before .before .before .before .before .before .before .before in
+    omega (arith, s .pre .1 .2)
 
 follow-sub-follow-all : (t : ℕ) → follow-lts.Need-sub-follow-all (follow-uses t) (follow-at t) follow.Post
-follow-sub-follow-all t c = omega (arith, some t (c .before .before .before .before .before .before .before .before .before .before .before .before))
+follow-sub-follow-all t c =
+    let s = c .before .before .before .before .before .before .before .before .before .before .before .before in
+    omega (arith, some t (s))
 
 follow-follow-all-requires : (t : ℕ) → follow-lts.Need-follow-all-requires (follow-uses t) (follow-at t) follow.Post
 follow-follow-all-requires t c κs =
-    let s = c .before .before .before .before .before .before .before .before .before .before .before .before .before in
+    let after-visit = c .before .before .before .before in
+    let else2 = after-visit .before .before in
+    let after-children = else2 .before .before in
+    let after-node-len = after-children .before in
+    let after-natural = after-node-len .before in
+    let s = after-natural .before .before .before in
     let h = s .pre .1 .0 in
-    let long = c .before .before .before .before .before .before .before .before .before .node-len .ensures in
-    let many = c .before .before .before .before .before .before .before .before .children .ensures in
-    let code = c .before .before .before .before .before .before .before .before .before .before .natural .ensures in
+    let long = after-node-len .node-len .ensures in
+    let many = after-children .children .ensures in
+    let code = after-natural .natural .ensures in
     let below = c .before .level-below .ensures in
-    let visited = c .before .before .before .before .visit .ensures in
-    let not-six = six t (c .before .before .before .before .before .before) in
-    let not-eight = eight t (c .before .before .before .before .before .before) in
+    let visited = after-visit .visit .ensures in
+    let not-six = six t (else2) in
+    let not-eight = eight t (else2) in
     let left = some t s in
     let is = s .pre .0 in
     let few = route-many _ _ _ _ _ _ _ _ _ h not-six not-eight _ _ long many _ (λ nd e. below .0 nd (e ∙ sym code)) _ _ _ _ _ refl visited in
-    let things = visited-things _ _ _ _ _ _ _ _ _ h not-six not-eight _ _ long many _ (λ nd e. below .0 nd (e ∙ sym code)) _ _ _ _ _ refl visited (s .pre .1 .3) in (
+    let things =
+    visited-things _ _ _ _ _ _ _ _ _ h not-six not-eight _ _ long many _ (λ nd e. below .0 nd (e ∙ sym code)) _ _ _ _ _ refl visited
+    (s .pre .1 .3) in (
       omega arith,
       (
         route-after _ _ _ _ _ _ _ _ _ h not-six not-eight _ _ long many _ (λ nd e. below .0 nd (e ∙ sym code)) _ _ _ _ _ refl visited refl,
@@ -207,11 +299,18 @@ follow-same-length-3 t c = search needs
 
 follow-returns-3 : (t : ℕ) → follow-lts.Need-returns-3 (follow-uses t) (follow-at t) follow.Post
 follow-returns-3 t c =
-    let s = c .before .before .before .before .before .before .before .before .before .before .before .before .before .before .before .before in
-    let code = c .before .before .before .before .before .before .before .before .before .before .before .before .before .natural .ensures in
-    let below = c .before .before .before .before .level-below .ensures in
-    node-way _ _ (s .args .m) (s .args .b) (s .args .tree) (s .args .level) (s .args .dry) (s .args .pen) _ _ (c .before .before .before .before .before .before .before .before .before .before .before .before .node-len .ensures) _ (c .before .before .before .before .before .before .before .before .before .before .before .children .ensures)
-    _ (six t (c .before .before .before .before .before .before .before .before .before)) (eight t (c .before .before .before .before .before .before .before .before .before)) (λ nd e. below .0 nd (e ∙ sym code)) (c .before .before .before .before .before .before .before .visit .ensures) (c .before .before .follow-all .ensures)
+    let after-level-below = c .before .before .before .before in
+    let after-visit = after-level-below .before .before .before in
+    let else2 = after-visit .before .before in
+    let after-children = else2 .before .before in
+    let after-node-len = after-children .before in
+    let after-natural = after-node-len .before in
+    let s = after-natural .before .before .before in
+    let code = after-natural .natural .ensures in
+    let below = after-level-below .level-below .ensures in
+    node-way _ _ (s .args .m) (s .args .b) (s .args .tree) (s .args .level) (s .args .dry) (s .args .pen) _ _ (after-node-len .node-len .ensures) _
+    (after-children .children .ensures)
+    _ (six t (else2)) (eight t (else2)) (λ nd e. below .0 nd (e ∙ sym code)) (after-visit .visit .ensures) (c .before .before .follow-all .ensures)
 
 follow-all-returns : (t : ℕ) → follow-all-lts.Need-returns (follow-all-uses t) (follow-all-at t) follow-all.Post
 follow-all-returns t c =
@@ -226,19 +325,25 @@ follow-all-skip-requires t c κs =
 follow-all-count-all-requires : (t : ℕ) → follow-all-lts.Need-count-all-requires (follow-all-uses t) (follow-all-at t) follow-all.Post
 follow-all-count-all-requires t c κs =
     let s = c .before .before .before .before in
-    let more = c .before .if1 .left in
-    (rest-standing _ _ _ _ _ more (operands-standing _ _ _ _ _ _ _ _ _ _ more (s .pre .1 .0)) _ (c .skip .ensures), s .pre .1 .1, omega (arith, s .pre .1 .3))
+    let more = c .before .if1 .left in (
+      rest-standing _ _ _ _ _ more (operands-standing _ _ _ _ _ _ _ _ _ _ more (s .pre .1 .0)) _ (c .skip .ensures),
+      s .pre .1 .1,
+      omega (arith, s .pre .1 .3),
+    )
 
 follow-all-div-follow : (t : ℕ) → follow-all-lts.Need-div-follow (follow-all-uses t) (follow-all-at t) follow-all.Post
-follow-all-div-follow t c = omega (arith, count-some _ _ _ _ _ _ _ _ _ _ (c .before .before .if1 .left) (c .before .before .before .before .before .pre .1 .0) _ _ (c .before .skip .ensures) (c .count-all .ensures))
+follow-all-div-follow t c =
+    let s = c .before .before .before .before .before in
+    omega (arith, count-some _ _ _ _ _ _ _ _ _ _ (c .before .before .if1 .left) (s .pre .1 .0) _ _ (c .before .skip .ensures) (c .count-all .ensures))
 
 follow-all-follow-requires : (t : ℕ) → follow-all-lts.Need-follow-requires (follow-all-uses t) (follow-all-at t) follow-all.Post
 follow-all-follow-requires t c κs =
-    let s = c .before .before .before .before .before .before in
+    let else1 = c .before .before .before in
+    let s = else1 .before .before .before in
     let is = s .pre .0 in (
       omega arith,
       (
-        route-first _ _ _ _ _ _ _ _ _ _ (c .before .before .before .if1 .left) (s .pre .1 .0) _ _ (c .before .before .skip .ensures) (c .before .count-all .ensures),
+        route-first _ _ _ _ _ _ _ _ _ _ (else1 .if1 .left) (s .pre .1 .0) _ _ (c .before .before .skip .ensures) (c .before .count-all .ensures),
         s .pre .1 .1,
         s .pre .1 .2,
         s .pre .1 .4,
@@ -246,16 +351,29 @@ follow-all-follow-requires t c κs =
     )
 
 follow-all-rem-follow-all : (t : ℕ) → follow-all-lts.Need-rem-follow-all (follow-all-uses t) (follow-all-at t) follow-all.Post
-follow-all-rem-follow-all t c = omega (arith, count-some _ _ _ _ _ _ _ _ _ _ (c .before .before .before .before .before .before .if1 .left) (c .before .before .before .before .before .before .before .before .before .pre .1 .0) _ _ (c .before .before .before .before .before .skip .ensures) (c .before .before .before .before .count-all .ensures))
+follow-all-rem-follow-all t c =
+    let after-count-all = c .before .before .before .before in
+    let after-skip = after-count-all .before in
+    let else1 = after-skip .before in
+    let s = else1 .before .before .before in
+    omega (
+      arith,
+      count-some _ _ _ _ _ _ _ _ _ _ (else1 .if1 .left) (s .pre .1 .0) _ _ (after-skip .skip .ensures)
+          (after-count-all .count-all .ensures),
+    )
 
 follow-all-follow-all-requires : (t : ℕ) → follow-all-lts.Need-follow-all-requires (follow-all-uses t) (follow-all-at t) follow-all.Post
 follow-all-follow-all-requires t c κs =
-    let s = c .before .before .before .before .before .before .before .before .before .before in
+    let after-follow = c .before .before .before in
+    let after-count-all = after-follow .before .before in
+    let after-skip = after-count-all .before in
+    let else1 = after-skip .before in
+    let s = else1 .before .before .before in
     let h = s .pre .1 .0 in
-    let more = c .before .before .before .before .before .before .before .if1 .left in
-    let ends = c .before .before .before .before .before .before .skip .ensures in
-    let counted = c .before .before .before .before .before .count-all .ensures in
-    let followed = c .before .before .before .follow .ensures in
+    let more = else1 .if1 .left in
+    let ends = after-skip .skip .ensures in
+    let counted = after-count-all .count-all .ensures in
+    let followed = after-follow .follow .ensures in
     let is = s .pre .0 in (
       omega arith,
       (
@@ -272,9 +390,14 @@ follow-all-same-length t c = search needs
 
 follow-all-returns-2 : (t : ℕ) → follow-all-lts.Need-returns-2 (follow-all-uses t) (follow-all-at t) follow-all.Post
 follow-all-returns-2 t c =
-    let s = c .before .before .before .before .before .before .before .before .before .before .before .before .before in
-    more-way _ _ (s .args .m) (s .args .b) (s .args .tree) (s .args .level) (s .args .dry) (s .args .pen) _ _ _ _ (c .before .before .before .before .before .before .before .before .before .before .if1 .left) (s .pre .1 .0 .low) (c .before .before .before .before .before .before .before .before .before .skip .ensures)
-    (c .before .before .before .before .before .before .before .before .count-all .ensures) (c .before .before .before .before .before .before .follow .ensures) (c .before .before .follow-all .ensures)
+    let after-follow = c .before .before .before .before .before .before in
+    let after-count-all = after-follow .before .before in
+    let after-skip = after-count-all .before in
+    let else1 = after-skip .before in
+    let s = else1 .before .before .before in
+    more-way _ _ (s .args .m) (s .args .b) (s .args .tree) (s .args .level) (s .args .dry) (s .args .pen) _ _ _ _ (else1 .if1 .left)
+    (s .pre .1 .0 .low) (after-skip .skip .ensures)
+    (after-count-all .count-all .ensures) (after-follow .follow .ensures) (c .before .before .follow-all .ensures)
 
 pub +follow+follow-all-spec : {M : Type 1} → statement M
 +follow+follow-all-spec = close μ-follow μ-follow-all (λ t. follow-lts.spec (follow-uses t) (follow-at t)

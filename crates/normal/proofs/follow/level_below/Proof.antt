@@ -15,7 +15,8 @@ add-result : tie.Need-add-result
 add-result c = search needs
 
 returns-3 : tie.Need-returns-3
-returns-3 c = (λ nd e. level-operator nd (c .before .before .args .level) (omega (arith, c .before .if1 .left)) (omega (arith, c .if2 .left)), omega arith)
+returns-3 c =
+    (λ nd e. level-operator nd (c .before .before .args .level) (omega (arith, c .before .if1 .left)) (omega (arith, c .if2 .left)), omega arith)
 
 pub level-below-spec : {M : Type 1} → statement M
 level-below-spec = tie.close (tie.spec returns returns-2 add-result returns-3)

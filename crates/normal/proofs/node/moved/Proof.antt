@@ -16,9 +16,11 @@ add-t5 c = search needs
 
 returns : tie.Need-returns
 returns c =
-    let p = c .before .before .before .before .before .args .pen in
-    let z = c .before .before .before .before .before .args .size in
-    ap (λ d. record { to = p .to + z .to; things = p .things + z .things; deep = d }) (c .before .before .before .before .larger .ensures)
+    let after-larger = c .before .before .before .before in
+    let s = after-larger .before in
+    let p = s .args .pen in
+    let z = s .args .size in
+    ap (λ d. record { to = p .to + z .to; things = p .things + z .things; deep = d }) (after-larger .larger .ensures)
 
 pub moved-spec : {M : Type 1} → statement M
 moved-spec = tie.close (tie.spec larger-requires add-t4 add-t5 returns)

@@ -29,16 +29,24 @@ add-t9 : tie.Need-add-t9
 add-t9 c = search needs
 
 returns : tie.Need-returns
-returns c = λ nd e. leaf-moves (c .before .before .before .args .m) (c .before .before .before .args .level) nd (omega (arith, c .before .before .if1 .taken))
+returns c =
+    let s = c .before .before .before in
+    λ nd e. leaf-moves (s .args .m) (s .args .level) nd (omega (arith, c .before .before .if1 .taken))
 
 returns-2 : tie.Need-returns-2
-returns-2 c = λ nd e. operator-moves (c .before .before .args .m) (c .before .before .args .level) nd (omega (arith, c .before .if1 .left)) (omega (arith, c .if2 .taken))
+returns-2 c =
+    λ nd e. operator-moves (c .before .before .args .m) (c .before .before .args .level) nd (omega (arith, c .before .if1 .left))
+    (omega (arith, c .if2 .taken))
 
 returns-3 : tie.Need-returns-3
-returns-3 c = λ nd e. if-moves (c .before .before .before .args .m) (c .before .before .before .args .level) nd (omega (arith, c .before .if2 .left)) (omega (arith, c .if3 .taken))
+returns-3 c =
+    let s = c .before .before .before in
+    λ nd e. if-moves (s .args .m) (s .args .level) nd (omega (arith, c .before .if2 .left)) (omega (arith, c .if3 .taken))
 
 returns-4 : tie.Need-returns-4
-returns-4 c = λ nd e. sym (other-out (mapOf (c .before .before .before .args .m)) nd (c .before .before .before .args .level) (omega (arith, c .if3 .left)))
+returns-4 c =
+    let s = c .before .before .before in
+    λ nd e. sym (other-out (mapOf (s .args .m)) nd (s .args .level) (omega (arith, c .if3 .left)))
 
 pub node-size-spec : {M : Type 1} → statement M
 node-size-spec =

@@ -18,18 +18,21 @@ natural-requires c κs = code-there _ _ _ (c .before .before .pre .0)
 
 put-nat-requires : tie.Need-put-nat-requires
 put-nat-requires c κs =
+    let s = c .before .before .before .before .before in
     let five = sym (c .before .before .natural .ensures) ∙ c .before .if1 .taken in
-    omega (arith, c .before .before .before .before .before .pre .1, head-long (c .before .before .before .before .before .args .s .now) (c .before .before .before .before .before .args .at) five)
+    omega (arith, s .pre .1, head-long (s .args .s .now) (s .args .at) five)
 
 same-length : tie.Need-same-length
 same-length c = search needs
 
 returns : tie.Need-returns
 returns c =
-    let s = c .before .before .before .before .before .before .before .before in
-    let code = c .before .before .before .before .before .natural .ensures in
+    let then1 = c .before .before .before .before in
+    let after-natural = then1 .before in
+    let s = after-natural .before .before .before in
+    let code = after-natural .natural .ensures in
     c .before .before .put-nat .ensures ∙ ap (λ i. sets (s .args .out .now) (s .args .to) (nat i)) code
-    ∙ ap (sets (s .args .out .now) (s .args .to)) (head-if (s .args .s .now) (s .args .at) (sym code ∙ c .before .before .before .before .if1 .taken))
+    ∙ ap (sets (s .args .out .now) (s .args .to)) (head-if (s .args .s .now) (s .args .at) (sym code ∙ then1 .if1 .taken))
 
 put-nat-requires-2 : tie.Need-put-nat-requires-2
 put-nat-requires-2 c κs =
@@ -40,26 +43,43 @@ add-put : tie.Need-add-put
 add-put c = search needs
 
 add-number-at : tie.Need-add-number-at
-add-number-at c = omega (arith, second-there _ _ _ (c .before .before .before .before .before .before .before .before .before .pre .0) (λ e. c .before .before .before .before .before .if1 .left (c .before .before .before .before .before .before .natural .ensures ∙ e)))
+add-number-at c =
+    let else1 = c .before .before .before .before .before in
+    let after-natural = else1 .before in
+    let s = after-natural .before .before .before in
+    omega (arith, second-there _ _ _ (s .pre .0) (λ e. else1 .if1 .left (after-natural .natural .ensures ∙ e)))
 
 number-at-requires : tie.Need-number-at-requires
-number-at-requires c κs = omega (arith, second-there _ _ _ (c .before .before .before .before .before .before .before .before .before .pre .0) (λ e. c .before .before .before .before .before .if1 .left (c .before .before .before .before .before .before .natural .ensures ∙ e)))
+number-at-requires c κs =
+    let else1 = c .before .before .before .before .before in
+    let after-natural = else1 .before in
+    let s = after-natural .before .before .before in
+    omega (arith, second-there _ _ _ (s .pre .0) (λ e. else1 .if1 .left (after-natural .natural .ensures ∙ e)))
 
 put-requires : tie.Need-put-requires
-put-requires c κs = omega (arith, c .before .before .before .before .before .before .before .before .before .before .pre .1, head-other-long (c .before .before .before .before .before .before .before .before .before .before .args .s .now) (c .before .before .before .before .before .before .before .before .before .before .args .at) (λ e. c .before .before .before .before .before .before .if1 .left (c .before .before .before .before .before .before .before .natural .ensures ∙ e)))
+put-requires c κs =
+    let else1 = c .before .before .before .before .before .before in
+    let after-natural = else1 .before in
+    let s = after-natural .before .before .before in
+    omega (arith, s .pre .1, head-other-long (s .args .s .now) (s .args .at) (λ e. else1 .if1 .left (after-natural .natural .ensures ∙ e)))
 
 same-length-2 : tie.Need-same-length-2
 same-length-2 c = search needs
 
 returns-2 : tie.Need-returns-2
 returns-2 c =
-    let s = c .before .before .before .before .before .before .before .before .before .before .before .before .before in
-    let code = c .before .before .before .before .before .before .before .before .before .before .natural in
-    let x = c .before .before .before .number-at in
-    sets-after (s .args .out .now) (s .args .to) 8 (nat (code .result)) (num (x .result .v)) (length-nat (code .result)) (c .before .before .before .before .before .before .before .put-nat2 .ensures) (c .before .before .put .ensures)
+    let after-number-at = c .before .before .before in
+    let after-put-nat2 = after-number-at .before .before .before .before in
+    let else1 = after-put-nat2 .before .before in
+    let after-natural = else1 .before in
+    let s = after-natural .before .before .before in
+    let code = after-natural .natural in
+    let x = after-number-at .number-at in
+    sets-after (s .args .out .now) (s .args .to) 8 (nat (code .result)) (num (x .result .v)) (length-nat (code .result))
+    (after-put-nat2 .put-nat2 .ensures) (c .before .before .put .ensures)
     ∙ ap (λ i. sets (s .args .out .now) (s .args .to) (nat i ++ num (x .result .v))) (code .ensures)
     ∙ ap (λ y. sets (s .args .out .now) (s .args .to) (nat (natAbs (field (s .args .s .now) (s .args .at))) ++ num y)) (x .ensures)
-    ∙ ap (sets (s .args .out .now) (s .args .to)) (head-other (s .args .s .now) (s .args .at) (λ e. c .before .before .before .before .before .before .before .before .before .if1 .left (code .ensures ∙ e)))
+    ∙ ap (sets (s .args .out .now) (s .args .to)) (head-other (s .args .s .now) (s .args .at) (λ e. else1 .if1 .left (code .ensures ∙ e)))
 
 pub put-head-spec : {M : Type 1} → statement M
 put-head-spec =

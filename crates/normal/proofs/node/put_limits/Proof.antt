@@ -14,37 +14,47 @@ natural-requires : tie.Need-natural-requires
 natural-requires c κs = code-there _ _ _ (noded _ _ (c .before .before .args .m) _ _ _ (c .before .before .pre))
 
 returns : tie.Need-returns
-returns c = other-limits-stores _ _ (c .before .before .before .before .args .m) (c .before .before .before .before .args .to) (c .before .before .before .before .args .out .now) (λ e. c .if1 .taken (c .before .natural .ensures ∙ e))
+returns c =
+    let s = c .before .before .before .before in
+    other-limits-stores _ _ (s .args .m) (s .args .to) (s .args .out .now) (λ e. c .if1 .taken (c .before .natural .ensures ∙ e))
 
 add-natural : tie.Need-add-natural
 add-natural c =
+    let s = c .before .before .before .before in
     let seven = sym (c .before .natural .ensures) ∙ c .if1 .left in
-    omega (arith, wide-fields _ _ _ (noded _ _ (c .before .before .before .before .args .m) _ _ _ (c .before .before .before .before .pre)) (omega arith) .there)
+    omega (arith, wide-fields _ _ _ (noded _ _ (s .args .m) _ _ _ (s .pre)) (omega arith) .there)
 
 natural-requires-2 : tie.Need-natural-requires-2
 natural-requires-2 c κs =
+    let s = c .before .before .before .before in
     let seven = sym (c .before .natural .ensures) ∙ c .if1 .left in
-    omega (arith, wide-fields _ _ _ (noded _ _ (c .before .before .before .before .args .m) _ _ _ (c .before .before .before .before .pre)) (omega arith) .there)
+    omega (arith, wide-fields _ _ _ (noded _ _ (s .args .m) _ _ _ (s .pre)) (omega arith) .there)
 
 add-natural-2 : tie.Need-add-natural-2
 add-natural-2 c =
+    let s = c .before .before .before .before .before in
     let seven = sym (c .before .before .natural .ensures) ∙ c .before .if1 .left in
-    omega (arith, wide-fields _ _ _ (noded _ _ (c .before .before .before .before .before .args .m) _ _ _ (c .before .before .before .before .before .pre)) (omega arith) .there)
+    omega (arith, wide-fields _ _ _ (noded _ _ (s .args .m) _ _ _ (s .pre)) (omega arith) .there)
 
 natural-requires-3 : tie.Need-natural-requires-3
 natural-requires-3 c κs =
+    let s = c .before .before .before .before .before in
     let seven = sym (c .before .before .natural .ensures) ∙ c .before .if1 .left in
-    omega (arith, wide-fields _ _ _ (noded _ _ (c .before .before .before .before .before .args .m) _ _ _ (c .before .before .before .before .before .pre)) (omega arith) .there)
+    omega (arith, wide-fields _ _ _ (noded _ _ (s .args .m) _ _ _ (s .pre)) (omega arith) .there)
 
 add-put-constraints : tie.Need-add-put-constraints
 add-put-constraints c =
-    let seven = sym (c .before .before .before .natural .ensures) ∙ c .before .before .if1 .left in
-    omega (arith, wide-fields _ _ _ (noded _ _ (c .before .before .before .before .before .before .args .m) _ _ _ (c .before .before .before .before .before .before .pre)) (omega arith) .there)
+    let after-natural = c .before .before .before in
+    let s = after-natural .before .before .before in
+    let seven = sym (after-natural .natural .ensures) ∙ c .before .before .if1 .left in
+    omega (arith, wide-fields _ _ _ (noded _ _ (s .args .m) _ _ _ (s .pre)) (omega arith) .there)
 
 put-constraints-requires : tie.Need-put-constraints-requires
 put-constraints-requires c κs =
-    let s = c .before .before .before .before .before .before .before in
-    let seven = sym (c .before .before .before .before .natural .ensures) ∙ c .before .before .before .if1 .left in
+    let else1 = c .before .before .before in
+    let after-natural = else1 .before in
+    let s = after-natural .before .before .before in
+    let seven = sym (after-natural .natural .ensures) ∙ else1 .if1 .left in
     let dim = c .before .before .natural2 .ensures in
     let many = c .before .natural3 .ensures in
     let h = s .pre .limits seven in
@@ -55,9 +65,14 @@ same-length c = search needs
 
 returns-2 : tie.Need-returns-2
 returns-2 c =
-    let s = c .before .before .before .before .before .before .before .before .before .before in
-    let seven = sym (c .before .before .before .before .before .before .before .natural .ensures) ∙ c .before .before .before .before .before .before .if1 .left in
-    limits-stores _ _ (s .args .m) (s .args .to) _ _ (s .args .out .now) seven (c .before .before .before .before .natural3 .ensures) (c .before .before .before .before .before .natural2 .ensures) (c .before .before .put-constraints .ensures)
+    let after-natural3 = c .before .before .before .before in
+    let after-natural2 = after-natural3 .before in
+    let else1 = after-natural2 .before in
+    let after-natural = else1 .before in
+    let s = after-natural .before .before .before in
+    let seven = sym (after-natural .natural .ensures) ∙ else1 .if1 .left in
+    limits-stores _ _ (s .args .m) (s .args .to) _ _ (s .args .out .now) seven (after-natural3 .natural3 .ensures) (after-natural2 .natural2 .ensures)
+    (c .before .before .put-constraints .ensures)
 
 pub put-limits-spec : {M : Type 1} → statement M
 put-limits-spec =

@@ -16,7 +16,10 @@ same-length : tie.Need-same-length
 same-length c = search needs
 
 returns : tie.Need-returns
-returns c = stores-as _ _ (c .before .before .before .before .before .before .before .args .m) (c .before .before .before .before .before .before .before .args .to) (c .before .before .before .before .before .before .before .args .out .now) (c .before .before .before .before .if1 .taken) (c .before .before .put-node .ensures)
+returns c =
+    let then1 = c .before .before .before .before in
+    let s = then1 .before .before .before in
+    stores-as _ _ (s .args .m) (s .args .to) (s .args .out .now) (then1 .if1 .taken) (c .before .before .put-node .ensures)
 
 put-limits-requires : tie.Need-put-limits-requires
 put-limits-requires c κs =
@@ -27,7 +30,10 @@ same-length-2 : tie.Need-same-length-2
 same-length-2 c = search needs
 
 returns-2 : tie.Need-returns-2
-returns-2 c = stores-as _ _ (c .before .before .before .before .before .before .before .args .m) (c .before .before .before .before .before .before .before .args .to) (c .before .before .before .before .before .before .before .args .out .now) (c .before .before .before .before .if1 .left) (c .before .before .put-limits .ensures)
+returns-2 c =
+    let else1 = c .before .before .before .before in
+    let s = else1 .before .before .before in
+    stores-as _ _ (s .args .m) (s .args .to) (s .args .out .now) (else1 .if1 .left) (c .before .before .put-limits .ensures)
 
 pub put-own-spec : {M : Type 1} → statement M
 put-own-spec =

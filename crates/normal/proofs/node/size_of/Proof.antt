@@ -26,7 +26,8 @@ returns c =
 returns-2 : tie.Need-returns-2
 returns-2 c =
     let s = c .before .before .before in
-    subst (λ t. Sizes (s .args .s .now) (s .args .at) (s .args .m) t (s .args .level) (c .limits-size .result)) (sym (c .before .if1 .left)) (c .limits-size .ensures)
+    subst (λ t. Sizes (s .args .s .now) (s .args .at) (s .args .m) t (s .args .level) (c .limits-size .result)) (sym (c .before .if1 .left))
+    (c .limits-size .ensures)
 
 pub size-of-spec : {M : Type 1} → statement M
 size-of-spec =

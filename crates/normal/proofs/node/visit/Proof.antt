@@ -17,12 +17,14 @@ size-of-requires c κs =
 moved-requires : tie.Need-moved-requires
 moved-requires c κs =
     let s = c .before .before .before .before in
-    visit-room _ _ (s .args .m) (s .args .tree) (s .args .level) (s .args .pen) _ (c .before .size-of .ensures) (s .args .dry) (s .args .out .now) (s .pre .0) (s .pre .2)
+    visit-room _ _ (s .args .m) (s .args .tree) (s .args .level) (s .args .pen) _ (c .before .size-of .ensures) (s .args .dry) (s .args .out .now)
+    (s .pre .0) (s .pre .2)
 
 returns : tie.Need-returns
 returns c =
     let s = c .before .before .before .before .before in
-    visit-is _ _ (s .args .m) (s .args .tree) (s .args .level) (s .args .pen) _ (c .before .before .size-of .ensures) (s .args .dry) (s .args .out .now) _ _ (c .moved .ensures)
+    visit-is _ _ (s .args .m) (s .args .tree) (s .args .level) (s .args .pen) _ (c .before .before .size-of .ensures) (s .args .dry)
+    (s .args .out .now) _ _ (c .moved .ensures)
     (dry-laid _ _ (s .args .m) (s .args .tree) (s .args .dry) (s .args .pen .to) (s .args .out .now) (c .before .if1 .taken))
 
 put-own-requires : tie.Need-put-own-requires
@@ -32,17 +34,24 @@ put-own-requires c κs =
 
 moved-requires-2 : tie.Need-moved-requires-2
 moved-requires-2 c κs =
-    let s = c .before .before .before .before .before .before .before .before in
-    visit-room _ _ (s .args .m) (s .args .tree) (s .args .level) (s .args .pen) _ (c .before .before .before .before .before .size-of .ensures) (s .args .dry) (s .args .out .now) (s .pre .0) (s .pre .2)
+    let after-size-of = c .before .before .before .before .before in
+    let s = after-size-of .before .before .before in
+    visit-room _ _ (s .args .m) (s .args .tree) (s .args .level) (s .args .pen) _ (after-size-of .size-of .ensures) (s .args .dry) (s .args .out .now)
+    (s .pre .0) (s .pre .2)
 
 same-length : tie.Need-same-length
 same-length c = search needs
 
 returns-2 : tie.Need-returns-2
 returns-2 c =
-    let s = c .before .before .before .before .before .before .before .before .before in
-    visit-is _ _ (s .args .m) (s .args .tree) (s .args .level) (s .args .pen) _ (c .before .before .before .before .before .before .size-of .ensures) (s .args .dry) (s .args .out .now) _ _ (c .moved2 .ensures)
-    (stored-laid _ _ (s .args .m) (s .args .tree) (s .args .dry) (s .args .pen .to) (s .args .out .now) _ (c .before .before .before .before .before .if1 .left) (c .before .before .before .put-own .ensures))
+    let after-put-own = c .before .before .before in
+    let else1 = after-put-own .before .before in
+    let after-size-of = else1 .before in
+    let s = after-size-of .before .before .before in
+    visit-is _ _ (s .args .m) (s .args .tree) (s .args .level) (s .args .pen) _ (after-size-of .size-of .ensures) (s .args .dry) (s .args .out .now) _
+    _ (c .moved2 .ensures)
+    (stored-laid _ _ (s .args .m) (s .args .tree) (s .args .dry) (s .args .pen .to) (s .args .out .now) _ (else1 .if1 .left)
+    (after-put-own .put-own .ensures))
 
 pub visit-spec : {M : Type 1} → statement M
 visit-spec =

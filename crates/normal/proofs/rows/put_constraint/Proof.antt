@@ -33,12 +33,16 @@ same-length c = search needs
 
 returns : tie.Need-returns
 returns c =
-    let s = c .before .before .before .before .before .before .before .before .before .before .before .before .before in
-    let read = c .before .before .before .before .before .before .before .before .before .row-read .ensures in
-    let relation = c .before .before .before .before .before .before .before .before .before .before .natural in
-    let after = c .before .before .before .before .before .before .before .before .row-after in
+    let after-put-nat = c .before .before .before .before .before .before in
+    let after-row-after = after-put-nat .before .before in
+    let after-row-read = after-row-after .before in
+    let after-natural = after-row-read .before in
+    let s = after-natural .before .before .before in
+    let read = after-row-read .row-read .ensures in
+    let relation = after-natural .natural in
+    let after = after-row-after .row-after in
     constraint-laid _ _ _ (s .args .m) (s .pre .2) (s .pre .0) (s .pre .1) _ read (s .args .out .now) (s .args .to) (relation .result) (after .result)
-    (relation .ensures) (after .ensures .is) (c .before .before .before .before .before .before .put-nat .ensures) (c .before .before .put-row .ensures)
+    (relation .ensures) (after .ensures .is) (after-put-nat .put-nat .ensures) (c .before .before .put-row .ensures)
 
 pub put-constraint-spec : {M : Type 1} → statement M
 put-constraint-spec =

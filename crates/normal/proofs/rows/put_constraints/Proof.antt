@@ -32,13 +32,19 @@ abbrev μ-loop : tie.MeasureT-loop
 μ-loop s at count n m out₀ to step from₀ p₀ left₀ out from p left = left
 
 mul-step : tie.Need-mul-step Inv-loop μ-loop
-mul-step c = let s = c .before .before .before in omega (arith, s .pre .0 .cols-few)
+mul-step c =
+    let start = c .before .before .before in
+    let s = start in omega (arith, s .pre .0 .cols-few)
 
 add-step : tie.Need-add-step Inv-loop μ-loop
-add-step c = let s = c .before .before .before in omega (arith, s .pre .0 .cols-few)
+add-step c =
+    let start = c .before .before .before in
+    let s = start in omega (arith, s .pre .0 .cols-few)
 
 loop-holds : tie.Need-loop-holds Inv-loop μ-loop
-loop-holds c = let s = c .before .before .before in (refl, refl, s .pre .2, refl)
+loop-holds c =
+    let start = c .before .before .before in
+    let s = start in (refl, refl, s .pre .2, refl)
 
 put-constraint-requires : tie.Need-put-constraint-requires Inv-loop μ-loop
 put-constraint-requires c κs =
@@ -49,21 +55,29 @@ put-constraint-requires c κs =
     (s .pre .0, s .pre .1, composable-first _ _ _ _ _ more (l .inv .2), omega arith)
 
 mul-from : tie.Need-mul-from Inv-loop μ-loop
-mul-from c = let s = c .before .before .before .before .before .before .before .before .before in omega (arith, s .pre .0 .rows-few, s .pre .1)
+mul-from c =
+    let start = c .before .before .before .before .before .before .before .before .before in
+    let s = start in omega (arith, s .pre .0 .rows-few, s .pre .1)
 
 add-from : tie.Need-add-from Inv-loop μ-loop
-add-from c = let s = c .before .before .before .before .before .before .before .before .before in omega (arith, s .pre .0 .rows-few, s .pre .1)
+add-from c =
+    let start = c .before .before .before .before .before .before .before .before .before in
+    let s = start in omega (arith, s .pre .0 .rows-few, s .pre .1)
 
 add-from-2 : tie.Need-add-from-2 Inv-loop μ-loop
 add-from-2 c =
-    let l = c .before .before .before .before .before .loop in
-    omega (arith, composable-first _ _ _ _ _ (c .before .before .before .before .loop-test .taken) (l .inv .2) .there)
+    let in-loop = c .before .before .before .before in
+    let at-loop = in-loop .before in
+    let l = at-loop .loop in
+    omega (arith, composable-first _ _ _ _ _ (in-loop .loop-test .taken) (l .inv .2) .there)
 
 add-p : tie.Need-add-p Inv-loop μ-loop
 add-p c =
-    let s = c .before .before .before .before .before .before .before .before .before in
-    let l = c .before .before .before .before .before .loop in
-    let room = mul-le-mul-right (16 + 8 * s .args .m .width) (c .before .before .before .before .loop-test .taken) in
+    let in-loop = c .before .before .before .before in
+    let at-loop = in-loop .before in
+    let s = at-loop .before .before .before .before in
+    let l = at-loop .loop in
+    let room = mul-le-mul-right (16 + 8 * s .args .m .width) (in-loop .loop-test .taken) in
     omega arith
 
 sub-left : tie.Need-sub-left Inv-loop μ-loop
@@ -74,9 +88,11 @@ loop-less c = omega arith
 
 loop-again : tie.Need-loop-again Inv-loop μ-loop
 loop-again c =
-    let s = c .before .before .before .before .before .before .before .before .before in
-    let l = c .before .before .before .before .before .loop in
-    let more = c .before .before .before .before .loop-test .taken in
+    let in-loop = c .before .before .before .before in
+    let at-loop = in-loop .before in
+    let s = at-loop .before .before .before .before in
+    let l = at-loop .loop in
+    let more = in-loop .loop-test .taken in
     let put = c .before .before .put-constraint .ensures in (
       limits-again _ _ _ (s .args .m) _ more _ _ put ∙ l .inv .0,
       ap length put ∙ length-sets (l .out) (l .p) (stored (s .args .m) (s .args .n) (s .args .s .now) (l .from)) ∙ l .inv .1,

@@ -30,8 +30,12 @@ same-length c = search needs
 
 returns : tie.Need-returns
 returns c =
-    let s = c .before .before .before .before .before .before .before .before .before .before .before .before .before .before .before .before .before in
-    map-laid (s .args .out .now) (s .args .to) (s .args .m) (c .before .before .before .before .before .before .before .before .before .before .before .before .before .before .put-nat .ensures) (c .before .before .before .before .before .before .before .before .before .before .put-nat2 .ensures) (c .before .before .before .before .before .before .put-nat3 .ensures) (c .before .before .put-rows .ensures)
+    let after-put-nat3 = c .before .before .before .before .before .before in
+    let after-put-nat2 = after-put-nat3 .before .before .before .before in
+    let after-put-nat = after-put-nat2 .before .before .before .before in
+    let s = after-put-nat .before .before .before in
+    map-laid (s .args .out .now) (s .args .to) (s .args .m) (after-put-nat .put-nat .ensures) (after-put-nat2 .put-nat2 .ensures)
+    (after-put-nat3 .put-nat3 .ensures) (c .before .before .put-rows .ensures)
 
 pub put-map-spec : {M : Type 1} → statement M
 put-map-spec =

@@ -22,7 +22,8 @@ coefficient c i = num (at c i)
 
 abbrev Inv-loop : tie.InvT-loop
 Inv-loop out₀ to r n c j₀ p₀ out j p =
-    (sets out p (run j n (coefficient c) ++ num (r .constant .v)) ≡ sets out₀ to (rowBytes (record { coefs = several n (at c); const = r .constant .v })))
+    (sets out p (run j n (coefficient c) ++ num (r .constant .v))
+    ≡ sets out₀ to (rowBytes (record { coefs = several n (at c); const = r .constant .v })))
     × (length out ≡ length out₀) × (p ≡ to + 8 * j) × (j ≤ n)
 
 abbrev μ-loop : tie.MeasureT-loop
@@ -55,12 +56,15 @@ loop-less c = omega arith
 
 loop-again : tie.Need-loop-again Inv-loop μ-loop
 loop-again c =
-    let s = c .before .before .before .before .before .before .before .before .before in
-    let l = c .before .before .before .before .before .before .loop in
+    let in-loop = c .before .before .before .before .before in
+    let at-loop = in-loop .before in
+    let s = at-loop .before .before .before in
+    let l = at-loop .loop in
     let put = c .before .before .put in
     let f = coefficient (s .args .r .coef) in
-    let more = c .before .before .before .before .before .loop-test .taken in (
-      run-again (s .args .n) f (l .out) _ (l .p) (l .j) 8 (num (s .args .r .constant .v)) more (put .ensures) (length-num (at (s .args .r .coef) (l .j))) ∙ l .inv .0,
+    let more = in-loop .loop-test .taken in (
+      run-again (s .args .n) f (l .out) _ (l .p) (l .j) 8 (num (s .args .r .constant .v)) more (put .ensures)
+          (length-num (at (s .args .r .coef) (l .j))) ∙ l .inv .0,
       ap length (put .ensures) ∙ length-sets (l .out) (l .p) (num (at (s .args .r .coef) (l .j))) ∙ l .inv .1,
       omega arith,
       omega arith,
@@ -74,8 +78,9 @@ same-length c = search needs
 
 returns : tie.Need-returns Inv-loop μ-loop
 returns c =
-    let s = c .before .before .before .before .before .before .before .before .before in
-    let l = c .before .before .before .before .before .before .loop in
+    let at-loop = c .before .before .before .before .before .before in
+    let s = at-loop .before .before .before in
+    let l = at-loop .loop in
     let f = coefficient (s .args .r .coef) in
     c .before .before .put2 .ensures ∙ run-over (s .args .n) f (l .out) (l .p) (l .j) (num (s .args .r .constant .v)) (omega arith) ∙ l .inv .0
 

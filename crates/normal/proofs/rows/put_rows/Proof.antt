@@ -37,14 +37,22 @@ abbrev μ-loop : tie.MeasureT-loop
 loop-holds : tie.Need-loop-holds Inv-loop μ-loop
 loop-holds c =
     let s = c .before .before in
-    let f = rowAt (s .args .m .rows) (s .args .m .width) in
-    (ap (sets (s .args .out .now) (s .args .to)) (append-nil (run 0 (s .args .m .height) f) ∙ run-start (s .args .m .height) f), refl, omega arith, omega arith)
+    let f = rowAt (s .args .m .rows) (s .args .m .width) in (
+      ap (sets (s .args .out .now) (s .args .to)) (append-nil (run 0 (s .args .m .height) f) ∙ run-start (s .args .m .height) f),
+      refl,
+      omega arith,
+      omega arith,
+    )
 
 mul-put-row : tie.Need-mul-put-row Inv-loop μ-loop
-mul-put-row c = let s = c .before .before .before .before .before in omega (arith, s .pre .0 .rows-few)
+mul-put-row c =
+    let start = c .before .before .before .before .before in
+    let s = start in omega (arith, s .pre .0 .rows-few)
 
 array-copy-out-put-row : tie.Need-array-copy-out-put-row Inv-loop μ-loop
-array-copy-out-put-row c = let s = c .before .before .before .before .before in omega (arith, s .pre .0 .rows-few)
+array-copy-out-put-row c =
+    let start = c .before .before .before .before .before in
+    let s = start in omega (arith, s .pre .0 .rows-few)
 
 put-row-requires : tie.Need-put-row-requires Inv-loop μ-loop
 put-row-requires c κs =
@@ -53,31 +61,41 @@ put-row-requires c κs =
     (s .pre .0 .cols-few, omega arith)
 
 mul-p : tie.Need-mul-p Inv-loop μ-loop
-mul-p c = let s = c .before .before .before .before .before .before .before .before .before in omega (arith, s .pre .0 .cols-few)
+mul-p c =
+    let start = c .before .before .before .before .before .before .before .before .before in
+    let s = start in omega (arith, s .pre .0 .cols-few)
 
 add-p : tie.Need-add-p Inv-loop μ-loop
-add-p c = let s = c .before .before .before .before .before .before .before .before .before in omega (arith, s .pre .0 .cols-few)
+add-p c =
+    let start = c .before .before .before .before .before .before .before .before .before in
+    let s = start in omega (arith, s .pre .0 .cols-few)
 
 add-p-2 : tie.Need-add-p-2 Inv-loop μ-loop
 add-p-2 c =
-    let s = c .before .before .before .before .before .before .before .before .before in
-    let room = mul-le-mul-right (8 * s .args .m .width + 8) (c .before .before .before .before .before .loop-test .taken) in
+    let in-loop = c .before .before .before .before .before in
+    let s = in-loop .before .before .before .before in
+    let room = mul-le-mul-right (8 * s .args .m .width + 8) (in-loop .loop-test .taken) in
     omega arith
 
 add-i : tie.Need-add-i Inv-loop μ-loop
-add-i c = let s = c .before .before .before .before .before .before .before .before .before in omega (arith, s .pre .0 .rows-few)
+add-i c =
+    let start = c .before .before .before .before .before .before .before .before .before in
+    let s = start in omega (arith, s .pre .0 .rows-few)
 
 loop-less : tie.Need-loop-less Inv-loop μ-loop
 loop-less c = omega arith
 
 loop-again : tie.Need-loop-again Inv-loop μ-loop
 loop-again c =
-    let s = c .before .before .before .before .before .before .before .before .before in
-    let l = c .before .before .before .before .before .before .loop in
+    let in-loop = c .before .before .before .before .before in
+    let at-loop = in-loop .before in
+    let s = at-loop .before .before .before in
+    let l = at-loop .loop in
     let put = c .before .before .put-row in
     let f = rowAt (s .args .m .rows) (s .args .m .width) in
-    let more = c .before .before .before .before .before .loop-test .taken in (
-      run-again (s .args .m .height) f (l .out) _ (l .p) (l .i) (8 * s .args .m .width + 8) [] more (put .ensures) (row-at-long (s .args .m .rows) (s .args .m .width) (l .i)) ∙ l .inv .0,
+    let more = in-loop .loop-test .taken in (
+      run-again (s .args .m .height) f (l .out) _ (l .p) (l .i) (8 * s .args .m .width + 8) [] more (put .ensures)
+          (row-at-long (s .args .m .rows) (s .args .m .width) (l .i)) ∙ l .inv .0,
       ap length (put .ensures) ∙ length-sets (l .out) (l .p) (f (l .i)) ∙ l .inv .1,
       omega arith,
       omega arith,
@@ -92,7 +110,8 @@ returns c =
     let l = c .before .loop in
     let f = rowAt (s .args .m .rows) (s .args .m .width) in
     run-over (s .args .m .height) f (l .out) (l .p) (l .i) [] (omega arith) ∙ l .inv .0
-    ∙ ap (λ t. sets (s .args .out .now) (s .args .to) (flat t)) (sym (map-several rowBytes (s .args .m .height) (λ i. rowOf (s .args .m .width) (line (s .args .m) i))))
+    ∙ ap (λ t. sets (s .args .out .now) (s .args .to) (flat t))
+    (sym (map-several rowBytes (s .args .m .height) (λ i. rowOf (s .args .m .width) (line (s .args .m) i))))
 
 pub put-rows-spec : {M : Type 1} → statement M
 put-rows-spec =

@@ -29,7 +29,16 @@ plan-from-below t =
     and 2 plan-from-kinds.ps (falls 2 plan-from-kinds.ps _<_ μ-plan-from t) plan-from.Pre
 
 abbrev plan-from-uses : ℕ → plan-from-lts.Claims
-plan-from-uses t = (variable-count-reads.Asked, variable-count-reads.Learnt, kind-of-reads.Asked, kind-of-reads.Learnt, plan-from-below t, plan-from.Post, grow-reads.Asked, grow-reads.Learnt)
+plan-from-uses t = (
+  variable-count-reads.Asked,
+  variable-count-reads.Learnt,
+  kind-of-reads.Asked,
+  kind-of-reads.Learnt,
+  plan-from-below t,
+  plan-from.Post,
+  grow-reads.Asked,
+  grow-reads.Learnt,
+)
 
 plan-from-variable-count-requires : (t : ℕ) → plan-from-lts.Need-variable-count-requires (plan-from-uses t) (plan-from-at t) plan-from.Post
 plan-from-variable-count-requires t c κs = search needs
@@ -37,21 +46,29 @@ plan-from-variable-count-requires t c κs = search needs
 plan-from-returns : (t : ℕ) → plan-from-lts.Need-returns (plan-from-uses t) (plan-from-at t) plan-from.Post
 plan-from-returns t c =
     let s = c .before .before .before in
-    plan-none _ _ (s .pre .1 .0) _ _ _ (omega (arith, c .if1 .taken, c .before .variable-count .ensures, s .pre .1 .0 .placed .prepared .table .variables)) (s .pre .1 .2) (s .pre .1 .3)
+    plan-none _ _ (s .pre .1 .0) _ _ _
+    (omega (arith, c .if1 .taken, c .before .variable-count .ensures, s .pre .1 .0 .placed .prepared .table .variables)) (s .pre .1 .2) (s .pre .1 .3)
 
 -- there is such a variable
-known : (t : ℕ) (c : plan-from-lts.Else1 (plan-from-uses t) (plan-from-at t) plan-from.Post) → c .before .before .before .args .v < varsOf (c .before .before .before .args .s .now)
-known t c = omega (arith, c .if1 .left, c .before .variable-count .ensures, c .before .before .before .pre .1 .0 .placed .prepared .table .variables)
+known : (t : ℕ) (c : plan-from-lts.Else1 (plan-from-uses t) (plan-from-at t) plan-from.Post) →
+    c .before .before .before .args .v < varsOf (c .before .before .before .args .s .now)
+known t c =
+    let s = c .before .before .before in
+    omega (arith, c .if1 .left, c .before .variable-count .ensures, s .pre .1 .0 .placed .prepared .table .variables)
 
 -- and at most 32
 few : (t : ℕ) (c : plan-from-lts.Start (plan-from-uses t) (plan-from-at t) plan-from.Post) → varsOf (c .args .s .now) ≤ 32
 few t c = prepared-sections _ _ (c .pre .1 .0 .placed .prepared) .few
 
 plan-from-kind-of-requires : (t : ℕ) → plan-from-lts.Need-kind-of-requires (plan-from-uses t) (plan-from-at t) plan-from.Post
-plan-from-kind-of-requires t c κs = (c .before .before .before .pre .1 .0 .placed .prepared, known t (c))
+plan-from-kind-of-requires t c κs =
+    let s = c .before .before .before in
+    (s .pre .1 .0 .placed .prepared, known t (c))
 
 plan-from-add-plan-from : (t : ℕ) → plan-from-lts.Need-add-plan-from (plan-from-uses t) (plan-from-at t) plan-from.Post
-plan-from-add-plan-from t c = omega (arith, known t (c .before .before), few t (c .before .before .before .before .before))
+plan-from-add-plan-from t c =
+    let s = c .before .before .before .before .before in
+    omega (arith, known t (c .before .before), few t (s))
 
 plan-from-plan-from-requires : (t : ℕ) → plan-from-lts.Need-plan-from-requires (plan-from-uses t) (plan-from-at t) plan-from.Post
 plan-from-plan-from-requires t c κs =
@@ -63,8 +80,9 @@ plan-from-plan-from-requires t c κs =
 
 plan-from-returns-2 : (t : ℕ) → plan-from-lts.Need-returns-2 (plan-from-uses t) (plan-from-at t) plan-from.Post
 plan-from-returns-2 t c =
-    let s = c .before .before .before .before .before .before in
-    let lt = known t (c .before .before .before) in
+    let else1 = c .before .before .before in
+    let s = else1 .before .before .before in
+    let lt = known t (else1) in
     let input = is-input _ _ (s .pre .1 .0 .placed) _ lt _ (c .before .before .kind-of .ensures .0) (c .before .if2 .taken) in
     plan-input _ _ (s .pre .1 .0) _ _ _ lt _ input (c .plan-from .ensures)
 
@@ -83,29 +101,43 @@ plan-from-enum-told t c = search needs
 
 plan-from-returns-3 : (t : ℕ) → plan-from-lts.Need-returns-3 (plan-from-uses t) (plan-from-at t) plan-from.Post
 plan-from-returns-3 t c =
-    let s = c .before .before .before .before .before .before .before .before in
-    let lt = known t (c .before .before .before .before .before) in
-    let body = no-input _ _ (s .pre .1 .0 .placed) _ lt _ (c .before .before .before .before .kind-of .ensures .0) (c .before .before .before .before .kind-of .ensures .1) (c .before .before .before .if2 .left) in
+    let else2 = c .before .before .before in
+    let after-kind-of = else2 .before in
+    let else1 = after-kind-of .before in
+    let s = else1 .before .before .before in
+    let lt = known t (else1) in
+    let body =
+    no-input _ _ (s .pre .1 .0 .placed) _ lt _ (after-kind-of .kind-of .ensures .0) (after-kind-of .kind-of .ensures .1) (else2 .if2 .left) in
     plan-stops _ _ (s .pre .1 .0) _ _ _ lt body _ _ (c .enum-told .given .1) (c .before .before .grow .ensures)
 
 plan-from-add-plan-from-2 : (t : ℕ) → plan-from-lts.Need-add-plan-from-2 (plan-from-uses t) (plan-from-at t) plan-from.Post
-plan-from-add-plan-from-2 t c = omega (arith, known t (c .before .before .before .before .before .before), few t (c .before .before .before .before .before .before .before .before .before))
+plan-from-add-plan-from-2 t c =
+    let else1 = c .before .before .before .before .before .before in
+    let s = else1 .before .before .before in
+    omega (arith, known t (else1), few t (s))
 
 plan-from-plan-from-requires-2 : (t : ℕ) → plan-from-lts.Need-plan-from-requires-2 (plan-from-uses t) (plan-from-at t) plan-from.Post
 plan-from-plan-from-requires-2 t c κs =
-    let s = c .before .before .before .before .before .before .before .before .before in
-    let lt = known t (c .before .before .before .before .before .before) in
+    let after-grow = c .before .before .before in
+    let else1 = after-grow .before .before .before in
+    let s = else1 .before .before .before in
+    let lt = known t (else1) in
     let low = few t s in
     let is = s .pre .0 in
-    let small = small-total _ _ _ (c .before .p .given .1) (c .before .before .before .grow .ensures .small) in
+    let small = small-total _ _ _ (c .before .p .given .1) (after-grow .grow .ensures .small) in
     (omega arith, (s .pre .1 .0, omega arith, small .0, small .1))
 
 plan-from-returns-4 : (t : ℕ) → plan-from-lts.Need-returns-4 (plan-from-uses t) (plan-from-at t) plan-from.Post
 plan-from-returns-4 t c =
-    let s = c .before .before .before .before .before .before .before .before .before .before in
-    let lt = known t (c .before .before .before .before .before .before .before) in
-    let body = no-input _ _ (s .pre .1 .0 .placed) _ lt _ (c .before .before .before .before .before .before .kind-of .ensures .0) (c .before .before .before .before .before .before .kind-of .ensures .1) (c .before .before .before .before .before .if2 .left) in
-    plan-goes _ _ (s .pre .1 .0) _ _ _ lt body _ _ _ _ (c .before .before .p .given .1) (c .before .before .before .before .grow .ensures) (c .plan-from2 .ensures)
+    let after-grow = c .before .before .before .before in
+    let else2 = after-grow .before in
+    let after-kind-of = else2 .before in
+    let else1 = after-kind-of .before in
+    let s = else1 .before .before .before in
+    let lt = known t (else1) in
+    let body =
+    no-input _ _ (s .pre .1 .0 .placed) _ lt _ (after-kind-of .kind-of .ensures .0) (after-kind-of .kind-of .ensures .1) (else2 .if2 .left) in
+    plan-goes _ _ (s .pre .1 .0) _ _ _ lt body _ _ _ _ (c .before .before .p .given .1) (after-grow .grow .ensures) (c .plan-from2 .ensures)
 
 pub +plan-from-spec : {M : Type 1} → statement M
 +plan-from-spec = close μ-plan-from λ t. plan-from-lts.spec (plan-from-uses t) (plan-from-at t)

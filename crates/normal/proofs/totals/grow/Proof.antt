@@ -19,16 +19,19 @@ count-requires c κs =
 returns : tie.Need-returns
 returns c =
     let s = c .before .before .before .before in
-    many-way _ _ (s .pre .0) _ (s .pre .1) (s .pre .2) _ _ (c .before .before .body-place .ensures) refl _ (c .before .count .ensures) _ _ (c .if1 .taken)
+    many-way _ _ (s .pre .0) _ (s .pre .1) (s .pre .2) _ _ (c .before .before .body-place .ensures) refl _ (c .before .count .ensures) _ _
+    (c .if1 .taken)
 
 dimension-of-requires : tie.Need-dimension-of-requires
 dimension-of-requires c κs = search needs
 
 measure-from-requires : tie.Need-measure-from-requires
 measure-from-requires c κs =
-    let s = c .before .before .before .before .before in
+    let after-body-place = c .before .before .before in
+    let s = after-body-place .before .before in
     let dim = c .dimension-of .ensures in (
-      body-at _ _ (s .pre .0) _ (s .pre .1) (s .pre .2) _ _ (c .before .before .before .body-place .ensures) (dim .0) _ (c .before .before .count .ensures) (c .before .if1 .left) (dim .1),
+      body-at _ _ (s .pre .0) _ (s .pre .1) (s .pre .2) _ _ (after-body-place .body-place .ensures) (dim .0) _ (c .before .before .count .ensures)
+          (c .before .if1 .left) (dim .1),
       omega arith,
       omega arith,
       omega arith,
@@ -36,17 +39,28 @@ measure-from-requires c κs =
 
 returns-2 : tie.Need-returns-2
 returns-2 c =
-    let s = c .before .before .before .before .before .before .before .before in
-    let dim = c .before .before .before .dimension-of .ensures in
-    wide-way _ _ (s .pre .0) _ (s .pre .1) (s .pre .2) _ _ (c .before .before .before .before .before .before .body-place .ensures) (dim .0) _ (c .before .before .before .before .before .count .ensures) (s .args .nodes) (s .args .size)
-    (c .before .before .before .before .if1 .left) (dim .1) _ (c .before .before .measure-from .ensures) (λ k l d b. omega (arith, c .if2 .taken))
+    let after-dimension-of = c .before .before .before in
+    let else1 = after-dimension-of .before in
+    let after-count = else1 .before in
+    let after-body-place = after-count .before in
+    let s = after-body-place .before .before in
+    let dim = after-dimension-of .dimension-of .ensures in
+    wide-way _ _ (s .pre .0) _ (s .pre .1) (s .pre .2) _ _ (after-body-place .body-place .ensures) (dim .0) _ (after-count .count .ensures)
+    (s .args .nodes) (s .args .size)
+    (else1 .if1 .left) (dim .1) _ (c .before .before .measure-from .ensures) (λ k l d b. omega (arith, c .if2 .taken))
 
 returns-3 : tie.Need-returns-3
 returns-3 c =
-    let s = c .before .before .before .before .before .before .before .before .before .before in
-    let dim = c .before .before .before .before .before .dimension-of .ensures in
-    wide-way _ _ (s .pre .0) _ (s .pre .1) (s .pre .2) _ _ (c .before .before .before .before .before .before .before .before .body-place .ensures) (dim .0) _ (c .before .before .before .before .before .before .before .count .ensures) (s .args .nodes) (s .args .size)
-    (c .before .before .before .before .before .before .if1 .left) (dim .1) _ (c .before .before .before .before .measure-from .ensures) (λ k l d b. omega (arith, c .if3 .taken))
+    let after-measure-from = c .before .before .before .before in
+    let after-dimension-of = after-measure-from .before in
+    let else1 = after-dimension-of .before in
+    let after-count = else1 .before in
+    let after-body-place = after-count .before in
+    let s = after-body-place .before .before in
+    let dim = after-dimension-of .dimension-of .ensures in
+    wide-way _ _ (s .pre .0) _ (s .pre .1) (s .pre .2) _ _ (after-body-place .body-place .ensures) (dim .0) _ (after-count .count .ensures)
+    (s .args .nodes) (s .args .size)
+    (else1 .if1 .left) (dim .1) _ (after-measure-from .measure-from .ensures) (λ k l d b. omega (arith, c .if3 .taken))
 
 add-total : tie.Need-add-total
 add-total c = search needs
@@ -62,24 +76,45 @@ add-len-2 c = search needs
 
 returns-4 : tie.Need-returns-4
 returns-4 c =
-    let s = c .before .before .before .before .before .before .before .before .before .before .before .before .before in
-    let dim = c .before .before .before .before .before .before .before .before .dimension-of .ensures in
-    wide-way _ _ (s .pre .0) _ (s .pre .1) (s .pre .2) _ _ (c .before .before .before .before .before .before .before .before .before .before .before .body-place .ensures) (dim .0) _ (c .before .before .before .before .before .before .before .before .before .before .count .ensures) (s .args .nodes) (s .args .size)
-    (c .before .before .before .before .before .before .before .before .before .if1 .left) (dim .1) _ (c .before .before .before .before .before .before .before .measure-from .ensures) (λ k l d b. omega (arith, c .if4 .taken))
+    let after-measure-from = c .before .before .before .before .before .before .before in
+    let after-dimension-of = after-measure-from .before in
+    let else1 = after-dimension-of .before in
+    let after-count = else1 .before in
+    let after-body-place = after-count .before in
+    let s = after-body-place .before .before in
+    let dim = after-dimension-of .dimension-of .ensures in
+    wide-way _ _ (s .pre .0) _ (s .pre .1) (s .pre .2) _ _ (after-body-place .body-place .ensures) (dim .0) _ (after-count .count .ensures)
+    (s .args .nodes) (s .args .size)
+    (else1 .if1 .left) (dim .1) _ (after-measure-from .measure-from .ensures) (λ k l d b. omega (arith, c .if4 .taken))
 
 returns-5 : tie.Need-returns-5
 returns-5 c =
-    let s = c .before .before .before .before .before .before .before .before .before .before .before .before .before .before in
-    let dim = c .before .before .before .before .before .before .before .before .before .dimension-of .ensures in
-    wide-way _ _ (s .pre .0) _ (s .pre .1) (s .pre .2) _ _ (c .before .before .before .before .before .before .before .before .before .before .before .before .body-place .ensures) (dim .0) _ (c .before .before .before .before .before .before .before .before .before .before .before .count .ensures) (s .args .nodes) (s .args .size)
-    (c .before .before .before .before .before .before .before .before .before .before .if1 .left) (dim .1) _ (c .before .before .before .before .before .before .before .before .measure-from .ensures) (λ k l d b. omega (arith, c .if5 .taken))
+    let after-measure-from = c .before .before .before .before .before .before .before .before in
+    let after-dimension-of = after-measure-from .before in
+    let else1 = after-dimension-of .before in
+    let after-count = else1 .before in
+    let after-body-place = after-count .before in
+    let s = after-body-place .before .before in
+    let dim = after-dimension-of .dimension-of .ensures in
+    wide-way _ _ (s .pre .0) _ (s .pre .1) (s .pre .2) _ _ (after-body-place .body-place .ensures) (dim .0) _ (after-count .count .ensures)
+    (s .args .nodes) (s .args .size)
+    (else1 .if1 .left) (dim .1) _ (after-measure-from .measure-from .ensures) (λ k l d b. omega (arith, c .if5 .taken))
 
 returns-6 : tie.Need-returns-6
 returns-6 c =
-    let s = c .before .before .before .before .before .before .before .before .before .before .before .before .before .before in
-    let dim = c .before .before .before .before .before .before .before .before .before .dimension-of .ensures in
-    fits-way _ _ (s .pre .0) _ (s .pre .1) (s .pre .2) _ _ (c .before .before .before .before .before .before .before .before .before .before .before .before .body-place .ensures) (dim .0) _ (c .before .before .before .before .before .before .before .before .before .before .before .count .ensures) (s .args .nodes) (s .args .size)
-    (c .before .before .before .before .before .before .before .before .before .before .if1 .left) (dim .1) _ (c .before .before .before .before .before .before .before .before .measure-from .ensures) (c .before .if4 .left) (c .before .before .before .before .before .before .if2 .left) (c .before .before .before .before .if3 .left) (c .if5 .left)
+    let else3 = c .before .before .before .before in
+    let else2 = else3 .before .before in
+    let after-measure-from = else2 .before .before in
+    let after-dimension-of = after-measure-from .before in
+    let else1 = after-dimension-of .before in
+    let after-count = else1 .before in
+    let after-body-place = after-count .before in
+    let s = after-body-place .before .before in
+    let dim = after-dimension-of .dimension-of .ensures in
+    fits-way _ _ (s .pre .0) _ (s .pre .1) (s .pre .2) _ _ (after-body-place .body-place .ensures) (dim .0) _ (after-count .count .ensures)
+    (s .args .nodes) (s .args .size)
+    (else1 .if1 .left) (dim .1) _ (after-measure-from .measure-from .ensures) (c .before .if4 .left) (else2 .if2 .left) (else3 .if3 .left)
+    (c .if5 .left)
 
 pub grow-spec : {M : Type 1} → statement M
 grow-spec =

@@ -30,7 +30,16 @@ put-bodies-below t =
     and 3 put-bodies-kinds.ps (falls 3 put-bodies-kinds.ps _<_ μ-put-bodies t) put-bodies.Pre
 
 abbrev put-bodies-uses : ℕ → put-bodies-lts.Claims
-put-bodies-uses t = (variable-count-reads.Asked, variable-count-reads.Learnt, kind-of-reads.Asked, kind-of-reads.Learnt, put-bodies-below t, put-bodies.Post, put-body-reads.Asked, put-body-reads.Learnt)
+put-bodies-uses t = (
+  variable-count-reads.Asked,
+  variable-count-reads.Learnt,
+  kind-of-reads.Asked,
+  kind-of-reads.Learnt,
+  put-bodies-below t,
+  put-bodies.Post,
+  put-body-reads.Asked,
+  put-body-reads.Learnt,
+)
 
 put-bodies-variable-count-requires : (t : ℕ) → put-bodies-lts.Need-variable-count-requires (put-bodies-uses t) (put-bodies-at t) put-bodies.Post
 put-bodies-variable-count-requires t c κs = search needs
@@ -42,23 +51,31 @@ put-bodies-returns t c =
     (omega (arith, c .if1 .taken, c .before .variable-count .ensures, s .pre .1 .0 .formed .placed .prepared .table .variables))
 
 -- there is such a variable
-known : (t : ℕ) (c : put-bodies-lts.Else1 (put-bodies-uses t) (put-bodies-at t) put-bodies.Post) → c .before .before .before .before .args .v < varsOf (c .before .before .before .before .args .s .now)
-known t c = omega (arith, c .if1 .left, c .before .variable-count .ensures, c .before .before .before .before .pre .1 .0 .formed .placed .prepared .table .variables)
+known : (t : ℕ) (c : put-bodies-lts.Else1 (put-bodies-uses t) (put-bodies-at t) put-bodies.Post) →
+    c .before .before .before .before .args .v < varsOf (c .before .before .before .before .args .s .now)
+known t c =
+    let s = c .before .before .before .before in
+    omega (arith, c .if1 .left, c .before .variable-count .ensures, s .pre .1 .0 .formed .placed .prepared .table .variables)
 
 -- and at most 32
 few : (t : ℕ) (c : put-bodies-lts.Start (put-bodies-uses t) (put-bodies-at t) put-bodies.Post) → varsOf (c .args .s .now) ≤ 32
 few t c = prepared-sections _ _ (c .pre .1 .0 .formed .placed .prepared) .few
 
 put-bodies-kind-of-requires : (t : ℕ) → put-bodies-lts.Need-kind-of-requires (put-bodies-uses t) (put-bodies-at t) put-bodies.Post
-put-bodies-kind-of-requires t c κs = (c .before .before .before .before .pre .1 .0 .formed .placed .prepared, known t (c))
+put-bodies-kind-of-requires t c κs =
+    let s = c .before .before .before .before in
+    (s .pre .1 .0 .formed .placed .prepared, known t (c))
 
 put-bodies-add-put-bodies : (t : ℕ) → put-bodies-lts.Need-add-put-bodies (put-bodies-uses t) (put-bodies-at t) put-bodies.Post
-put-bodies-add-put-bodies t c = omega (arith, known t (c .before .before), few t (c .before .before .before .before .before .before))
+put-bodies-add-put-bodies t c =
+    let s = c .before .before .before .before .before .before in
+    omega (arith, known t (c .before .before), few t (s))
 
 put-bodies-put-bodies-requires : (t : ℕ) → put-bodies-lts.Need-put-bodies-requires (put-bodies-uses t) (put-bodies-at t) put-bodies.Post
 put-bodies-put-bodies-requires t c κs =
-    let s = c .before .before .before .before .before .before .before in
-    let lt = known t (c .before .before .before) in
+    let else1 = c .before .before .before in
+    let s = else1 .before .before .before .before in
+    let lt = known t (else1) in
     let low = few t s in
     let is = s .pre .0 in
     let input = is-input _ _ (s .pre .1 .0 .formed .placed) _ lt _ (c .before .before .kind-of .ensures .0) (c .before .if2 .taken) in
@@ -69,40 +86,67 @@ put-bodies-same-length t c = search needs
 
 put-bodies-returns-2 : (t : ℕ) → put-bodies-lts.Need-returns-2 (put-bodies-uses t) (put-bodies-at t) put-bodies.Post
 put-bodies-returns-2 t c =
-    let s = c .before .before .before .before .before .before .before .before .before .before in
-    let lt = known t (c .before .before .before .before .before .before) in
-    let input = is-input _ _ (s .pre .1 .0 .formed .placed) _ lt _ (c .before .before .before .before .before .kind-of .ensures .0) (c .before .before .before .before .if2 .taken) in
+    let then2 = c .before .before .before .before in
+    let after-kind-of = then2 .before in
+    let else1 = after-kind-of .before in
+    let s = else1 .before .before .before .before in
+    let lt = known t (else1) in
+    let input = is-input _ _ (s .pre .1 .0 .formed .placed) _ lt _ (after-kind-of .kind-of .ensures .0) (then2 .if2 .taken) in
     input-stored _ _ _ (s .pre .1 .0) lt input (s .args .out .now) (s .args .to) (c .before .before .put-bodies .ensures)
 
 put-bodies-put-body-requires : (t : ℕ) → put-bodies-lts.Need-put-body-requires (put-bodies-uses t) (put-bodies-at t) put-bodies.Post
 put-bodies-put-body-requires t c κs =
-    let s = c .before .before .before .before .before .before .before in
-    let lt = known t (c .before .before .before) in
-    let body = no-input _ _ (s .pre .1 .0 .formed .placed) _ lt _ (c .before .before .kind-of .ensures .0) (c .before .before .kind-of .ensures .1) (c .before .if2 .left) in
+    let else1 = c .before .before .before in
+    let s = else1 .before .before .before .before in
+    let lt = known t (else1) in
+    let body =
+    no-input _ _ (s .pre .1 .0 .formed .placed) _ lt _ (c .before .before .kind-of .ensures .0) (c .before .before .kind-of .ensures .1)
+    (c .before .if2 .left) in
     (writes-body _ _ _ (s .pre .1 .0) lt body, body-room _ _ _ (s .pre .1 .0) lt body (s .args .out .now) (s .args .to) (s .pre .1 .1))
 
 put-bodies-add-put-bodies-2 : (t : ℕ) → put-bodies-lts.Need-add-put-bodies-2 (put-bodies-uses t) (put-bodies-at t) put-bodies.Post
-put-bodies-add-put-bodies-2 t c = omega (arith, known t (c .before .before .before .before .before .before), few t (c .before .before .before .before .before .before .before .before .before .before))
+put-bodies-add-put-bodies-2 t c =
+    let else1 = c .before .before .before .before .before .before in
+    let s = else1 .before .before .before .before in
+    omega (arith, known t (else1), few t (s))
 
 put-bodies-put-bodies-requires-2 : (t : ℕ) → put-bodies-lts.Need-put-bodies-requires-2 (put-bodies-uses t) (put-bodies-at t) put-bodies.Post
 put-bodies-put-bodies-requires-2 t c κs =
-    let s = c .before .before .before .before .before .before .before .before .before .before .before in
-    let lt = known t (c .before .before .before .before .before .before .before) in
+    let after-put-body = c .before .before .before in
+    let else2 = after-put-body .before .before in
+    let after-kind-of = else2 .before in
+    let else1 = after-kind-of .before in
+    let s = else1 .before .before .before .before in
+    let lt = known t (else1) in
     let low = few t s in
     let is = s .pre .0 in
-    let body = no-input _ _ (s .pre .1 .0 .formed .placed) _ lt _ (c .before .before .before .before .before .before .kind-of .ensures .0) (c .before .before .before .before .before .before .kind-of .ensures .1) (c .before .before .before .before .before .if2 .left) in
-    let stored = c .before .before .before .put-body .ensures in
-    (omega arith, (next-writes _ _ _ (s .pre .1 .0) lt, rest-room _ _ _ (s .pre .1 .0) lt body (s .args .out .now) (c .before .before .before .put-body .last .1 .1 .1 .0) (s .args .to) _ (s .pre .1 .1) stored))
+    let body =
+    no-input _ _ (s .pre .1 .0 .formed .placed) _ lt _ (after-kind-of .kind-of .ensures .0) (after-kind-of .kind-of .ensures .1)
+    (else2 .if2 .left) in
+    let stored = after-put-body .put-body .ensures in (
+      omega arith,
+      (
+        next-writes _ _ _ (s .pre .1 .0) lt,
+        rest-room _ _ _ (s .pre .1 .0) lt body (s .args .out .now) (after-put-body .put-body .last .1 .1 .1 .0) (s .args .to) _ (s .pre .1 .1) stored,
+      ),
+    )
 
 put-bodies-same-length-2 : (t : ℕ) → put-bodies-lts.Need-same-length-2 (put-bodies-uses t) (put-bodies-at t) put-bodies.Post
 put-bodies-same-length-2 t c = search needs
 
 put-bodies-returns-3 : (t : ℕ) → put-bodies-lts.Need-returns-3 (put-bodies-uses t) (put-bodies-at t) put-bodies.Post
 put-bodies-returns-3 t c =
-    let s = c .before .before .before .before .before .before .before .before .before .before .before .before .before .before in
-    let lt = known t (c .before .before .before .before .before .before .before .before .before .before) in
-    let body = no-input _ _ (s .pre .1 .0 .formed .placed) _ lt _ (c .before .before .before .before .before .before .before .before .before .kind-of .ensures .0) (c .before .before .before .before .before .before .before .before .before .kind-of .ensures .1) (c .before .before .before .before .before .before .before .before .if2 .left) in
-    more-stored _ _ _ (s .pre .1 .0) lt body (s .args .out .now) (s .args .to) _ (c .before .before .before .before .before .before .put-body .ensures) (c .before .before .put-bodies2 .ensures)
+    let after-put-body = c .before .before .before .before .before .before in
+    let else2 = after-put-body .before .before in
+    let after-kind-of = else2 .before in
+    let else1 = after-kind-of .before in
+    let s = else1 .before .before .before .before in
+    let lt = known t (else1) in
+    let body =
+    no-input _ _ (s .pre .1 .0 .formed .placed) _ lt _ (after-kind-of .kind-of .ensures .0) (after-kind-of .kind-of .ensures .1)
+    (else2 .if2 .left) in
+    more-stored _ _ _ (s .pre .1 .0) lt body (s .args .out .now) (s .args .to) _ (after-put-body .put-body .ensures)
+    (c .before .before .put-bodies2 .ensures)
 
 pub +put-bodies-spec : {M : Type 1} → statement M
 +put-bodies-spec = close μ-put-bodies λ t. put-bodies-lts.spec (put-bodies-uses t) (put-bodies-at t)

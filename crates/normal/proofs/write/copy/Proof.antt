@@ -19,7 +19,9 @@ loop-holds : tie.Need-loop-holds Inv-loop μ-loop
 loop-holds c = (refl, omega arith)
 
 shared-slice-read-out : tie.Need-shared-slice-read-out Inv-loop μ-loop
-shared-slice-read-out c = omega (arith, c .before .before .before .pre .0)
+shared-slice-read-out c =
+    let s = c .before .before .before in
+    omega (arith, s .pre .0)
 
 slice-write-out : tie.Need-slice-write-out Inv-loop μ-loop
 slice-write-out c =
@@ -28,7 +30,9 @@ slice-write-out c =
     omega (arith, ap length (l .inv .0) ∙ length-sets (s .args .out .now) 0 (take (l .i) (s .args .s .now)), s .pre .1)
 
 add-i : tie.Need-add-i Inv-loop μ-loop
-add-i c = omega (arith, c .before .before .before .pre .0)
+add-i c =
+    let s = c .before .before .before in
+    omega (arith, s .pre .0)
 
 loop-less : tie.Need-loop-less Inv-loop μ-loop
 loop-less c = omega arith
@@ -36,8 +40,11 @@ loop-less c = omega arith
 loop-again : tie.Need-loop-again Inv-loop μ-loop
 loop-again c =
     let s = c .before .before .before in
-    let l = c .before .before .loop in
-    (ap (λ t. set t (l .i) (getD (s .args .s .now) (l .i) 0)) (l .inv .0) ∙ copied-more (s .args .s .now) (s .args .out .now) (l .i) (omega (arith, s .pre .0)), omega arith)
+    let l = c .before .before .loop in (
+      ap (λ t. set t (l .i) (getD (s .args .s .now) (l .i) 0)) (l .inv .0)
+          ∙ copied-more (s .args .s .now) (s .args .out .now) (l .i) (omega (arith, s .pre .0)),
+      omega arith,
+    )
 
 same-length : tie.Need-same-length Inv-loop μ-loop
 same-length c =

@@ -24,57 +24,102 @@ count-requires c κs =
     (body-standing _ _ (s .pre .0 .formed) _ (s .pre .0 .known) (s .pre .0 .body) _ _ (c .body-place .ensures) refl, omega arith)
 
 dimension-of-requires : tie.Need-dimension-of-requires
-dimension-of-requires c κs = (c .before .before .before .before .pre .0 .formed .placed .prepared, c .before .before .before .before .pre .0 .known)
+dimension-of-requires c κs =
+    let s = c .before .before .before .before in
+    (s .pre .0 .formed .placed .prepared, s .pre .0 .known)
 
 put-nat-requires : tie.Need-put-nat-requires
 put-nat-requires c κs =
-    let s = c .before .before .before .before .before .before in
-    omega (arith, head-room _ _ _ (s .pre .0) _ _ (c .before .before .before .body-place .ensures) refl _ (c .before .before .count .ensures) (s .args .out .now) (s .args .to) (s .pre .1))
+    let after-body-place = c .before .before .before in
+    let s = after-body-place .before .before .before in
+    omega (
+      arith,
+      head-room _ _ _ (s .pre .0) _ _ (after-body-place .body-place .ensures) refl _ (c .before .before .count .ensures)
+          (s .args .out .now) (s .args .to) (s .pre .1),
+    )
 
 add-put-nat : tie.Need-add-put-nat
 add-put-nat c =
-    let s = c .before .before .before .before .before .before .before .before .before .before in
-    omega (arith, head-room _ _ _ (s .pre .0) _ _ (c .before .before .before .before .before .before .before .body-place .ensures) refl _ (c .before .before .before .before .before .before .count .ensures) (s .args .out .now) (s .args .to) (s .pre .1))
+    let after-count = c .before .before .before .before .before .before in
+    let after-body-place = after-count .before in
+    let s = after-body-place .before .before .before in
+    omega (
+      arith,
+      head-room _ _ _ (s .pre .0) _ _ (after-body-place .body-place .ensures) refl _ (after-count .count .ensures) (s .args .out .now)
+          (s .args .to) (s .pre .1),
+    )
 
 put-nat-requires-2 : tie.Need-put-nat-requires-2
 put-nat-requires-2 c κs =
-    let s = c .before .before .before .before .before .before .before .before .before .before in
-    omega (arith, head-room _ _ _ (s .pre .0) _ _ (c .before .before .before .before .before .before .before .body-place .ensures) refl _ (c .before .before .before .before .before .before .count .ensures) (s .args .out .now) (s .args .to) (s .pre .1))
+    let after-count = c .before .before .before .before .before .before in
+    let after-body-place = after-count .before in
+    let s = after-body-place .before .before .before in
+    omega (
+      arith,
+      head-room _ _ _ (s .pre .0) _ _ (after-body-place .body-place .ensures) refl _ (after-count .count .ensures) (s .args .out .now)
+          (s .args .to) (s .pre .1),
+    )
 
 add-put-from : tie.Need-add-put-from
 add-put-from c =
-    let s = c .before .before .before .before .before .before .before .before .before .before .before .before .before .before in
-    omega (arith, head-room _ _ _ (s .pre .0) _ _ (c .before .before .before .before .before .before .before .before .before .before .before .body-place .ensures) refl _ (c .before .before .before .before .before .before .before .before .before .before .count .ensures) (s .args .out .now) (s .args .to) (s .pre .1))
+    let after-count = c .before .before .before .before .before .before .before .before .before .before in
+    let after-body-place = after-count .before in
+    let s = after-body-place .before .before .before in
+    omega (
+      arith,
+      head-room _ _ _ (s .pre .0) _ _ (after-body-place .body-place .ensures) refl _ (after-count .count .ensures) (s .args .out .now)
+          (s .args .to) (s .pre .1),
+    )
 
 put-from-requires : tie.Need-put-from-requires
 put-from-requires c κs =
-    let s = c .before .before .before .before .before .before .before .before .before .before .before .before .before .before in
+    let after-put-nat2 = c .before .before .before in
+    let after-put-nat = after-put-nat2 .before .before .before .before in
+    let after-dimension-of = after-put-nat .before .before in
+    let after-count = after-dimension-of .before in
+    let after-body-place = after-count .before in
+    let s = after-body-place .before .before .before in
     let w = s .pre .0 in
-    let place = c .before .before .before .before .before .before .before .before .before .before .before .body-place .ensures in
-    let dim = c .before .before .before .before .before .before .before .before .before .dimension-of .ensures in
-    let counted = c .before .before .before .before .before .before .before .before .before .before .count .ensures in
-    let many = c .before .before .before .before .before .before .before .before .before .before .count .result in
-    let two = sets-after (s .args .out .now) (s .args .to) 8 (nat 6) (nat many) (length-nat 6) (c .before .before .before .before .before .before .before .put-nat .ensures) (c .before .before .before .put-nat2 .ensures) in
+    let place = after-body-place .body-place .ensures in
+    let dim = after-dimension-of .dimension-of .ensures in
+    let counted = after-count .count .ensures in
+    let many = after-count .count .result in
+    let two =
+    sets-after (s .args .out .now) (s .args .to) 8 (nat 6) (nat many) (length-nat 6) (after-put-nat .put-nat .ensures)
+    (after-put-nat2 .put-nat2 .ensures) in
     let same = ap length two ∙ length-sets (s .args .out .now) (s .args .to) (nat 6 ++ nat many) in (
       body-at _ _ (w .formed) _ (w .known) (w .body) _ _ place (dim .0) _ counted (few-branches _ _ _ w _ _ place (dim .0) _ counted) (dim .1),
       omega arith,
-      branch-rooms _ _ _ w _ _ place (dim .0) _ counted (s .args .out .now) (c .before .before .before .put-nat2 .last .0) (s .args .to) same (s .pre .1),
+      branch-rooms _ _ _ w _ _ place (dim .0) _ counted (s .args .out .now) (after-put-nat2 .put-nat2 .last .0) (s .args .to) same (s .pre .1),
     )
 
 same-length : tie.Need-same-length
 same-length c =
-    let s = c .before .before .before .before .before .before .before .before .before .before .before .before .before .before .before .before .before in
-    let dim = c .before .before .before .before .before .before .before .before .before .before .before .before .dimension-of .ensures in
-    let stored = body-stored _ _ _ (s .pre .0) _ _ (c .before .before .before .before .before .before .before .before .before .before .before .before .before .before .body-place .ensures) (dim .0) _ (c .before .before .before .before .before .before .before .before .before .before .before .before .before .count .ensures) (s .args .out .now) (s .args .to)
-    (c .before .before .before .before .before .before .before .before .before .before .put-nat .ensures) (c .before .before .before .before .before .before .put-nat2 .ensures) (c .before .before .put-from .ensures) in
+    let after-put-nat2 = c .before .before .before .before .before .before in
+    let after-put-nat = after-put-nat2 .before .before .before .before in
+    let after-dimension-of = after-put-nat .before .before in
+    let after-count = after-dimension-of .before in
+    let after-body-place = after-count .before in
+    let s = after-body-place .before .before .before in
+    let dim = after-dimension-of .dimension-of .ensures in
+    let stored =
+    body-stored _ _ _ (s .pre .0) _ _ (after-body-place .body-place .ensures) (dim .0) _ (after-count .count .ensures) (s .args .out .now)
+    (s .args .to)
+    (after-put-nat .put-nat .ensures) (after-put-nat2 .put-nat2 .ensures) (c .before .before .put-from .ensures) in
     ap length (stored .0) ∙ length-sets (s .args .out .now) (s .args .to) (bodyOf (s .args .s .now) (s .args .v))
 
 returns : tie.Need-returns
 returns c =
-    let s = c .before .before .before .before .before .before .before .before .before .before .before .before .before .before .before .before .before in
-    let dim = c .before .before .before .before .before .before .before .before .before .before .before .before .dimension-of .ensures in
-    body-stored _ _ _ (s .pre .0) _ _ (c .before .before .before .before .before .before .before .before .before .before .before .before .before .before .body-place .ensures) (dim .0) _ (c .before .before .before .before .before .before .before .before .before .before .before .before .before .count .ensures) (s .args .out .now) (s .args .to)
-    (c .before .before .before .before .before .before .before .before .before .before .put-nat .ensures) (c .before .before .before .before .before .before .put-nat2 .ensures) (c .before .before .put-from .ensures)
+    let after-put-nat2 = c .before .before .before .before .before .before in
+    let after-put-nat = after-put-nat2 .before .before .before .before in
+    let after-dimension-of = after-put-nat .before .before in
+    let after-count = after-dimension-of .before in
+    let after-body-place = after-count .before in
+    let s = after-body-place .before .before .before in
+    let dim = after-dimension-of .dimension-of .ensures in
+    body-stored _ _ _ (s .pre .0) _ _ (after-body-place .body-place .ensures) (dim .0) _ (after-count .count .ensures) (s .args .out .now)
+    (s .args .to)
+    (after-put-nat .put-nat .ensures) (after-put-nat2 .put-nat2 .ensures) (c .before .before .put-from .ensures)
 
 pub put-body-spec : {M : Type 1} → statement M
 put-body-spec =

@@ -30,8 +30,8 @@ loop-holds c =
 
 byte-requires : tie.Need-byte-requires Inv-loop μ-loop
 byte-requires c κs =
-    let l = c .before .before .loop in
     let s = c .before .before .before .before in
+    let l = c .before .before .loop in
     let more = spaced-more (l .k) (s .args .n - l .k) (s .args .t1) (omega (arith, c .before .loop-test .taken)) in
     omega (arith, going-room (l .inv .0) (32 ∷ []) _ more (s .pre .1))
 
@@ -79,8 +79,9 @@ same-length c = search needs
 
 returns : tie.Need-returns Inv-loop μ-loop
 returns c =
+    let s = c .before .before .before in
     let l = c .before .loop in
-    let a = c .before .before .before .args in
+    let a = s .args in
     let none : a .n - l .k ≡ 0 = omega (arith, c .loop-test .left) in
     going-end (l .inv .0) (ap (λ m. spaced (pointFrom (l .k) m (a .t1))) none)
 

@@ -22,7 +22,8 @@ low c = omega (arith, c .pre .1 .many, c .pre .1 .low)
 -- the coordinates are those of that point
 point-is : (c : tie.After-dimension-of) →
     spaced (pointOf (c .dimension-of .result) (c .before .point .result))
-    ≡ spaced (pointAt (variable (sheetOf (c .before .before .before .before .before .args .s .now)) (c .before .before .before .before .before .args .v) .head .box) (c .before .before .before .before .before .args .i))
+    ≡ spaced (pointAt (variable (sheetOf (c .before .before .before .before .before .args .s .now))
+    (c .before .before .before .before .before .args .v) .head .box) (c .before .before .before .before .before .args .i))
 point-is c =
     let after-point = c .before in
     let after-record-place = after-point .before in
@@ -48,8 +49,10 @@ name-requires c κs =
     let after-record-place = c .before .before .before in
     let s = after-record-place .before .before .before in
     let place = after-record-place .record-place .ensures in
-    let l = laid _ _ (s .pre .0) _ (s .pre .1 .known) in
-    (rw place (omega (arith, l .recorded .fields)), omega (arith, name-length (s .args .s .now) (after-record-place .record-place .result), s .pre .2))
+    let l = laid _ _ (s .pre .0) _ (s .pre .1 .known) in (
+      rw place (omega (arith, l .recorded .fields)),
+      omega (arith, name-length (s .args .s .now) (after-record-place .record-place .result), s .pre .2),
+    )
 
 coordinates-requires : tie.Need-coordinates-requires
 coordinates-requires c κs =

@@ -13,8 +13,9 @@ use Rattle.alpha.specs.Holds.{variable}
 use Rattle.alpha.specs.Ask.{before}
 use Rattle.alpha.specs.Outcome.{Outcome}
 use Rattle.alpha.specs.Program.{outcomeText}
+use Rattle.laws.specs.Coded.{decoded}
 use Rattle.laws.specs.Sheets.{sheetOf}
-use Rattle.text.specs.Lines.{outcomeFor, outcomeIn, lineOf}
+use Rattle.text.specs.Lines.{outcomeIn, lineOf}
 use Rattle.text.proofs.Writing.{wrote-more, wrote-is}
 use Rattle.text.proofs.Outcomes.{outcome-length}
 use Rattle.text.proofs.Variables.{laid, laid-sort, laid-number}
@@ -39,7 +40,9 @@ number-is c =
 
 -- its code
 abbrev code-of : (c : tie.After-first-element) → ℕ
-code-of c = getD (c .before .before .before .args .codes .now) (c .first-element .result + c .before .before .before .args .i) 0
+code-of c =
+    let s = c .before .before .before in
+    getD (s .args .codes .now) (c .first-element .result + s .args .i) 0
 
 -- the variable, and the outcome of the element by the tables
 abbrev variable-of : tie.Start → Variable
@@ -50,7 +53,7 @@ outcome-of s = outcomeIn (s .args .codes .now) (s .args .values .now) (before (s
 
 -- the outcome's text is that of the definition
 outcome-is : (c : tie.After-sort-of) →
-    outcomeText (sortOf (c .sort-of .result)) (outcomeFor (code-of (c .before .before .before .before)) (c .before .of32 .result .v))
+    outcomeText (sortOf (c .sort-of .result)) (decoded (code-of (c .before .before .before .before)) (c .before .of32 .result .v))
     ≡ outcomeText (variable-of (c .before .before .before .before .before .before .before) .head .sort)
     (outcome-of (c .before .before .before .before .before .before .before))
 outcome-is c =

@@ -45,7 +45,8 @@ returns c =
     let at-loop = in-loop .before in
     let s = at-loop .before in
     let l = at-loop .loop in
-    going-end (l .inv .0) (trimmed-stop (s .args .s .now) (s .args .place + l .i) (8 - l .i) (omega (arith, in-loop .loop-test .taken)) (c .if1 .taken))
+    going-end (l .inv .0) (trimmed-stop (s .args .s .now) (s .args .place + l .i) (8 - l .i) (omega (arith, in-loop .loop-test .taken))
+    (c .if1 .taken))
 
 add-out : tie.Need-add-out Inv-loop μ-loop
 add-out c = search needs
@@ -85,8 +86,8 @@ same-length-2 c = search needs
 
 returns-2 : tie.Need-returns-2 Inv-loop μ-loop
 returns-2 c =
-    let l = c .before .loop in
     let s = c .before .before in
+    let l = c .before .loop in
     going-end (l .inv .0) (trimmed-none (s .args .s .now) (s .args .place + l .i) (8 - l .i) (omega (arith, c .loop-test .left)))
 
 pub name-spec : {M : Type 1} → statement M

@@ -26,7 +26,9 @@ abbrev μ-loop : tie.MeasureT-loop
 
 -- the table says how many variables the sheet has
 count-is : (c : tie.After-variable-count Inv-loop μ-loop) → c .variable-count .result ≡ varsOf (c .before .before .before .args .s .now)
-count-is c = c .variable-count .ensures ∙ c .before .before .before .pre .0 .placed .prepared .table .variables
+count-is c =
+    let s = c .before .before .before in
+    c .variable-count .ensures ∙ s .pre .0 .placed .prepared .table .variables
 
 -- the variable is one of them
 low-in : (c : tie.In-loop Inv-loop μ-loop) → c .before .loop .v < length (sheetOf (c .before .before .before .before .before .args .s .now))
@@ -53,10 +55,14 @@ variable-lines-requires c κs =
     (s .pre .0, known, omega (arith, l .inv .0 .sized, l .inv .1, fits, s .pre .1))
 
 add-v : tie.Need-add-v Inv-loop μ-loop
-add-v c = omega (arith, c .before .before .before .before .loop-test .taken)
+add-v c =
+    let in-loop = c .before .before .before .before in
+    omega (arith, in-loop .loop-test .taken)
 
 loop-less : tie.Need-loop-less Inv-loop μ-loop
-loop-less c = omega (arith, c .before .before .before .before .loop-test .taken)
+loop-less c =
+    let in-loop = c .before .before .before .before in
+    omega (arith, in-loop .loop-test .taken)
 
 loop-again : tie.Need-loop-again Inv-loop μ-loop
 loop-again c =
@@ -69,8 +75,11 @@ loop-again c =
     let low = low-in in-loop in
     let more = variables-more (sheetOf (a .s .now)) (a .codes .now) (a .values .now) (l .v) low in
     let wrote = after-variable-lines .variable-lines .ensures in
-    let on : l .v + 1 ≡ suc (l .v) = omega arith in
-    (going-wrote (l .inv .0) _ _ _ _ more (wrote .0), rw on (omega (arith, before-suc (sheetOf (a .s .now)) (l .v) low, wrote .1, l .inv .1)), omega (arith, in-loop .loop-test .taken))
+    let on : l .v + 1 ≡ suc (l .v) = omega arith in (
+      going-wrote (l .inv .0) _ _ _ _ more (wrote .0),
+      rw on (omega (arith, before-suc (sheetOf (a .s .now)) (l .v) low, wrote .1, l .inv .1)),
+      omega (arith, in-loop .loop-test .taken),
+    )
 
 same-length : tie.Need-same-length Inv-loop μ-loop
 same-length c = c .before .loop .inv .0 .sized
@@ -81,7 +90,8 @@ returns c =
     let after-variable-count = at-loop .before in
     let s = after-variable-count .before .before .before in
     let l = at-loop .loop in
-    let all : length (sheetOf (s .args .s .now)) ≡ l .v = omega (arith, count-is after-variable-count, s .pre .0 .placed .many, c .loop-test .left, l .inv .2) in
+    let all : length (sheetOf (s .args .s .now)) ≡ l .v =
+    omega (arith, count-is after-variable-count, s .pre .0 .placed .many, c .loop-test .left, l .inv .2) in
     let none = variables-end (sheetOf (s .args .s .now)) (s .args .codes .now) (s .args .values .now) (l .v) (omega (arith, all)) in
     let total = ap (before (sheetOf (s .args .s .now))) (sym all) ∙ before-all (sheetOf (s .args .s .now)) in
     (going-end (l .inv .0) none, omega (arith, l .inv .1, total))

@@ -17,7 +17,8 @@ use Rattle.text.proofs.report.variable_lines.Tie as tie
 
 abbrev Inv-loop : tie.InvT-loop
 Inv-loop s tab codes values v out₀ at first size next₀ i₀ out next i =
-    Going out₀ at (linesFrom (sheetOf s) codes values (before (sheetOf s) v) (elementsOf (sheetOf s) v)) out next (pointLines (sheetOf s) codes values v i)
+    Going out₀ at (linesFrom (sheetOf s) codes values (before (sheetOf s) v) (elementsOf (sheetOf s) v)) out next
+    (pointLines (sheetOf s) codes values v i)
     × (next ≤ at + 51 * i)
     × (i ≤ size)
 
@@ -29,31 +30,40 @@ size-is : (c : tie.After-first-element2 Inv-loop μ-loop) →
     c .first-element2 .result - c .before .first-element .result
     ≡ Box.size (variable (sheetOf (c .before .before .before .before .args .s .now)) (c .before .before .before .before .args .v) .head .box)
 size-is c =
-    let l = laid _ _ (c .before .before .before .before .pre .0) _ (c .before .before .before .before .pre .1) in
+    let s = c .before .before .before .before in
+    let l = laid _ _ (s .pre .0) _ (s .pre .1) in
     omega (arith, l .first-is, l .last-is, c .before .first-element .ensures, c .first-element2 .ensures)
 
 -- the point is one of them
 low-in : (c : tie.In-loop Inv-loop μ-loop) →
-    c .before .loop .i < Box.size (variable (sheetOf (c .before .before .before .before .before .before .args .s .now)) (c .before .before .before .before .before .before .args .v) .head .box)
+    c .before .loop .i < Box.size
+    (variable (sheetOf (c .before .before .before .before .before .before .args .s .now))
+    (c .before .before .before .before .before .before .args .v) .head .box)
 low-in c = omega (arith, size-is (c .before .before), c .loop-test .taken)
 
 first-element-requires : tie.Need-first-element-requires Inv-loop μ-loop
 first-element-requires c κs = omega (arith, laid _ _ (c .before .before .pre .0) _ (c .before .before .pre .1) .low)
 
 add-first-element : tie.Need-add-first-element Inv-loop μ-loop
-add-first-element c = omega (arith, laid _ _ (c .before .before .before .pre .0) _ (c .before .before .before .pre .1) .low)
+add-first-element c =
+    let s = c .before .before .before in
+    omega (arith, laid _ _ (s .pre .0) _ (s .pre .1) .low)
 
 first-element-requires-2 : tie.Need-first-element-requires-2 Inv-loop μ-loop
-first-element-requires-2 c κs = omega (arith, laid _ _ (c .before .before .before .pre .0) _ (c .before .before .before .pre .1) .low)
+first-element-requires-2 c κs =
+    let s = c .before .before .before in
+    omega (arith, laid _ _ (s .pre .0) _ (s .pre .1) .low)
 
 sub-size : tie.Need-sub-size Inv-loop μ-loop
 sub-size c =
-    let l = laid _ _ (c .before .before .before .before .pre .0) _ (c .before .before .before .before .pre .1) in
+    let s = c .before .before .before .before in
+    let l = laid _ _ (s .pre .0) _ (s .pre .1) in
     omega (arith, l .first-is, l .last-is, c .before .first-element .ensures, c .first-element2 .ensures)
 
 loop-holds : tie.Need-loop-holds Inv-loop μ-loop
 loop-holds c =
-    let a = c .before .before .before .before .args in
+    let s = c .before .before .before .before in
+    let a = s .args in
     let whole = points-start (sheetOf (a .s .now)) (a .codes .now) (a .values .now) (a .v) in
     (rw whole (going-start _ _ _), omega arith, omega arith)
 
@@ -64,14 +74,21 @@ line-requires c κs =
     let after-first-element2 = at-loop .before in
     let s = after-first-element2 .before .before .before .before in
     let l = at-loop .loop in
-    let many = size-is after-first-element2 in
-    (s .pre .0, record { known = s .pre .1; many = many; low = in-loop .loop-test .taken }, omega (arith, l .inv .0 .sized, l .inv .1, many, in-loop .loop-test .taken, s .pre .2))
+    let many = size-is after-first-element2 in (
+      s .pre .0,
+      record { known = s .pre .1; many = many; low = in-loop .loop-test .taken },
+      omega (arith, l .inv .0 .sized, l .inv .1, many, in-loop .loop-test .taken, s .pre .2),
+    )
 
 add-i : tie.Need-add-i Inv-loop μ-loop
-add-i c = omega (arith, c .before .before .before .before .loop-test .taken)
+add-i c =
+    let in-loop = c .before .before .before .before in
+    omega (arith, in-loop .loop-test .taken)
 
 loop-less : tie.Need-loop-less Inv-loop μ-loop
-loop-less c = omega (arith, c .before .before .before .before .loop-test .taken)
+loop-less c =
+    let in-loop = c .before .before .before .before in
+    omega (arith, in-loop .loop-test .taken)
 
 loop-again : tie.Need-loop-again Inv-loop μ-loop
 loop-again c =

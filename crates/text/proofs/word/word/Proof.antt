@@ -40,9 +40,10 @@ loop-less c = search needs
 
 loop-again : tie.Need-loop-again Inv-loop μ-loop
 loop-again c =
+    let s = c .before .before .before in
     let l = c .before .before .loop in
-    let at = c .before .before .before .args .at in
-    let text = c .before .before .before .args .text .now in
+    let at = s .args .at in
+    let text = s .args .text .now in
     let low : l .i < length text = omega arith in
     let e : at + l .i + 1 ≡ at + (l .i + 1) = omega arith in
     (rw (← e, add-one (l .i)) (going-byte (l .inv .0) _ _ (drop-cons text (l .i) 0 low)), omega arith)
