@@ -54,18 +54,14 @@ pub fn stand(
         let y = affine::image_at(s, at + 8, z);
         let below = child(s, tab, inside, next, left - 1, y);
         let how = below.how;
-        return Stood {
-            how,
-            next: below.next,
-        };
+        let end = below.next;
+        return Stood { how, next: end };
     }
     if restriction_meets(s, at, z) {
         let below = child(s, tab, inside, next, left - 1, z);
         let how = below.how;
-        Stood {
-            how,
-            next: below.next,
-        }
+        let end = below.next;
+        Stood { how, next: end }
     } else {
         Stood {
             how: Standing::Not,
@@ -93,10 +89,8 @@ fn child(
     }
     let inner = stand(s, tab, inside, at, left, z);
     let how = inner.how;
-    Stood {
-        how,
-        next: inner.next,
-    }
+    let end = inner.next;
+    Stood { how, next: end }
 }
 
 // How `count` trees, the branches of a case or operands, stand together at z, after others that stand as `sofar`.

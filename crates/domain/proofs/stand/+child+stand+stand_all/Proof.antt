@@ -22,8 +22,8 @@ use Rattle.tree.proofs.node.node_len.Reads as node-len-reads
 use Rattle.tree.proofs.skip.skip.Reads as skip-reads
 use Rattle.domain.proofs.stand.+child+stand+stand_all.{statement}
 use Rattle.domain.proofs.stand.+child+stand+stand_all.Tie.{close}
-use Prim.Native.Nat.{ℕ, _+_, _*_, _-_, _<_, _≤_}
-use mathlib.Core.Path.{_≡_, refl, sym, ap, _∙_}
+use Prim.Native.Nat.{ℕ, _+_, _*_, _<_, _≤_}
+use mathlib.Core.Path.{_≡_, sym, _∙_}
 use native.Mathlib.Omega.{arith}
 use borrow.Author.Needs.{needs}
 use lib.IntN.{natAbs}
