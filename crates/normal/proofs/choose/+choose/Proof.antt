@@ -8,9 +8,8 @@ use Rattle.normal.proofs.count.count.Reads as count-reads
 use Rattle.tree.proofs.skip.skip.Reads as skip-reads
 use Rattle.normal.proofs.choose.+choose.{statement}
 use Rattle.normal.proofs.choose.+choose.Tie.{close}
-use Prim.Native.Nat.{ℕ, _+_, _*_, _-_, _<_, _≤_}
+use Prim.Native.Nat.{ℕ, _<_}
 use native.Mathlib.Omega.{arith}
-use borrow.Author.Needs.{needs}
 use Rattle.tree.proofs.Standings.{first-standing}
 use Rattle.normal.proofs.Counting.{children-some, children-standing, first-way, children-rest, later-way}
 
