@@ -1,10 +1,10 @@
 -- The element number, by each way through: no such variable, another dimension, a point off the box, a point of it. Assumes nothing.
-use mathlib.Core.Path.{_≡_, refl, sym, ap, subst, _∙_}
-use Prim.Native.Nat.{ℕ, zero, suc, _+_, _≤_, _<_}
+use mathlib.Core.Path.{_≡_, refl, sym, ap, _∙_}
+use Prim.Native.Nat.{ℕ, _+_, _≤_, _<_}
 use native.Mathlib.Omega.{arith}
 use native.Mathlib.Decide.{ℕ-discrete}
-use mathlib.Core.Bool.{Bool, true, false, _&&_}
-use mathlib.Core.List.{List, [], _∷_}
+use mathlib.Core.Bool.{Bool, true, false}
+use mathlib.Core.List.{List}
 use lib.ListN.{length, getD, set, length-set}
 use lib.Seq.{ext-getD, getD-set-same, getD-set-other}
 use lib.IntN.{ℤ, pos}
@@ -15,7 +15,7 @@ use Rattle.alpha.specs.Answer.{Answer, accepted, refused, next, ASK}
 use Rattle.alpha.specs.Sheet.{Sheet, Point, Range}
 use Rattle.alpha.specs.Box.{inBox, index}
 use Rattle.alpha.specs.Holds.{variable}
-use Rattle.alpha.specs.Check.{check, total}
+use Rattle.alpha.specs.Check.{check}
 use Rattle.alpha.specs.Ask.{asks, numberOf, before, elementNumber, numbered}
 use Rattle.alpha.specs.Promise.{totalOf}
 use Rattle.alpha.specs.Verdict.{told, placeOf}
@@ -23,7 +23,7 @@ use Rattle.alpha.specs.Verdict as Verdicts
 use Rattle.alpha.specs.declared.Int.{Int}
 use Rattle.alpha.specs.declared.Refusal.{Refusal}
 use Rattle.alpha.specs.declared.Verdict.{Verdict}
-use Rattle.alpha.specs.declared.Verdict.the-variants.{Accepted, Refused}
+use Rattle.alpha.specs.declared.Verdict.the-variants.{Refused}
 use Rattle.affine.specs.Value.{several, at, pointOf}
 use Rattle.affine.proofs.Several.{length-several, getD-several}
 use Rattle.alpha.specs.Read.{dimension}
@@ -33,7 +33,6 @@ use Rattle.sheet.specs.Record.{dimensionAt}
 use Rattle.tree.specs.Formed.{Formed}
 use Rattle.domain.proofs.Records.{VariableLaid, laid-variable}
 use Rattle.points.specs.Number.{boxOf, numberIn}
-use Rattle.points.specs.declared.Found.{Found}
 use Rattle.points.specs.declared.Found.the-variants.{At, Off}
 
 -- ---- the array of the coordinates

@@ -2,9 +2,9 @@
 use mathlib.Core.Path.{_≡_, refl, sym, ap, _∙_}
 use Prim.Native.Nat.{ℕ, zero, suc, _+_, _-_, _≤_, _<_}
 use native.Mathlib.Omega.{arith}
-use mathlib.Core.Bool.{Bool, true, false}
-use mathlib.Core.List.{List, [], _∷_}
-use lib.ListN.{length, getD, take, drop, List·getD-eq-default}
+use mathlib.Core.Bool.{false}
+use mathlib.Core.List.{List}
+use lib.ListN.{length, getD, List·getD-eq-default}
 use Rattle.alpha.specs.Pick.{ifb}
 use Rattle.alpha.specs.Answer.{Answer, accepted, refused}
 use Rattle.alpha.specs.Sheet.{Sheet}
@@ -17,15 +17,13 @@ use Rattle.alpha.specs.Promise.{totalOf}
 use Rattle.alpha.specs.Verdict.{numberOf, placeOf, told}
 use Rattle.alpha.specs.declared.Refusal.{Refusal}
 use Rattle.alpha.specs.declared.Verdict.{Verdict}
-use Rattle.alpha.specs.declared.Verdict.the-variants.{Accepted, Refused}
+use Rattle.alpha.specs.declared.Verdict.the-variants.{Refused}
 use Rattle.laws.specs.Sheets.{headsOf, varsOf, sheetOf}
 use Rattle.laws.proofs.Shapes.{at-long, at-there}
 use Rattle.tree.specs.Formed.{Formed}
+use Rattle.tree.proofs.Passing.{input-is}
 use Rattle.accept.specs.declared.Part.{Part}
-use Rattle.accept.specs.Shown.{shown, IsPart}
-
-input-kind : (k : ℕ) → k ≡ 0 → isInputKind (kindOf k) ≡ true
-input-kind k e = rw e refl
+use Rattle.accept.specs.Shown.{IsPart}
 
 other-kind : (k : ℕ) → (k ≡ 0 → ⊥) → k ≤ 2 → isInputKind (kindOf k) ≡ false
 other-kind zero n h = absurd (n refl)
@@ -44,7 +42,7 @@ module _ (bs tab : List ℕ) (f : Formed bs tab) (v : ℕ) where
     kind-is = ap (λ h. isInputKind (h .kind)) (f .placed .head-is v lt) ∙ ap isInputKind is
 
     pub input-part : k ≡ 0 → partOf (sheetOf bs) v ≡ noPart
-    input-part e = rw (kind-is ∙ input-kind k e) refl
+    input-part e = rw (kind-is ∙ input-is k e) refl
 
     module _ (n : k ≡ 0 → ⊥) (few : k ≤ 2) where
       no-input : isInput (variable (sheetOf bs) v) ≡ false

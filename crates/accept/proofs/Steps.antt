@@ -13,7 +13,7 @@ use Rattle.alpha.specs.Verdict.{numberOf, placeOf, told}
 use Rattle.alpha.specs.declared.Refusal.{Refusal}
 use Rattle.alpha.specs.declared.Verdict.{Verdict}
 use Rattle.alpha.specs.declared.Verdict.the-variants.{Accepted, Refused}
-use Rattle.laws.specs.Sheets.{rawOf, headsOf, sheetOf, gotRaw}
+use Rattle.laws.specs.Sheets.{rawOf, headsOf, sheetOf}
 use Rattle.laws.proofs.Bodies.{bodies-read}
 use Rattle.sheet.specs.Record as Record
 use Rattle.sheet.specs.Table.{answerOf, readAnswer, Reads}
@@ -23,9 +23,9 @@ use Rattle.tree.specs.Ruled.{ruled, formsOf}
 use Rattle.tree.specs.declared.Ruling.{Ruling}
 use Rattle.tree.specs.declared.Ruling.the-variants.{Passes, Refused as Ruled}
 use Rattle.domain.specs.Inside.{Inside}
-use Rattle.accept.specs.Admits.{Admits, Admitted}
+use Rattle.accept.specs.Admits.{Admits}
 use Rattle.tree.specs.Prepared.{Prepared}
-use Rattle.tree.proofs.Checking.{elementsOf, check-refused, check-formed}
+use Rattle.tree.proofs.Checking.{check-refused, check-formed}
 
 -- reading refused
 pub read-refuses : (bs : List ℕ) (n p : ℕ) → refused n p ≡ readAnswer bs → refused n p ≡ totalOf (check bs)

@@ -1,16 +1,16 @@
--- How far values reach, over the definitions of crate alpha: a row's value at a point within reach r is within the row's reach, a
--- composition reaches no further than its parts, and what reaches no further than 2^40 fits in an i64. Assumes nothing.
-use Prim.Native.Nat.{ℕ, zero, suc, _+_, _*_, _^_, _≤_, _<_, max}
+-- How far values reach, over the definitions of crate alpha: a row's value at a point within reach r is within the row's reach, and what
+-- reaches no further than 2^40 fits in an i64, a row or a map after another too. Assumes nothing.
+use Prim.Native.Nat.{ℕ, zero, suc, _*_, _^_, _≤_, _<_, max}
 use mathlib.Core.Path.{_≡_, refl, ap, subst}
 use mathlib.Core.Logic.{⊎-elim}
-use mathlib.Core.List.{List, [], _∷_, map}
+use mathlib.Core.List.{List, [], _∷_}
 use native.Mathlib.Omega.{arith}
-use native.Mathlib.Nat.{le-trans, mul-le-mul-left, mul-le-mul-right, mul-one, mul-add, add-mul, mul-assoc}
+use native.Mathlib.Nat.{le-trans, mul-le-mul-left, mul-one, add-mul}
 use lib.IntN.{ℤ, natAbs, _*ℤ_}
 use Rattle.laws.proofs.Sizes.{natAbs-add, natAbs-mul}
 use Rattle.alpha.specs.declared.Int.{Int}
 use Rattle.alpha.specs.Sheet as Sheet
-use Rattle.alpha.specs.Affine.{dot, rowAt, image, scale, addAll, zeroes, combine, rowAfter}
+use Rattle.alpha.specs.Affine.{dot, rowAt, image}
 use Rattle.alpha.specs.Reach.{limit, sizes, rowReach, mapReach}
 use Rattle.affine.specs.declared.Row.{Row}
 use Rattle.affine.specs.declared.Map.{Map}
@@ -57,62 +57,10 @@ image-near r [] z h = tt
 image-near r (w ∷ ws) z h =
     let k = rowAt-near r w z h in (omega arith, near-more (image ws z) (omega arith) (image-near r ws z h))
 
--- ---- composing
+-- ---- a greater reach
 
 pub rowReach-more : {r s : ℕ} (w : Sheet.Row) → r ≤ s → rowReach r w ≤ rowReach s w
 rowReach-more w l = omega (arith, mul-le-mul-left (sizes (w .coefs)) l)
-
-sizes-zeroes : (n : ℕ) → sizes (zeroes n) ≡ 0
-sizes-zeroes zero = refl
-sizes-zeroes (suc n) = let h = sizes-zeroes n in omega arith
-
-sizes-scale : (c : ℤ) (xs : List ℤ) → sizes (scale c xs) ≡ natAbs c * sizes xs
-sizes-scale c [] = omega arith
-sizes-scale c (x ∷ xs) = omega (arith, natAbs-mul c x, sizes-scale c xs, mul-add (natAbs c) (natAbs x) (sizes xs))
-
-sizes-addAll : (xs ys : List ℤ) → sizes (addAll xs ys) ≤ sizes xs + sizes ys
-sizes-addAll [] ys = omega arith
-sizes-addAll (x ∷ xs) [] = omega arith
-sizes-addAll (x ∷ xs) (y ∷ ys) = omega (arith, natAbs-add x y, sizes-addAll xs ys)
-
-combine-reach :
-    (r : ℕ) (cs : List ℤ) (ws : List Sheet.Row) (n : ℕ) →
-    sizes (combine cs ws n .coefs) * r + natAbs (combine cs ws n .const) ≤ sizes cs * mapReach r ws
-combine-reach r [] ws n = rw (sizes-zeroes n) (omega arith)
-combine-reach r (c ∷ cs) [] n = rw (sizes-zeroes n) (omega arith)
-combine-reach r (c ∷ cs) (w ∷ ws) n =
-    let rest = combine cs ws n in
-    let a = natAbs c in
-    let m = mapReach r (w ∷ ws) in
-    let here : a * rowReach r w ≤ a * m = mul-le-mul-left a (omega arith) in
-    let there : sizes cs * mapReach r ws ≤ sizes cs * m = mul-le-mul-left (sizes cs) (omega arith) in
-    let both : sizes (addAll (scale c (w .coefs)) (rest .coefs)) ≤ a * sizes (w .coefs) + sizes (rest .coefs) =
-    omega (arith, sizes-addAll (scale c (w .coefs)) (rest .coefs), sizes-scale c (w .coefs)) in
-    omega (
-      arith,
-      mul-le-mul-right r both,
-      add-mul (a * sizes (w .coefs)) (sizes (rest .coefs)) r,
-      mul-assoc a (sizes (w .coefs)) r,
-      natAbs-add (c *ℤ w .const) (rest .const),
-      natAbs-mul c (w .const),
-      mul-add a (sizes (w .coefs) * r) (natAbs (w .const)),
-      combine-reach r cs ws n,
-      add-mul a (sizes cs) m,
-    )
-
--- a row after a map reaches no further than the row where the map's image reaches
-pub reach-after : (r : ℕ) (f : Sheet.Map) (w : Sheet.Row) → rowReach r (rowAfter f w) ≤ rowReach (mapReach r (f .rows)) w
-reach-after r f w =
-    omega (
-      arith,
-      combine-reach r (w .coefs) (f .rows) (f .cols),
-      natAbs-add (combine (w .coefs) (f .rows) (f .cols) .const) (w .const),
-    )
-
-pub mapReach-after :
-    (r : ℕ) (f : Sheet.Map) (ws : List Sheet.Row) → mapReach r (map (rowAfter f) ws) ≤ mapReach (mapReach r (f .rows)) ws
-mapReach-after r f [] = omega arith
-mapReach-after r f (w ∷ ws) = let h = reach-after r f w in let k = mapReach-after r f ws in omega arith
 
 -- ---- what fits in an i64
 

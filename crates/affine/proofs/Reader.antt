@@ -1,21 +1,16 @@
--- What the readers of crate alpha give, as fields at places: a number, a row, a map. Assumes nothing.
+-- What the readers of crate alpha give, as fields at places: a row, and a map. Assumes nothing.
 use Prim.Native.Nat.{ℕ, zero, suc, _+_, _*_, _^_, _≤_}
 use mathlib.Core.Path.{_≡_, refl, ap, _∙_}
-use mathlib.Core.Bool.{Bool, true, false}
 use mathlib.Core.List.{List, _∷_}
 use native.Mathlib.Omega.{arith}
 use native.Mathlib.Nat.{suc-mul}
-use borrow.Author.Tests.{leb-true}
 use lib.ListN.{length}
-use lib.IntN.{ℤ, pos, negℤ, natAbs}
-use Rattle.integer.proofs.Order.{within-nat, within-size}
-use Rattle.alpha.specs.Pick.{ifb}
-use Rattle.alpha.specs.Answer.{CUT, COUNT, NUMBER}
+use lib.IntN.{ℤ, natAbs}
 use Rattle.alpha.specs.Field.{field}
-use Rattle.alpha.specs.Box.{within}
 use Rattle.alpha.specs.Sheet as Sheet
 use Rattle.alpha.specs.Read as Read
-use Rattle.alpha.specs.Read.{Got, got, bad, after, repeat, room, passing, count, free, dependence}
+use Rattle.alpha.specs.Read.{Got, got, bad, after, repeat, count, free, dependence}
+use Rattle.laws.proofs.Readers.{Upto, given, Counted, counted-is, count-gives, Freed, free-gives}
 use Rattle.affine.specs.Value.{several}
 use Rattle.affine.specs.Size.{Near}
 use Rattle.affine.specs.Reading.{rowFields, rowsFields, mapFields}
@@ -24,7 +19,7 @@ use Rattle.affine.proofs.Meaning.{row-same}
 
 -- ---- a value came from values
 
-pub after-got :
+after-got :
     {A B C : Type 0} (m : Got A) (k : A → ℕ → Got B) {b : B} {q : ℕ} → after m k ≡ got b q →
     ((a : A) (p : ℕ) → m ≡ got a p → k a p ≡ got b q → C) → C
 after-got (got a p) k e c = c a p refl e
@@ -34,51 +29,10 @@ after-got (bad n at) k e c = let z : _≡_ {A = ℕ} 0 1 = cc in absurd (omega a
 got-same : {A : Type 0} {a b : A} {p q : ℕ} → got a p ≡ got b q → (b ≡ a) × (q ≡ p)
 got-same e = ((cc), (cc))
 
--- a number that passed its test
-pub record NumberGot (test : ℤ → Bool) (bs : List ℕ) (p : ℕ) (x : ℤ) (q : ℕ) : Type 0 where
-  pub room : p + 8 ≤ length bs
-  pub passed : test (field bs p) ≡ true
-  pub is : x ≡ field bs p
-  pub next : q ≡ p + 8
-
-by-tests :
-    (n : ℕ) (test : ℤ → Bool) (bs : List ℕ) (p : ℕ) (x : ℤ) (q : ℕ) (r t : Bool) → room bs p ≡ r → test (field bs p) ≡ t →
-    ifb r (λ _. ifb t (λ _. got (field bs p) (p + 8)) (λ _. bad n p)) (λ _. bad CUT p) ≡ got x q → NumberGot test bs p x q
-by-tests n test bs p x q true true h k e = record { room = leb-true (p + 8) (length bs) h; passed = k; is = cc; next = cc }
-by-tests n test bs p x q true false h k e = let z : _≡_ {A = ℕ} 0 1 = cc in absurd (omega arith)
-by-tests n test bs p x q false t h k e = let z : _≡_ {A = ℕ} 0 1 = cc in absurd (omega arith)
-
-pub passing-got :
-    (n : ℕ) (test : ℤ → Bool) (bs : List ℕ) (p : ℕ) {x : ℤ} {q : ℕ} → passing n test bs p ≡ got x q → NumberGot test bs p x q
-unfolding passing
-passing-got n test bs p {x} {q} e = by-tests n test bs p x q (room bs p) (test (field bs p)) refl refl e
-
--- a count
-pub record CountGot (lo hi : ℕ) (bs : List ℕ) (p n q : ℕ) : Type 0 where
-  pub room : p + 8 ≤ length bs
-  pub least : lo ≤ n
-  pub most : n ≤ hi
-  pub is : n ≡ natAbs (field bs p)
-  pub next : q ≡ p + 8
-
-pub count-got : (lo hi : ℕ) (bs : List ℕ) (p : ℕ) {n q : ℕ} → count lo hi bs p ≡ got n q → CountGot lo hi bs p n q
-count-got lo hi bs p {n} {q} e =
-    after-got (passing COUNT (within (pos lo) (pos hi)) bs p) (λ x t. got (natAbs x) t) e
-    (λ x t h last. from x t (passing-got COUNT (within (pos lo) (pos hi)) bs p h) (got-same last))
-  where
-    from : (x : ℤ) (t : ℕ) → NumberGot (within (pos lo) (pos hi)) bs p x t → (n ≡ natAbs x) × (q ≡ t) → CountGot lo hi bs p n q
-    from x t g last =
-        let bounds = within-nat lo hi (field bs p) (g .passed) in
-        let is : n ≡ natAbs (field bs p) = last .0 ∙ ap natAbs (g .is) in
-        record { room = g .room; least = rw is (bounds .1); most = rw is (bounds .2); is = is; next = last .1 ∙ g .next }
-
 -- ---- a row
 
-abbrev small-test : ℤ → Bool
-small-test = within (negℤ (pos (2 ^ 40))) (pos (2 ^ 40))
-
-pub free-got : (bs : List ℕ) (p : ℕ) {x : ℤ} {q : ℕ} → free bs p ≡ got x q → NumberGot small-test bs p x q
-free-got bs p e = passing-got NUMBER small-test bs p e
+free-got : (bs : List ℕ) (p : ℕ) {x : ℤ} {q : ℕ} → free bs p ≡ got x q → Upto (Freed bs p) (p + 8) x q
+free-got bs p e = given (Freed bs p) (p + 8) (free-gives bs p) e
 
 pub record FieldsGot (n : ℕ) (bs : List ℕ) (p : ℕ) (cs : List ℤ) (q : ℕ) : Type 0 where
   pub is : cs ≡ several n (λ i. field bs (p + 8 * i))
@@ -86,16 +40,16 @@ pub record FieldsGot (n : ℕ) (bs : List ℕ) (p : ℕ) (cs : List ℤ) (q : �
   pub small : Near (2 ^ 40) cs
 
 module _ (n : ℕ) (bs : List ℕ) (p : ℕ) (x : ℤ) (t : ℕ) (l : List ℤ) (u : ℕ) where
-  fields-more : NumberGot small-test bs p x t → FieldsGot n bs t l u → FieldsGot (suc n) bs p (x ∷ l) u
+  fields-more : Upto (Freed bs p) (p + 8) x t → FieldsGot n bs t l u → FieldsGot (suc n) bs p (x ∷ l) u
   fields-more g r =
-      let first : x ≡ field bs (p + 8 * 0) = g .is ∙ ap (field bs) (omega arith) in
+      let first : x ≡ field bs (p + 8 * 0) = g .what .is ∙ ap (field bs) (omega arith) in
       let rest : l ≡ several n (λ i. field bs (p + 8 * suc i)) =
       r .is
       ∙ several-same n (λ i. field bs (t + 8 * i)) (λ i. field bs (p + 8 * suc i)) (λ i h. ap (field bs) (let k = g .next in omega arith)) in
       record {
         is = ap (λ (y : ℤ). y ∷ l) first ∙ ap (λ (ys : List ℤ). field bs (p + 8 * 0) ∷ ys) rest;
         next = let k = g .next in let h = r .next in omega arith;
-        small = (rw (g .is) (within-size (2 ^ 40) (field bs p) (g .passed)), r .small);
+        small = (rw (g .what .is) (g .what .small), r .small);
       }
 
 pub fields-got : (n : ℕ) (bs : List ℕ) (p : ℕ) {cs : List ℤ} {q : ℕ} → repeat n free bs p ≡ got cs q → FieldsGot n bs p cs q
@@ -115,17 +69,17 @@ pub record RowGot (n : ℕ) (bs : List ℕ) (p : ℕ) (w : Sheet.Row) (q : ℕ) 
   pub const-small : natAbs (w .const) ≤ 2 ^ 40
 
 module _ (n : ℕ) (bs : List ℕ) (p : ℕ) (cs : List ℤ) (t : ℕ) (c : ℤ) (u : ℕ) where
-  row-from : FieldsGot n bs p cs t → NumberGot small-test bs t c u → RowGot n bs p (record { coefs = cs; const = c }) u
+  row-from : FieldsGot n bs p cs t → Upto (Freed bs t) (t + 8) c u → RowGot n bs p (record { coefs = cs; const = c }) u
   row-from f g =
       let a = f .next in
       let b = g .next in
-      let d = g .room in
+      let d = g .what .there in
       record {
-        is = row-same (f .is) (g .is ∙ ap (field bs) (f .next));
+        is = row-same (f .is) (g .what .is ∙ ap (field bs) (f .next));
         next = omega arith;
         room = omega arith;
         coefs-small = f .small;
-        const-small = rw (g .is) (within-size (2 ^ 40) (field bs t) (g .passed));
+        const-small = rw (g .what .is) (g .what .small);
       }
 
 pub row-got : (n : ℕ) (bs : List ℕ) (p : ℕ) {w : Sheet.Row} {q : ℕ} → Read.rowOf n bs p ≡ got w q → RowGot n bs p w q
@@ -177,18 +131,18 @@ pub record MapGot (bs : List ℕ) (p : ℕ) (f : Sheet.Map) (q : ℕ) : Type 0 w
   pub inside : q ≤ length bs
 
 module _ (bs : List ℕ) (p n t k u : ℕ) (l : List Sheet.Row) (v : ℕ) where
-  map-from : CountGot 0 4 bs p n t → CountGot 0 4 bs t k u → RowsGot k n bs u l v → MapGot bs p (record { cols = n; rows = l }) v
+  map-from : Upto (Counted 0 4 bs p) (p + 8) n t → Upto (Counted 0 4 bs t) (t + 8) k u → RowsGot k n bs u l v → MapGot bs p (record { cols = n; rows = l }) v
   map-from a b c =
       let third : u ≡ p + 16 = let y = a .next in let z = b .next in omega arith in
-      let high : k ≡ natAbs (field bs (p + 8)) = b .is ∙ ap (λ i. natAbs (field bs i)) (a .next) in
-      let wide : n ≡ natAbs (field bs p) = a .is in
-      let room : p + 16 ≤ length bs = let y = a .next in let z = b .room in omega arith in
+      let high : k ≡ natAbs (field bs (p + 8)) = counted-is (b .what) ∙ ap (λ i. natAbs (field bs i)) (a .next) in
+      let wide : n ≡ natAbs (field bs p) = counted-is (a .what) in
+      let room : p + 16 ≤ length bs = let y = a .next in let z = b .what .there in omega arith in
       let rows : l ≡ rowsFields (natAbs (field bs (p + 8))) n bs (p + 16) =
       c .is ∙ ap (λ i. rowsFields i n bs u) high ∙ ap (λ i. rowsFields (natAbs (field bs (p + 8))) n bs i) third in
       record {
         room = room;
-        cols-few = rw wide at (a .most);
-        rows-few = rw high at (b .most);
+        cols-few = rw wide at (a .what .high);
+        rows-few = rw high at (b .what .high);
         is =
             ap (λ (ws : List Sheet.Row). record { cols = n; rows = ws }) rows
             ∙ ap (λ i. record { cols = i; rows = rowsFields (natAbs (field bs (p + 8))) i bs (p + 16) }) wide;
@@ -206,8 +160,11 @@ dependence-got bs p {f} {q} e =
     after-got (repeat k (Read.rowOf n) bs u) (λ l v. got (Sheet.Node.nDep (record { cols = n; rows = l })) v) rest′ (λ l v j last.
     let same = got-same last in
     let map-same : f ≡ record { cols = n; rows = l } = cc (same .0) in
-    rw (map-same, same .1) (map-from bs p n t k u l v (count-got 0 4 bs p h) (count-got 0 4 bs t i) (rows-got k n bs u j)))))
+    rw (map-same, same .1) (map-from bs p n t k u l v (counted-at p h) (counted-at t i) (rows-got k n bs u j)))))
   where
+    counted-at : (o : ℕ) {m w : ℕ} → count 0 4 bs o ≡ got m w → Upto (Counted 0 4 bs o) (o + 8) m w
+    counted-at o e = given (Counted 0 4 bs o) (o + 8) (count-gives 0 4 bs o) e
+
     third : ℕ → ℕ → ℕ → Got Sheet.Node
     third n k u = after (repeat k (Read.rowOf n) bs u) (λ l v. got (Sheet.Node.nDep (record { cols = n; rows = l })) v)
 

@@ -1,13 +1,13 @@
 -- The element number, with ASK; and the body of a variable as that part of the sheet.
 -- Assumes nothing.
 use Prim.Native.Nat.{ℕ, _+_, _-_}
-use mathlib.Core.Bool.{Bool, true, false, _&&_}
-use mathlib.Core.List.{List, [], _∷_}
+use mathlib.Core.Bool.{Bool, _&&_}
+use mathlib.Core.List.{List}
 use lib.ListN.{length, take, drop}
 use lib.Dec.{ltb}
 use Rattle.alpha.specs.Pick.{ifb}
 use Rattle.alpha.specs.Answer.{Answer, accepted, refused, next, ASK}
-use Rattle.alpha.specs.Sheet.{Head, Variable, Sheet, Point}
+use Rattle.alpha.specs.Sheet.{Sheet, Point}
 use Rattle.alpha.specs.Box.{inBox, index}
 use Rattle.alpha.specs.Holds.{variable, isInput}
 use Rattle.alpha.specs.Check.{check, total}

@@ -1,9 +1,8 @@
 -- The check of a sheet, refusals 1 to 11 in order, and the elements with their numbers.
 -- Assumes nothing.
 use Prim.Native.Nat.{ℕ, zero, suc, _+_}
-use mathlib.Core.Bool.{Bool, true, false, not, _&&_, _||_}
+use mathlib.Core.Bool.{Bool, not, _&&_, _||_}
 use mathlib.Core.List.{List, [], _∷_, _++_, map}
-use lib.ListN.{length}
 use Rattle.alpha.specs.Pick.{ifb}
 use Rattle.alpha.specs.Answer.{Answer, accepted, refused, next, TYPE, REACH, GAP, CLASH}
 use Rattle.alpha.specs.Sheet.{Head, Raw, Variable, Sheet, Point, Range}

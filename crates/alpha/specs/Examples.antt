@@ -2,7 +2,7 @@
 -- written as trees and turned into bytes here, so that every claim is one about bytes. Assumes nothing.
 use mathlib.Core.Path.{_≡_, refl}
 use Prim.Native.String.{String}
-use Prim.Native.Nat.{ℕ, zero, suc, _+_, _^_, _%_}
+use Prim.Native.Nat.{ℕ, suc, _+_, _^_, _%_}
 use mathlib.Core.Bool.{Bool, true, false, _&&_}
 use mathlib.Core.List.{List, [], _∷_, _++_, map}
 use lib.ListN.{length, replicate, take}
@@ -11,7 +11,7 @@ use lib.Dec.{eqb}
 use Rattle.alpha.specs.Pick.{ifb}
 use Rattle.alpha.specs.Answer.{Answer, accepted, refused, GAP, REACH, NAME}
 use Rattle.alpha.specs.Field.{nat, num, bytesOf, wordOf, sameBytes}
-use Rattle.alpha.specs.Sheet.{Kind, Kind.input, Kind.output, Kind.local, Sort, Sort.integer, Sort.boolean, Relation, Relation.atLeast, Relation.equal, Row, Constraint, Map, Range, Head, Expr, Exprs, Variable, Sheet}
+use Rattle.alpha.specs.Sheet.{Kind, Kind.input, Kind.output, Kind.local, Sort, Sort.integer, Sort.boolean, Relation, Relation.atLeast, Relation.equal, Row, Constraint, Range, Head, Expr, Variable, Sheet}
 use Rattle.alpha.specs.Sheet.{Expr.var, Expr.int, Expr.boo, Expr.bin, Expr.ite, Expr.kase, Expr.restr, Expr.dep, Exprs.none, Exprs.more, Binary.plus, Binary.quot, Binary.rem}
 use Rattle.alpha.specs.Affine.{isZero}
 use Rattle.alpha.specs.Read.{passing, nameField, range, headRecord, heads, rowOf, constraint, declared, restriction, dependence, nodes, node, ended, sections, read}

@@ -2,11 +2,10 @@
 -- Assumes nothing.
 use Prim.Native.Nat.{ℕ}
 use mathlib.Core.Bool.{Bool, true, false, _&&_, _||_}
-use mathlib.Core.List.{List, [], _∷_}
+use mathlib.Core.List.{[]}
 use lib.ListN.{length, getD}
-use lib.IntN.{pos}
 use lib.Dec.{eqb}
-use Rattle.alpha.specs.Sheet.{Kind, Kind.input, Kind.output, Kind.local, Head, Expr, Exprs, Variable, Sheet, Point, Constraint, Map}
+use Rattle.alpha.specs.Sheet.{Kind, Kind.input, Kind.output, Kind.local, Expr, Exprs, Variable, Sheet, Point}
 use Rattle.alpha.specs.Sheet.{Expr.var, Expr.int, Expr.boo, Expr.un, Expr.bin, Expr.ite, Expr.kase, Expr.restr, Expr.dep, Exprs.none, Exprs.more}
 use Rattle.alpha.specs.Affine.{meetsAll, image}
 use Rattle.alpha.specs.Box.{inBox}

@@ -3,8 +3,7 @@
 -- Assumes nothing.
 use Prim.Native.Nat.{ℕ}
 use mathlib.Core.List.{List, [], _∷_, _++_, map}
-use lib.ListN.{length}
-use Rattle.alpha.specs.Sheet.{Constraint, Map, Expr, Exprs, Variable, Sheet}
+use Rattle.alpha.specs.Sheet.{Constraint, Map, Expr, Exprs}
 use Rattle.alpha.specs.Sheet.{Expr.var, Expr.int, Expr.boo, Expr.un, Expr.bin, Expr.ite, Expr.kase, Expr.restr, Expr.dep, Exprs.none, Exprs.more}
 use Rattle.alpha.specs.Affine.{constraintAfter, mapAfter, identity}
 

@@ -1,14 +1,14 @@
 -- The normaliser: the normal form's bytes, WIDE, ROOM.
 -- Assumes nothing.
 use Prim.Native.Nat.{ℕ, suc, _+_}
-use mathlib.Core.Bool.{Bool, true, false, _&&_}
+use mathlib.Core.Bool.{Bool, true, _&&_}
 use mathlib.Core.List.{List, [], _∷_, _++_}
 use lib.ListN.{length, take}
 use lib.Dec.{leb}
 use Rattle.alpha.specs.Pick.{ifb}
 use Rattle.alpha.specs.Answer.{Answer, accepted, refused, next, WIDE}
 use Rattle.alpha.specs.Field.{nat}
-use Rattle.alpha.specs.Sheet.{Head, Raw, Expr, Variable, Sheet}
+use Rattle.alpha.specs.Sheet.{Raw, Expr, Variable, Sheet}
 use Rattle.alpha.specs.Read.{Got, got, bad, read}
 use Rattle.alpha.specs.Holds.{variable, isInput}
 use Rattle.alpha.specs.Check.{checked}

@@ -7,7 +7,7 @@ use lib.ListN.{getD}
 use lib.IntN.{ℤ, pos, negℤ, _+ℤ_, _-ℤ_, _*ℤ_}
 use lib.Signed.{leZ, ltZ, quotZ, remZ}
 use Rattle.alpha.specs.Pick.{ifb}
-use Rattle.alpha.specs.Sheet.{Unary, Binary, Constraint, Map, Expr, Exprs, Variable, Sheet, Point}
+use Rattle.alpha.specs.Sheet.{Unary, Binary, Expr, Exprs, Sheet, Point}
 use Rattle.alpha.specs.Sheet.{Expr.var, Expr.int, Expr.boo, Expr.un, Expr.bin, Expr.ite, Expr.kase, Expr.restr, Expr.dep, Exprs.none, Exprs.more}
 use Rattle.alpha.specs.Sheet.{Unary.negate, Unary.complement, Binary.plus, Binary.minus, Binary.times, Binary.quot, Binary.rem, Binary.least, Binary.most, Binary.same, Binary.differ, Binary.under, Binary.upTo, Binary.over, Binary.from, Binary.both, Binary.either, Binary.one}
 use Rattle.alpha.specs.Affine.{isZero, image}

@@ -3,16 +3,16 @@
 use Prim.Native.Nat.{ℕ, zero, suc, _+_, _*_, _-_, _/_, _%_}
 use Prim.Native.Char.{code}
 use Prim.Native.String.{String, [] as empty, _∷_ as _then_}
-use mathlib.Core.Bool.{Bool, true, false, _&&_}
+use mathlib.Core.Bool.{_&&_}
 use mathlib.Core.List.{List, [], _∷_, _++_, map}
-use lib.ListN.{length, take, drop, getD}
+use lib.ListN.{length, take, drop}
 use lib.IntN.{ℤ, pos, negsuc, natAbs}
 use lib.Signed.{leZ}
 use lib.Dec.{leb, ltb, eqb}
 use Rattle.alpha.specs.Pick.{ifb}
 use Rattle.alpha.specs.Answer.{Answer, accepted, refused, next, LONG, CUT, INPUT}
 use Rattle.alpha.specs.Field.{byte, field}
-use Rattle.alpha.specs.Sheet.{Sort, Sort.integer, Sort.boolean, Head, Variable, Sheet, Point}
+use Rattle.alpha.specs.Sheet.{Sort, Sort.integer, Sort.boolean, Sheet, Point}
 use Rattle.alpha.specs.Affine.{isZero}
 use Rattle.alpha.specs.Read.{room}
 use Rattle.alpha.specs.Holds.{variable}

@@ -3,13 +3,13 @@
 -- (proofs/Unique.antt). Assumes nothing.
 use mathlib.Core.Path.{_≡_}
 use Prim.Native.Nat.{ℕ}
-use mathlib.Core.List.{List, [], _∷_, _++_}
+use mathlib.Core.List.{List, _++_}
 use lib.ListN.{length, drop}
 use lib.IntN.{ℤ}
 use Rattle.alpha.specs.Answer.{Answer, accepted, refused, next}
 use Rattle.alpha.specs.Sheet.{Sheet, Point}
 use Rattle.alpha.specs.Check.{check, total}
-use Rattle.alpha.specs.Run.{Tables, run}
+use Rattle.alpha.specs.Run.{run}
 use Rattle.alpha.specs.Normalise.{normalise}
 use Rattle.alpha.specs.Ask.{elementNumber, bodyPart, bytesIn}
 use Rattle.alpha.specs.Verdict.{told}

@@ -1,11 +1,11 @@
 -- REACH, refusal 9: how large a coordinate or a constraint's row can become. The sums are exact, so nothing wraps before it is tested.
 -- Assumes nothing.
 use Prim.Native.Nat.{ℕ, _+_, _*_, _^_, max}
-use mathlib.Core.Bool.{Bool, true, false, _&&_}
+use mathlib.Core.Bool.{Bool, true, _&&_}
 use mathlib.Core.List.{List, [], _∷_}
 use lib.IntN.{ℤ, natAbs}
 use lib.Dec.{leb}
-use Rattle.alpha.specs.Sheet.{Row, Constraint, Map, Expr, Exprs}
+use Rattle.alpha.specs.Sheet.{Row, Constraint, Expr, Exprs}
 use Rattle.alpha.specs.Sheet.{Expr.var, Expr.int, Expr.boo, Expr.un, Expr.bin, Expr.ite, Expr.kase, Expr.restr, Expr.dep, Exprs.none, Exprs.more}
 
 -- no reach and no row's sum may pass this

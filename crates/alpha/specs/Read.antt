@@ -2,7 +2,7 @@
 -- or a refusal's number and place. The first fault decides. Every reader recurs on a count that it has read, so none needs fuel.
 -- Assumes nothing.
 use Prim.Native.Nat.{ℕ, zero, suc, _+_, _-_, _^_}
-use mathlib.Core.Bool.{Bool, true, false, not, _&&_, _||_}
+use mathlib.Core.Bool.{Bool, false, not, _&&_, _||_}
 use mathlib.Core.List.{List, [], _∷_, _++_}
 use lib.ListN.{length, getD}
 use lib.IntN.{ℤ, pos, negℤ, natAbs}
@@ -10,7 +10,7 @@ use lib.Dec.{leb, eqb}
 use Rattle.alpha.specs.Pick.{ifb}
 use Rattle.alpha.specs.Answer.{LONG, CUT, COUNT, NAME, NUMBER, TAIL}
 use Rattle.alpha.specs.Field.{field, eight, nameForm, sameBytes}
-use Rattle.alpha.specs.Sheet.{Kind, Kind.input, Kind.output, Kind.local, Sort, Relation, Unary, Binary, Row, Constraint, Map, Range, Node, Head, Declared, Raw}
+use Rattle.alpha.specs.Sheet.{Kind, Kind.input, Kind.output, Kind.local, Sort, Relation, Unary, Binary, Row, Constraint, Range, Node, Head, Declared, Raw}
 use Rattle.alpha.specs.Box.{within, size}
 
 pub data Got (A : Type 0) : Type 0 where

@@ -1,14 +1,13 @@
 -- The run: INPUT, ROOM, and the two tables.
 -- Assumes nothing.
-use Prim.Native.Nat.{ℕ, zero, suc, _+_}
-use mathlib.Core.Bool.{Bool, true, false, not, _&&_}
-use mathlib.Core.List.{List, [], _∷_, _++_, map}
+use Prim.Native.Nat.{ℕ, suc, _+_}
+use mathlib.Core.List.{List, [], _∷_, map}
 use lib.ListN.{length, take, drop}
-use lib.IntN.{ℤ, pos, negsuc}
+use lib.IntN.{ℤ, pos}
 use lib.Dec.{leb, eqb}
 use Rattle.alpha.specs.Pick.{ifb}
 use Rattle.alpha.specs.Answer.{Answer, accepted, refused, next, INPUT, ROOM}
-use Rattle.alpha.specs.Sheet.{Sort, Sort.integer, Sort.boolean, Head, Variable, Sheet}
+use Rattle.alpha.specs.Sheet.{Sort, Sort.integer, Sort.boolean, Sheet}
 use Rattle.alpha.specs.Box.{size, within}
 use Rattle.alpha.specs.Holds.{isInput}
 use Rattle.alpha.specs.Check.{Element, elements, total, check}

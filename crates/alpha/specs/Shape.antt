@@ -1,13 +1,13 @@
 -- SHAPE, refusal 7: a body is the tree that stands in prefix order at its place, at most 32 nodes deep, of its variable's dimension.
 -- Assumes nothing.
 use Prim.Native.Nat.{ℕ, zero, suc}
-use mathlib.Core.Bool.{Bool, true, false, _&&_}
+use mathlib.Core.Bool.{Bool, true, _&&_}
 use mathlib.Core.List.{List, [], _∷_}
 use lib.ListN.{length}
 use lib.Dec.{eqb}
 use Rattle.alpha.specs.Pick.{ifb}
 use Rattle.alpha.specs.Answer.{Answer, accepted, refused, next, SHAPE}
-use Rattle.alpha.specs.Sheet.{Kind, Kind.input, Kind.output, Kind.local, Constraint, Map, Node, Head, Declared, Raw, Expr, Exprs, Variable, Sheet}
+use Rattle.alpha.specs.Sheet.{Kind, Kind.input, Kind.output, Kind.local, Constraint, Node, Head, Declared, Raw, Expr, Exprs, Sheet}
 use Rattle.alpha.specs.Sheet.{Node.nVar, Node.nInt, Node.nBool, Node.nUnary, Node.nBinary, Node.nIf, Node.nCase, Node.nRestr, Node.nDep}
 use Rattle.alpha.specs.Sheet.{Expr.var, Expr.int, Expr.boo, Expr.un, Expr.bin, Expr.ite, Expr.kase, Expr.restr, Expr.dep, Exprs.none, Exprs.more}
 use Rattle.alpha.specs.Read.{Got, got, bad, node, dimension}

@@ -5,7 +5,6 @@ use lib.IntN.{ℤ}
 use Rattle.alpha.specs.Answer.{Answer, accepted, refused, LONG, CUT, COUNT, NAME, NUMBER, TAIL, SHAPE, TYPE, REACH, GAP, CLASH, INPUT, WIDE, ROOM, ASK}
 use Rattle.alpha.specs.Outcome as Outcomes
 use Rattle.alpha.specs.Run.{codeOf, valueOf}
-use Rattle.alpha.specs.declared.Int.{Int}
 use Rattle.alpha.specs.declared.Refusal.{Refusal}
 use Rattle.alpha.specs.declared.Refusal.the-variants.{Long, Cut, Count, Name, Number, Tail, Shape, Typing, Reach, Gap, Clash, Input, Wide, Room, Ask}
 use Rattle.alpha.specs.declared.Verdict.{Verdict}

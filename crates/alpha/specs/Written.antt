@@ -3,8 +3,7 @@
 use Prim.Native.Nat.{ℕ, suc, _+_, max}
 use mathlib.Core.List.{List, [], _∷_, _++_, map}
 use lib.ListN.{length}
-use lib.IntN.{ℤ}
-use Rattle.alpha.specs.Sheet.{Relation, Relation.atLeast, Relation.equal, Unary, Binary, Row, Constraint, Map, Expr, Exprs}
+use Rattle.alpha.specs.Sheet.{Relation, Relation.atLeast, Relation.equal, Unary, Binary, Row, Constraint, Expr, Exprs}
 use Rattle.alpha.specs.Sheet.{Expr.var, Expr.int, Expr.boo, Expr.un, Expr.bin, Expr.ite, Expr.kase, Expr.restr, Expr.dep, Exprs.none, Exprs.more}
 use Rattle.alpha.specs.Sheet.{Unary.negate, Unary.complement, Binary.plus, Binary.minus, Binary.times, Binary.quot, Binary.rem, Binary.least, Binary.most, Binary.same, Binary.differ, Binary.under, Binary.upTo, Binary.over, Binary.from, Binary.both, Binary.either, Binary.one}
 use Rattle.alpha.specs.Field.{num, nat}

@@ -1,17 +1,14 @@
 -- Which sums and products an i64 holds, by their sizes: for `omega`, which takes `natAbs x` and `mag x` as unknown numbers.
 -- Assumes nothing.
-use Prim.Native.Nat.{ℕ, zero, suc, _+_, _-_, _*_, _/_, _^_, _≤_, _<_}
+use Prim.Native.Nat.{_+_, _*_, _^_, _≤_, _<_}
 use mathlib.Core.Path.{_≡_, refl}
-use mathlib.Core.Bool.{Bool, true, false, cond}
 use native.Mathlib.Omega.{arith}
-use native.Mathlib.Nat.{mul-le-mul, le-trans, le-of-eq, div-le-self}
-use lib.Dec.{ltb}
-use lib.IntN.{ℤ, pos, negsuc, _+ℤ_, _-ℤ_, _*ℤ_, negℤ, natAbs}
+use native.Mathlib.Nat.{mul-le-mul}
+use lib.IntN.{ℤ, pos, negsuc, _+ℤ_, _-ℤ_, _*ℤ_, natAbs}
 use lib.Signed.{mag, quotZ}
 use mir.Syntax.{w64}
 use mir.Val.{SFits}
-use borrow.Author.Tests.{ltb-true}
-use Rattle.laws.proofs.Sizes.{natAbs-neg, natAbs-mul, natAbs-add, natAbs-sub, natAbs-quot}
+use Rattle.laws.proofs.Sizes.{natAbs-mul, natAbs-add, natAbs-sub, natAbs-quot}
 use Rattle.integer.specs.Range.{In32}
 
 -- ---- a size and the bound of a signed width

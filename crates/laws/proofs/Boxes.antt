@@ -88,7 +88,7 @@ readBox-ordered (r ∷ rs) h =
     &&-true (range-ordered r (&&-left (readRange r) (readBox rs) h)) (readBox-ordered rs (&&-right (readRange r) (readBox rs) h))
 
 -- from -32768 to 32767
-size-bound : (x : ℤ) → leZ (negℤ (pos 32768)) x ≡ true → leZ x (pos 32767) ≡ true → natAbs x ≤ 32768
+pub size-bound : (x : ℤ) → leZ (negℤ (pos 32768)) x ≡ true → leZ x (pos 32767) ≡ true → natAbs x ≤ 32768
 size-bound (pos n) h k = omega (arith, leb-true n 32767 k)
 size-bound (negsuc n) h k = omega (arith, leb-true n 32767 h)
 

@@ -18,12 +18,11 @@ use Rattle.alpha.specs.Check.{Element, elements, total, first, typed, reached, 
 use Rattle.alpha.specs.Written.{nodeCount, depth}
 use Rattle.alpha.specs.Ask.{numberOf}
 use Rattle.laws.specs.At.{At}
-use Rattle.laws.specs.Box.{readBox}
 use Rattle.laws.specs.Heads.{HeadsAt, pointsOf}
 use Rattle.laws.specs.Accepted.{TreeAt, BodyAt, BodiesAt, Accepted}
 use Rattle.laws.proofs.Tests.{true-not-false, &&-left, &&-right}
 use Rattle.laws.proofs.Elements.{length-elements, number-low, element-of-number}
-use Rattle.laws.proofs.Heads.{HeadAt, head-at, head-box}
+use Rattle.laws.proofs.Heads.{HeadAt, head-at}
 use Rattle.laws.proofs.Bodies.{SheetRead, read-says, Tells, next-tells, BodiesRead, bodies-tell}
 
 -- ---- the tests of each variable
@@ -45,6 +44,10 @@ first-tells code test v (x ∷ s) = go (test x) refl (first code test (suc v) s)
     go true e (accepted u) h = more e h
     go true e (refused n p) h = tt
     go false e m h = tt
+
+-- where all pass, each does
+pub each-passes : (code : ℕ) (test : Variable → Bool) (v : ℕ) (s : Sheet) → first code test v s ≡ accepted tt → AllPass test s
+each-passes code test v s h = subst (Tells (λ _. AllPass test s)) h (first-tells code test v s)
 
 pub first-passes : (code : ℕ) (test : Variable → Bool) (v : ℕ) (s : Sheet) → AllPass test s → first code test v s ≡ accepted tt
 unfolding first
@@ -168,7 +171,7 @@ check-accepts {bs} {s} e = found bs s (read bs) refl e
 -- ---- what follows for each variable
 
 -- whatever holds of each record that is read holds of each of the list
-headsAt-each : (P : Head → Type 0) (bs : List ℕ) → ((earlier : List Head) (p : ℕ) (h : Head) → HeadAt earlier bs p h → P h) →
+pub headsAt-each : (P : Head → Type 0) (bs : List ℕ) → ((earlier : List Head) (p : ℕ) (h : Head) → HeadAt earlier bs p h → P h) →
     (hs earlier : List Head) (p q : ℕ) → HeadsAt hs earlier bs p q → (i : ℕ) → i < length hs → (d : Head) → P (getD hs i d)
 unfolding HeadsAt
 headsAt-each P bs f [] earlier p q h i lt d = absurd (omega arith)
@@ -190,12 +193,12 @@ record HasTree (r : Raw) (bs : List ℕ) (x : Variable) (m : ℕ) : Type 0 where
   stands : TreeAt r bs x (x .start) nodes left
 
 module _ (r : Raw) (bs : List ℕ) where
-  left-fewer : (k : Kind) (x : Variable) (p m n : ℕ) → BodyAt k r bs x p m n → n ≤ m
+  pub left-fewer : (k : Kind) (x : Variable) (p m n : ℕ) → BodyAt k r bs x p m n → n ≤ m
   left-fewer input x p m n h = omega (arith, h .left-is)
   left-fewer output x p m n h = omega (arith, h .count)
   left-fewer local x p m n h = omega (arith, h .count)
 
-  not-input : (k : Kind) (x : Variable) (p m n : ℕ) → isInputKind k ≡ false → BodyAt k r bs x p m n → TreeAt r bs x p m n
+  pub not-input : (k : Kind) (x : Variable) (p m n : ℕ) → isInputKind k ≡ false → BodyAt k r bs x p m n → TreeAt r bs x p m n
   not-input input x p m n i h = true-not-false {b = true} refl i
   not-input output x p m n i h = h
   not-input local x p m n i h = h
@@ -230,11 +233,6 @@ module _ {bs : List ℕ} {r : Raw} {s : Sheet} (a : Accepted bs r s) where
   module _ (v : ℕ) (lt : v < length s) where
     in-heads : v < length (r .heads)
     in-heads = omega (arith, accepted-length)
-
-    pub accepted-box : readBox (variable s v .head .box) ≡ true
-    accepted-box =
-        rw (accepted-head v)
-        (headsAt-each (λ h. readBox (h .box) ≡ true) bs (λ e p h k. head-box k) (r .heads) [] 8 (r .second) (a .parts .heads-stand) v in-heads noHead)
 
     pub accepted-few : length (variable s v .head .box) ≤ 4
     accepted-few =

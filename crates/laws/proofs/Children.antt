@@ -1,7 +1,7 @@
 -- A tree as its first node and its children: where the children stand, and what `exprAt`, `fits`, `typeOf` and `reach` are by the node
 -- and the children. A walk over prefix nodes does each node alike, and then so many children. Assumes nothing.
 use mathlib.Core.Path.{_≡_, refl, sym, ap, _∙_}
-use Prim.Native.Nat.{ℕ, zero, suc, _+_, _-_, _≤_}
+use Prim.Native.Nat.{ℕ, zero, suc, _+_, _≤_}
 use native.Mathlib.Omega.{arith}
 use mathlib.Core.Bool.{Bool, true, false, _&&_}
 use mathlib.Core.List.{List, [], _∷_}

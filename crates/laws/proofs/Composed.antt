@@ -2,8 +2,7 @@
 use Prim.Native.Nat.{ℕ, zero, suc}
 use mathlib.Core.Path.{_≡_, refl, sym, ap, _∙_}
 use mathlib.Core.List.{List, [], _∷_, map}
-use native.Mathlib.Omega.{arith}
-use lib.ListN.{length, length-map}
+use lib.ListN.{length}
 use lib.IntN.{ℤ, pos, _+ℤ_, _*ℤ_, +ℤ-idl, +ℤ-idr, +ℤ-assoc, zero-*ℤ, *ℤ-zero}
 use Rattle.laws.proofs.Ring.{*ℤ-distr, *ℤ-distl, *ℤ-assoc, +ℤ-middle, one-*ℤ}
 use Rattle.alpha.specs.Sheet.{Row, Constraint, Map, Point}

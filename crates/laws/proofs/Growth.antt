@@ -1,6 +1,6 @@
--- Outcomes grow with the depth: at a greater depth an element has the same outcome, or had LOOP before. So an outcome that is not LOOP
--- is that at every greater depth, and LOOP is LOOP at every smaller one. Assumes nothing.
-use mathlib.Core.Path.{_≡_, refl, sym, _∙_, subst}
+-- Outcomes grow with the depth: at a greater depth an element has the same outcome, or had LOOP before. And the outcome of an element by
+-- what its variable is: outside, an entry, a body's. Assumes nothing.
+use mathlib.Core.Path.{_≡_, refl, sym, subst}
 use Prim.Native.Nat.{ℕ, zero, suc, _+_, _-_, _≤_}
 use native.Mathlib.Nat.{add-zero, add-suc}
 use native.Mathlib.Omega.{arith}
@@ -30,14 +30,6 @@ under-trans (value x) p q h k = rw h at k
 under-trans divzero p q h k = rw h at k
 under-trans overflow p q h k = rw h at k
 under-trans loop p q h k = tt
-
--- what is not LOOP is the same above
-pub under-same : (o p : Outcome) → Under o p → (o ≡ loop → ⊥) → p ≡ o
-under-same outside p h n = h
-under-same (value x) p h n = h
-under-same divzero p h n = h
-under-same overflow p h n = h
-under-same loop p h n = absurd (n refl)
 
 -- what LOOP is above is LOOP
 pub under-loop : (o : Outcome) → Under o loop → o ≡ loop
@@ -101,33 +93,15 @@ module _ (s : Sheet) (ins : List ℤ) where
   outcome-add (suc d) k v z =
       rw add-suc (under-trans (outcome k s ins v z) (outcome (k + d) s ins v z) (outcome (suc (k + d)) s ins v z) (outcome-add d k v z) (outcome-suc (k + d) v z))
 
+  -- an element, at a depth and at a greater one
   pub outcome-under : (j k v : ℕ) (z : Point) → j ≤ k → Under (outcome j s ins v z) (outcome k s ins v z)
   outcome-under j k v z h =
       let e : j + (k - j) ≡ k = omega arith in
       subst (λ (n : ℕ). Under (outcome j s ins v z) (outcome n s ins v z)) e (outcome-add (k - j) j v z)
 
-  -- not LOOP at a depth: the same at every greater one
-  pub outcome-stays : (j k v : ℕ) (z : Point) → j ≤ k → (outcome j s ins v z ≡ loop → ⊥) → outcome k s ins v z ≡ outcome j s ins v z
-  outcome-stays j k v z h n = under-same (outcome j s ins v z) (outcome k s ins v z) (outcome-under j k v z h) n
-
-  -- LOOP at a depth: LOOP at every smaller one
-  pub outcome-loop-down : (j k v : ℕ) (z : Point) → j ≤ k → outcome k s ins v z ≡ loop → outcome j s ins v z ≡ loop
-  outcome-loop-down j k v z h e = under-loop (outcome j s ins v z) (rw e at (outcome-under j k v z h))
-
-  -- two depths at which it is not LOOP give the same
-  pub outcome-one : (j k v : ℕ) (z : Point) → (outcome j s ins v z ≡ loop → ⊥) → (outcome k s ins v z ≡ loop → ⊥) → outcome j s ins v z ≡ outcome k s ins v z
-  outcome-one j k v z m n =
-      sym (outcome-stays j (j + k) v z (omega arith) m) ∙ outcome-stays k (j + k) v z (omega arith) n
-
-  -- the same for an expression over the outcomes at a depth
+  -- an expression over the outcomes at a depth
   pub eval-grows : (j k : ℕ) (e : Expr) (z : Point) → j ≤ k → Under (eval e s (outcome j s ins) z) (eval e s (outcome k s ins) z)
   eval-grows j k e z h = eval-under s (outcome j s ins) (outcome k s ins) (λ v y. outcome-under j k v y h) e z
-
-  pub eval-stays : (j k : ℕ) (e : Expr) (z : Point) → j ≤ k → (eval e s (outcome j s ins) z ≡ loop → ⊥) → eval e s (outcome k s ins) z ≡ eval e s (outcome j s ins) z
-  eval-stays j k e z h n = under-same (eval e s (outcome j s ins) z) (eval e s (outcome k s ins) z) (eval-grows j k e z h) n
-
-  pub eval-loop-down : (j k : ℕ) (e : Expr) (z : Point) → j ≤ k → eval e s (outcome k s ins) z ≡ loop → eval e s (outcome j s ins) z ≡ loop
-  eval-loop-down j k e z h l = under-loop (eval e s (outcome j s ins) z) (rw l at (eval-grows j k e z h))
 
   -- ---- an element by its body
 

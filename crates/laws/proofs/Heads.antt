@@ -125,9 +125,6 @@ module _ (earlier : List Head) (bs : List ℕ) (p : ℕ) (h : Head) (q : ℕ) (e
   pub head-at : HeadAt earlier bs p h
   head-at = given (HeadAt earlier bs p) (p + headLen bs p) (head-gives earlier bs p) e .what
 
-  pub head-next : q ≡ p + headLen bs p
-  head-next = given (HeadAt earlier bs p) (p + headLen bs p) (head-gives earlier bs p) e .next
-
 pub head-range : {earlier : List Head} {bs : List ℕ} {p : ℕ} {h : Head} → HeadAt earlier bs p h → (i : ℕ) → i < length (h .box) → (r : Range) →
     RangeAt bs (p + 32 + i * 16) (getD (h .box) i r)
 head-range {bs = bs} {p = p} a i lt r =

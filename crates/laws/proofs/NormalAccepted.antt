@@ -11,7 +11,7 @@ use lib.ListN.{length, getD, take, length-append, List·getD-append, List·getD-
 use lib.Seq.{length-take-le, getD-append-add}
 use lib.IntN.{ℤ}
 use Rattle.alpha.specs.Pick.{ifb}
-use Rattle.alpha.specs.Answer.{Answer, accepted, refused, next, TYPE, REACH}
+use Rattle.alpha.specs.Answer.{accepted, TYPE, REACH}
 use Rattle.alpha.specs.Field.{nat}
 use Rattle.alpha.specs.Sheet.{Head, Raw, Expr, Variable, Sheet, Point, Expr.kase, Exprs.none}
 use Rattle.alpha.specs.Read.{got, read, dimension}
@@ -23,7 +23,7 @@ use Rattle.alpha.specs.Box.{size}
 use Rattle.alpha.specs.Outcome.{eval, inputsBefore, outcome}
 use Rattle.alpha.specs.Check.{Element, elements, typed, reached, tested, first, checked, afterRead, check}
 use Rattle.alpha.specs.Written.{bytes}
-use Rattle.alpha.specs.Normalise.{dims, normalBody, Body, writeBodies, normalForm}
+use Rattle.alpha.specs.Normalise.{dims, normalBody, Body}
 use Rattle.laws.specs.Accepted.{BodiesAt, Accepted}
 use Rattle.laws.specs.Normal.{bodyBytes, bodyNodes, placed, rewritten}
 use Rattle.laws.specs.Stands.{Stands}
@@ -37,7 +37,7 @@ use Rattle.laws.proofs.NormalType.{norm-some}
 use Rattle.laws.proofs.NormalSheet.{isSort-is, body-fits, body-typed, body-reached, body-covered, body-clear}
 use Rattle.laws.proofs.NormalWritable.{at-writable, normal-writable}
 use Rattle.laws.proofs.Local.{agree-take}
-use Rattle.laws.proofs.Rewritten.{Kept, AllKept, Wrote, write-wrote, Ready, AllReady, DeclaredAre, bodies-back, nodes-back}
+use Rattle.laws.proofs.Rewritten.{Kept, AllKept, Wrote, Ready, AllReady, DeclaredAre, bodies-back, nodes-back}
 use Rattle.laws.proofs.SectionsAgain.{read-again}
 
 -- ---- the variables that are read back
@@ -146,9 +146,9 @@ module _ {bs : List ℕ} {r : Raw} {s : Sheet} (a : Accepted bs r s) where
     faultless : (e : Element) → Faultless (rewritten s s p) e
     faultless e = record {
       covered = λ t. let i = input-no t in
-          rw (body-new (e .who) i) (body-covered a (e .who) (known a [] (e .who) i) i (e .at) (domain-yes t) (rewritten s s p) same-domain);
+          rw (body-new (e .who) i) (body-covered a (e .who) (known a (e .who) i) i (e .at) (domain-yes t) (rewritten s s p) same-domain);
       clear = λ t. let i = input-no t in
-          rw (body-new (e .who) i) (body-clear a (e .who) (known a [] (e .who) i) i (e .at) (domain-yes t) (rewritten s s p) same-domain);
+          rw (body-new (e .who) i) (body-clear a (e .who) (known a (e .who) i) i (e .at) (domain-yes t) (rewritten s s p) same-domain);
     }
       where
         input-no : tested (rewritten s s p) e ≡ true → isInput (variable s (e .who)) ≡ false
@@ -261,18 +261,6 @@ module _ {bs : List ℕ} {r : Raw} {s : Sheet} (a : Accepted bs r s) where
           faults-pass t 0 (elements t) (λ i lt d. faultless a (r .third + 8) (getD (elements t) i d)),
         )
 
-  -- what the normaliser writes is accepted, and has the normal forms for bodies
-  pub normal-accepted : (o : List ℕ) → normalForm bs r s ≡ accepted o → check o ≡ accepted (rewritten s s (r .third + 8))
-  unfolding normalForm
-  normal-accepted o e = go (writeBodies s (r .third + 8) 0 s (record { nodes = 0; out = [] })) refl e
-    where
-      go : (m : Answer Body) → writeBodies s (r .third + 8) 0 s (record { nodes = 0; out = [] }) ≡ m →
-          next m (λ w. accepted (take (r .third) bs ++ nat (w .nodes) ++ w .out)) ≡ accepted o → check o ≡ accepted (rewritten s s (r .third + 8))
-      go (accepted w) k f =
-          let same : take (r .third) bs ++ nat (w .nodes) ++ w .out ≡ o = cc in
-          subst (λ l. check l ≡ accepted (rewritten s s (r .third + 8))) same (written-accepted w (write-wrote s (r .third + 8) 0 k))
-      go (refused n p) k f = let z : _≡_ {A = ℕ} 0 1 = cc in absurd (omega arith)
-
 -- ---- the same outcomes
 
 inputsBefore-rewritten : (s xs : Sheet) (p v : ℕ) → inputsBefore (rewritten s xs p) v ≡ inputsBefore xs v
@@ -292,4 +280,4 @@ pub outcome-rewritten : {bs : List ℕ} {r : Raw} {s : Sheet} → Accepted bs r 
 outcome-rewritten {s = s} a p ins =
     outcome-alike s (rewritten s s p) ins (same-domain a p) (same-kind a p)
     (λ v z. rw (ap (λ x. x .head) (place-of a p v .is), inputsBefore-rewritten s s p v))
-    (λ v z look i d. ap (λ e. eval e s look z) (body-new a p v i) ∙ body-same a ins v z look (known a ins v i) i d)
+    (λ v z look i d. ap (λ e. eval e s look z) (body-new a p v i) ∙ body-same a v z look (known a v i) i d)

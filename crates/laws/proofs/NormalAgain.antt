@@ -31,7 +31,7 @@ pub length-scale : (c : ℤ) (xs : List ℤ) → length (scale c xs) ≡ length 
 length-scale c [] = refl
 length-scale c (x ∷ xs) = ap suc (length-scale c xs)
 
-pub length-addAll : (xs ys : List ℤ) → length xs ≡ length ys → length (addAll xs ys) ≡ length ys
+length-addAll : (xs ys : List ℤ) → length xs ≡ length ys → length (addAll xs ys) ≡ length ys
 length-addAll [] ys h = refl
 length-addAll (x ∷ xs) [] h = h
 length-addAll (x ∷ xs) (y ∷ ys) h = ap suc (length-addAll xs ys (omega arith))
@@ -53,11 +53,11 @@ constraints-after-wide f (c ∷ cs) h = (combine-wide (c .row .coefs) (f .rows) 
 
 -- ---- the identity after a map is the map
 
-pub scale-zero : (xs : List ℤ) → scale (pos 0) xs ≡ zeroes (length xs)
+scale-zero : (xs : List ℤ) → scale (pos 0) xs ≡ zeroes (length xs)
 scale-zero [] = refl
 scale-zero (x ∷ xs) = rw (zero-*ℤ x, scale-zero xs)
 
-pub scale-one : (xs : List ℤ) → scale (pos 1) xs ≡ xs
+scale-one : (xs : List ℤ) → scale (pos 1) xs ≡ xs
 scale-one [] = refl
 scale-one (x ∷ xs) = rw (one-*ℤ x, scale-one xs)
 
@@ -65,7 +65,7 @@ pub add-zeroes-left : (ys : List ℤ) → addAll (zeroes (length ys)) ys ≡ ys
 add-zeroes-left [] = refl
 add-zeroes-left (y ∷ ys) = rw (+ℤ-idl y, add-zeroes-left ys)
 
-pub add-zeroes-right : (xs : List ℤ) → addAll xs (zeroes (length xs)) ≡ xs
+add-zeroes-right : (xs : List ℤ) → addAll xs (zeroes (length xs)) ≡ xs
 add-zeroes-right [] = refl
 add-zeroes-right (x ∷ xs) = rw (+ℤ-idr x, add-zeroes-right xs)
 
@@ -78,7 +78,7 @@ module _ (n : ℕ) where
   row-is v w p q = λ i. record { coefs = p i; const = q i }
 
   -- no times the first row
-  pub skip-row : (cs : List ℤ) (r : Row) (rs : List Row) → RowsWide n (r ∷ rs) → combine (pos 0 ∷ cs) (r ∷ rs) n ≡ combine cs rs n
+  skip-row : (cs : List ℤ) (r : Row) (rs : List Row) → RowsWide n (r ∷ rs) → combine (pos 0 ∷ cs) (r ∷ rs) n ≡ combine cs rs n
   skip-row cs r rs h =
       let rest = combine cs rs n in
       let long : length (r .coefs) ≡ length (rest .coefs) = h .0 ∙ sym (combine-wide cs rs n (h .1)) in

@@ -1,14 +1,14 @@
 -- A normal form keeps the limit of reach that its expression keeps: a row after a map reaches no further than the row reaches from the map's
 -- own reach. With the sizes of sums and products in ℤ. Assumes nothing.
 use mathlib.Core.Path.{_≡_, refl, sym}
-use Prim.Native.Nat.{ℕ, zero, suc, _+_, _*_, _-_, _≤_}
+use Prim.Native.Nat.{ℕ, zero, suc, _+_, _*_, _≤_}
 use native.Mathlib.Nat.{zero-add, zero-mul, mul-zero, mul-add, add-mul, mul-assoc, mul-one, le-refl, mul-le-mul-left, mul-le-mul-right}
 use native.Mathlib.Omega.{arith}
-use mathlib.Core.Bool.{Bool, true, false, cond, _&&_}
+use mathlib.Core.Bool.{Bool, true, false, _&&_}
 use mathlib.Core.List.{List, [], _∷_, _++_, map}
-use lib.IntN.{ℤ, pos, negsuc, natAbs, negℤ, subℕ, _+ℤ_, _*ℤ_}
-use lib.Dec.{leb, ltb}
-use borrow.Author.Tests.{leb-true, le-leb, ltb-true, ltb-false}
+use lib.IntN.{ℤ, natAbs, _*ℤ_}
+use lib.Dec.{leb}
+use borrow.Author.Tests.{leb-true, le-leb}
 use Rattle.alpha.specs.Sheet.{Row, Constraint, Map, Expr}
 use Rattle.alpha.specs.Sheet.{Expr.var, Expr.int, Expr.boo, Expr.un, Expr.bin, Expr.ite, Expr.kase, Expr.restr, Expr.dep}
 use Rattle.alpha.specs.Affine.{scale, addAll, zeroes, combine, rowAfter, constraintAfter, wider, idRows, identity}
@@ -16,33 +16,11 @@ use Rattle.alpha.specs.Reach.{limit, sizes, rowReach, mapReach, allReach, reach
 use Rattle.alpha.specs.Normal.{Branch, push, pushBranch, norm, asExprs, bodyCase}
 use Rattle.laws.specs.Normal.{isLeaf, treeForm}
 use Rattle.laws.proofs.Tests.{true-not-false, &&-left, &&-right, &&-true}
+use Rattle.laws.proofs.Sizes.{natAbs-mul, natAbs-add}
 use Rattle.laws.proofs.Branches.{AllBranches, all-same, joined, Rules, norm-all}
 use Rattle.laws.proofs.NormalChecks.{HasForm, push-form}
 
 -- ---- sizes
-
-natAbs-neg : (n : ℕ) → natAbs (negℤ (pos n)) ≡ n
-natAbs-neg zero = refl
-natAbs-neg (suc n) = refl
-
-pub natAbs-mul : (x y : ℤ) → natAbs (x *ℤ y) ≡ natAbs x * natAbs y
-natAbs-mul (pos a) (pos b) = refl
-natAbs-mul (pos a) (negsuc b) = natAbs-neg (a * suc b)
-natAbs-mul (negsuc a) (pos b) = natAbs-neg (suc a * b)
-natAbs-mul (negsuc a) (negsuc b) = refl
-
-natAbs-sub : (a b : ℕ) → natAbs (subℕ a b) ≤ a + b
-natAbs-sub a b = go (ltb a b) refl
-  where
-    go : (t : Bool) → ltb a b ≡ t → natAbs (cond t (negsuc (b - suc a)) (pos (a - b))) ≤ a + b
-    go true e = omega (arith, ltb-true a b e)
-    go false e = omega (arith, ltb-false a b e)
-
-pub natAbs-add : (x y : ℤ) → natAbs (x +ℤ y) ≤ natAbs x + natAbs y
-natAbs-add (pos a) (pos b) = le-refl (a + b)
-natAbs-add (pos a) (negsuc b) = natAbs-sub a (suc b)
-natAbs-add (negsuc a) (pos b) = omega (arith, natAbs-sub b (suc a))
-natAbs-add (negsuc a) (negsuc b) = omega arith
 
 sizes-scale : (c : ℤ) (xs : List ℤ) → sizes (scale c xs) ≡ natAbs c * sizes xs
 sizes-scale c [] = omega (arith, mul-zero (natAbs c))

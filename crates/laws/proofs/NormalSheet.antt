@@ -29,8 +29,6 @@ use Rattle.laws.proofs.NormalChecks.{normal-form, normal-fits}
 use Rattle.laws.proofs.NormalType.{normal-type}
 use Rattle.laws.proofs.NormalReach.{normal-reach}
 use Rattle.laws.proofs.NormalClear.{normal-clear}
-use Rattle.laws.proofs.NormalAgain.{normal-again}
-use Rattle.laws.proofs.Widths.{at-wide}
 use Rattle.laws.proofs.SameOutcome.{holds-same, normal-variable}
 
 -- ---- clashes over two sheets whose variables have the same declared domains
@@ -130,13 +128,3 @@ module _ {bs : List ℕ} {r : Raw} {s : Sheet} (a : Accepted bs r s) (v : ℕ) (
           clashes-same s t same (normalBody s x) z
           ∙ ap (λ e. clashes e s z) normal-is
           ∙ normal-clear s (r .heads) (length (x .head .box)) (x .body) z fit (a .covered v z lt i d) (a .clear v z lt i d)
-
-  -- the normal form again
-  pub body-again : normalBody (normalSheet s) (variable (normalSheet s) v) ≡ normalBody s (variable s v)
-  body-again =
-      let x = variable s v in
-      let n = length (x .head .box) in
-      let b = accepted-body a v lt i in
-      let ds : dims (normalSheet s) ≡ dimension (r .heads) = fun-ext (λ w. ap (λ y. length (y .head .box)) (normal-variable s w) ∙ accepted-dimension a w) in
-      let w = at-wide (length s) bs (x .body) (x .start) (x .end) (b .at) in
-      rw (normal-variable s v, ds, normal-is) (ap (bodyCase n) (normal-again (r .heads) n (x .body) w (b .fitting)))

@@ -203,7 +203,7 @@ record BranchOk (vars n : ℕ) (b : Branch) : Type 0 where
   given-ok : All (λ c. RowOk n (c .row)) (b .given)
   term-ok : Writable (b .term) vars
 
-branchCount-asExprs : (n : ℕ) (bs : List Branch) → branchCount (asExprs n bs) ≡ length bs
+pub branchCount-asExprs : (n : ℕ) (bs : List Branch) → branchCount (asExprs n bs) ≡ length bs
 branchCount-asExprs n [] = refl
 branchCount-asExprs n (b ∷ bs) = ap suc (branchCount-asExprs n bs)
 

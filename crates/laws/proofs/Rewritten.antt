@@ -48,14 +48,14 @@ pub record Wrote (s : Sheet) (front : ℕ) (xs : Sheet) (w v : Body) : Type 0 wh
   pub few-bytes : front + length (w .out) ≤ 65536 → front + length (v .out) ≤ 65536
 
 -- the five limits, taken apart
-record Limits (bs : List Branch) (e : Expr) (nodes bytes : ℕ) : Type 0 where
-  nodes-low : nodes ≤ 2048
-  branches-low : length bs ≤ 64
-  tight : narrow bs ≡ true
-  deep-low : depth e ≤ 32
-  bytes-low : bytes ≤ 65536
+pub record Limits (bs : List Branch) (e : Expr) (nodes bytes : ℕ) : Type 0 where
+  pub nodes-low : nodes ≤ 2048
+  pub branches-low : length bs ≤ 64
+  pub tight : narrow bs ≡ true
+  pub deep-low : depth e ≤ 32
+  pub bytes-low : bytes ≤ 65536
 
-limits : (bs : List Branch) (e : Expr) (nodes bytes : ℕ) → keepsLimits bs e nodes bytes ≡ true → Limits bs e nodes bytes
+pub limits : (bs : List Branch) (e : Expr) (nodes bytes : ℕ) → keepsLimits bs e nodes bytes ≡ true → Limits bs e nodes bytes
 limits bs e nodes bytes h =
     let a = leb nodes 2048 in
     let b = leb (length bs) 64 in

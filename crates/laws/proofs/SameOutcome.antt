@@ -1,10 +1,11 @@
--- The normal form of an accepted sheet gives every element the outcome that the sheet gives it, at every depth. Assumes nothing.
+-- Sheets whose variables differ only in bodies that have one outcome where it is asked for have one outcome at every depth; and the
+-- normal form of a body of an accepted sheet is such a body. Assumes nothing.
 use mathlib.Core.Path.{_≡_, refl, sym, ap, _∙_, fun-ext}
 use Prim.Native.Nat.{ℕ, zero, suc, _<_}
 use native.Mathlib.Omega.{arith}
 use native.Mathlib.Decide.{decLt}
 use mathlib.Core.Bool.{Bool, true, false}
-use mathlib.Core.List.{List, [], _∷_, map}
+use mathlib.Core.List.{List}
 use lib.ListN.{length, List·getD-map, List·getD-eq-default}
 use lib.IntN.{ℤ}
 use Rattle.alpha.specs.Pick.{ifb}
@@ -15,7 +16,7 @@ use Rattle.alpha.specs.Box.{inBox}
 use Rattle.alpha.specs.Read.{dimension}
 use Rattle.alpha.specs.Shape.{fits}
 use Rattle.alpha.specs.Holds.{noVariable, variable, isInput, inDomain, holds, someHolds}
-use Rattle.alpha.specs.Outcome.{Outcome, outside, loop, eval, evalFirst, inputsBefore, entry, atPoint, outcome}
+use Rattle.alpha.specs.Outcome.{Outcome, outside, loop, eval, evalFirst, entry, atPoint, outcome}
 use Rattle.alpha.specs.Normal.{norm, bodyCase}
 use Rattle.alpha.specs.Normalise.{dims, normalBody}
 use Rattle.laws.specs.Accepted.{Accepted}
@@ -97,14 +98,9 @@ pub normal-variable : (s : Sheet) (v : ℕ) → variable (normalSheet s) v ≡ n
 unfolding norm
 normal-variable s v = List·getD-map (normalVariable s) s v noVariable
 
-inputsBefore-normal : (s t : Sheet) (v : ℕ) → inputsBefore (map (normalVariable s) t) v ≡ inputsBefore t v
-inputsBefore-normal s t zero = refl
-inputsBefore-normal s [] (suc v) = refl
-inputsBefore-normal s (x ∷ t) (suc v) = rw (inputsBefore-normal s t v)
-
 -- ---- outcomes
 
-module _ {bs : List ℕ} {r : Raw} {s : Sheet} (a : Accepted bs r s) (ins : List ℤ) where
+module _ {bs : List ℕ} {r : Raw} {s : Sheet} (a : Accepted bs r s) where
   -- the body's normal form has the body's outcome at each point of the declared domain
   pub body-same : (v : ℕ) (z : Point) (look : ℕ → Point → Outcome) → v < length s → isInput (variable s v) ≡ false → inDomain (variable s v) z ≡ true →
       eval (normalBody s (variable s v)) s look z ≡ eval (variable s v .body) s look z
@@ -117,15 +113,6 @@ module _ {bs : List ℕ} {r : Raw} {s : Sheet} (a : Accepted bs r s) (ins : List
       ap (λ f. eval (bodyCase (length box) (norm (x .body) f)) s look z) ds
       ∙ normal-eval s (r .heads) (length box) (x .body) z fit look (a .covered v z lt i d)
 
-  pub domain-same : (v : ℕ) (z : Point) → inDomain (variable (normalSheet s) v) z ≡ inDomain (variable s v) z
-  domain-same v z = ap (λ x. inDomain x z) (normal-variable s v)
-
-  pub input-same : (v : ℕ) → isInput (variable (normalSheet s) v) ≡ isInput (variable s v)
-  input-same v = ap isInput (normal-variable s v)
-
-  entry-same : (v : ℕ) (z : Point) → entry (normalSheet s) ins v z ≡ entry s ins v z
-  entry-same v z = rw (normal-variable s v, inputsBefore-normal s s v)
-
   -- a variable that is not an input is one of the sheet's
   pub known : (v : ℕ) → isInput (variable s v) ≡ false → v < length s
   known v i = go (decLt v (length s))
@@ -133,8 +120,3 @@ module _ {bs : List ℕ} {r : Raw} {s : Sheet} (a : Accepted bs r s) (ins : List
       go : Dec (v < length s) → v < length s
       go (yes h) = h
       go (no h) = true-not-false {b = true} refl (sym (ap isInput (List·getD-eq-default s noVariable {n = v} (omega arith))) ∙ i)
-
-  pub outcome-same : (k v : ℕ) (z : Point) → outcome k (normalSheet s) ins v z ≡ outcome k s ins v z
-  outcome-same =
-      outcome-alike s (normalSheet s) ins domain-same input-same entry-same (λ v z look i d.
-      ap (λ x. eval (x .body) s look z) (normal-variable s v) ∙ body-same v z look (known v i) i d)

@@ -5,7 +5,7 @@ use Prim.Native.Nat.{ℕ, zero, suc, _≤_}
 use native.Mathlib.Omega.{arith}
 use mathlib.Core.Bool.{Bool, true, false, _&&_}
 use lib.IntN.{ℤ, pos, negsuc, natAbs, negℤ}
-use lib.Dec.{T, leb}
+use lib.Dec.{leb}
 use borrow.Author.Tests.{leb-true, le-leb}
 use Rattle.alpha.specs.Pick.{ifb}
 use Rattle.alpha.specs.Box.{within}
@@ -20,13 +20,6 @@ ifb-true b x y h = rw h
 
 pub ifb-false : {A : Type 0} (b : Bool) (x y : Unit {0} → A) → b ≡ false → ifb b x y ≡ y tt
 ifb-false b x y h = rw h
-
-pub true-T : {b : Bool} → b ≡ true → T b
-true-T h = rw h tt
-
-pub T-true : (b : Bool) → T b → b ≡ true
-T-true true t = refl
-T-true false t = absurd t
 
 -- ---- a passed conjunction
 

@@ -1,12 +1,13 @@
--- What is written is read back: a field, a row, a constraint, a node and a tree whose bytes stand at a place. Assumes nothing.
+-- What is written is read back: a field, a row, a constraint, a node and a tree whose bytes stand at a place; and bytes stored one part
+-- after another are the parts stored as one. Assumes nothing.
 use mathlib.Core.Path.{_≡_, refl, sym, ap, _∙_, subst}
 use Prim.Native.Nat.{ℕ, zero, suc, _+_, _*_, _-_, _/_, _%_, _^_, _≤_, _<_}
 use native.Mathlib.Nat.{add-zero, mod-eq-of-lt}
 use native.Mathlib.Omega.{arith}
 use mathlib.Core.Bool.{Bool, true}
 use mathlib.Core.List.{List, [], _∷_, _++_, map}
-use lib.ListN.{length, getD, length-append, List·getD-append}
-use lib.Seq.{getD-append-add}
+use lib.ListN.{length, getD, set, length-append, List·getD-append}
+use lib.Seq.{sets, getD-append-add}
 use lib.IntN.{ℤ, pos, negsuc, negℤ, natAbs}
 use lib.Dec.{leb}
 use borrow.Author.Tests.{leb-true, le-leb, lt-ltb, le-ltb}
@@ -40,6 +41,13 @@ module _ (l m bs : List ℕ) (p : ℕ) (h : Stands (l ++ m) bs p) where
         let on : p + length l + i ≡ p + (length l + i) = omega arith in
         rw on (h .byte-is (length l + i) (omega (arith, length-append l m)) ∙ getD-append-add l m i 0);
   }
+
+-- stored one after another
+pub sets-append : (l : List ℕ) (i : ℕ) (xs ys : List ℕ) → sets l i (xs ++ ys) ≡ sets (sets l i xs) (i + length xs) ys
+sets-append l i [] ys = ap (λ k. sets l k ys) (sym (add-zero i))
+sets-append l i (x ∷ xs) ys =
+    let e : suc i + length xs ≡ i + suc (length xs) = omega arith in
+    sets-append (set l i x) (suc i) xs ys ∙ ap (λ k. sets (sets (set l i x) (suc i) xs) k ys) e
 
 -- ---- fields
 
@@ -76,9 +84,6 @@ module _ (w : ℕ) (bs : List ℕ) (p : ℕ) (lt : w < 18446744073709551616) (h 
       small : (w : ℕ) → w < 18446744073709551616 → w / 256 / 256 / 256 / 256 / 256 / 256 / 256 < 256
       small w lt = omega arith
 
-  field-there : p + 8 ≤ length bs
-  field-there = omega (arith, h .there, length-bytesOf 8 w)
-
 -- the numbers that a field holds: from -2^62 to 2^62 is enough here
 pub field-num : (x : ℤ) (bs : List ℕ) (p : ℕ) → natAbs x ≤ 2 ^ 62 → Stands (num x) bs p → field bs p ≡ x
 field-num (pos n) bs p l h =
@@ -88,9 +93,6 @@ field-num (negsuc n) bs p l h =
     let high : 9223372036854775808 ≤ w = omega arith in
     let back : 18446744073709551615 - w ≡ n = omega arith in
     ap signedOf (word-read w bs p (omega arith) h) ∙ rw (le-ltb w 9223372036854775808 high, back) refl
-
-pub field-nat : (n : ℕ) (bs : List ℕ) (p : ℕ) → n ≤ 2 ^ 62 → Stands (nat n) bs p → field bs p ≡ pos n
-field-nat n bs p l h = field-num (pos n) bs p l h
 
 -- ---- readers of fields
 
@@ -126,7 +128,7 @@ module _ {A : Type 0} (P : A → Type 0) (write : A → List ℕ) (r : Reader A)
 
 -- ---- rows and constraints
 
-length-num : (x : ℤ) → length (num x) ≡ 8
+pub length-num : (x : ℤ) → length (num x) ≡ 8
 length-num x = length-bytesOf 8 (wordOf x)
 
 pub row-got : (n : ℕ) (w : Row) (bs : List ℕ) (p : ℕ) → RowOk n w → Stands (rowBytes w) bs p → rowOf n bs p ≡ got w (p + length (rowBytes w))

@@ -1,7 +1,7 @@
 -- What a byte string that was read is: its sections, and its variables with their bodies. Contracts above name them by these functions,
 -- which say nothing of bytes that are refused. Assumes nothing.
 use Prim.Native.Nat.{ℕ}
-use mathlib.Core.List.{List, [], _∷_}
+use mathlib.Core.List.{List, []}
 use lib.ListN.{length}
 use Rattle.alpha.specs.Answer.{Answer, accepted, refused}
 use Rattle.alpha.specs.Sheet.{Head, Raw, Sheet}

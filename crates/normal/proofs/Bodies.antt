@@ -1,10 +1,10 @@
 -- The branches of a body: how long a branch can be, that following it from the identity gives that branch of the normal form, and the ways
 -- through what measures and stores one branch after another. Assumes nothing.
-use mathlib.Core.Path.{_≡_, refl, sym, ap, ap₂, _∙_, subst}
-use Prim.Native.Nat.{ℕ, zero, suc, _+_, _*_, _-_, _/_, _%_, _^_, _≤_, _<_, max, min}
-use native.Mathlib.Nat.{le-trans, mul-le-mul-right, mul-le-mul-left}
+use mathlib.Core.Path.{_≡_, refl, sym, ap, _∙_, subst}
+use Prim.Native.Nat.{ℕ, zero, suc, _+_, _*_, _-_, _/_, _%_, _^_, _≤_, _<_, min}
+use native.Mathlib.Nat.{mul-le-mul-right, mul-le-mul-left}
 use native.Mathlib.Omega.{arith}
-use mathlib.Core.Bool.{Bool, true, false, _&&_}
+use mathlib.Core.Bool.{Bool, true, false}
 use mathlib.Core.List.{List, [], _∷_, _++_, map}
 use lib.ListN.{length, getD, drop, length-append, length-map, drop-of-length-le}
 use lib.Seq.{sets, length-sets, drop-cons}
@@ -17,14 +17,12 @@ use Rattle.alpha.specs.Sheet.{Node.nVar, Node.nInt, Node.nBool, Node.nUnary, No
 use Rattle.alpha.specs.Sheet.{Expr.var, Expr.int, Expr.boo, Expr.un, Expr.bin, Expr.ite, Expr.kase, Expr.restr, Expr.dep, Exprs.none, Exprs.more}
 use Rattle.alpha.specs.Affine.{rowAfter, constraintAfter, mapAfter, identity, idRows}
 use Rattle.alpha.specs.Read.{dimension}
-use Rattle.alpha.specs.Shape.{fits}
-use Rattle.alpha.specs.Reach.{limit, topReach, mapReach}
+use Rattle.alpha.specs.Reach.{topReach, mapReach}
 use Rattle.alpha.specs.Written.{flat, unaryCode, binaryCode, rowBytes, constraintBytes, bytes, allBytes, nodeCount, nodeCounts, depth}
-use Rattle.alpha.specs.Normal.{Branch, push, pushBranch, norm, asExprs}
-use Rattle.laws.specs.At.{nodeOf, At}
+use Rattle.alpha.specs.Normal.{Branch, pushBranch, asExprs}
+use Rattle.laws.specs.At.{At}
 use Rattle.laws.specs.Sheets.{headsOf, varsOf}
-use Rattle.laws.specs.Normal.{treeForm}
-use Rattle.laws.specs.Wide.{RowsWide, ConstraintsWide, Wide}
+use Rattle.laws.specs.Wide.{RowsWide, Wide}
 use Rattle.laws.specs.Writable.{Writable, AllWritable}
 use Rattle.laws.proofs.Branches.{AllBranches, norm-all}
 use Rattle.laws.proofs.NormalChecks.{HasForm, form-rules, FitsToo, AllFitToo, fits-rules}
@@ -34,18 +32,18 @@ use Rattle.laws.proofs.NormalWritable.{at-writable}
 use Rattle.laws.proofs.Widths.{at-wide}
 use Rattle.affine.specs.declared.Map.{Map}
 use Rattle.affine.specs.Value.{mapOf, Neat}
-use Rattle.affine.proofs.Meaning.{height-length}
+use Rattle.laws.proofs.Written.{length-num}
 use Rattle.normal.specs.declared.Pen.{Pen}
 use Rattle.normal.specs.declared.Taken.{Taken}
-use Rattle.normal.specs.Count.{countOf, sumOf}
+use Rattle.normal.specs.Count.{countOf}
 use Rattle.normal.specs.Part.{Part, beside, own, partOf, chosenOf}
-use Rattle.normal.specs.Followed.{advance, laid, roomOf, Carried, Route, Wrote, Follows}
-use Rattle.normal.specs.Body.{written, takenBy, nothing, both, total, branchesIn, branchIn, BodyAt, IsBody, TakesBranch, TakesFrom}
+use Rattle.normal.specs.Followed.{advance, roomOf, Route, Wrote, Follows}
+use Rattle.normal.specs.Body.{written, takenBy, both, total, branchesIn, branchIn, BodyAt, IsBody, TakesBranch, TakesFrom}
 use Rattle.normal.specs.Body.{StoresBranch, RoomFor, RoomFrom, StoresFrom}
 use Rattle.normal.proofs.Numbered.{count-is}
 use Rattle.normal.proofs.Composing.{branch-first}
 use Rattle.normal.proofs.Branched.{treePart, givenPart, Branched, branched}
-use Rattle.normal.proofs.Laying.{sets-after, length-nat, length-num, two-long, three-long, rows-long, constraints-long}
+use Rattle.normal.proofs.Laying.{sets-after, length-nat, two-long, three-long, rows-long, constraints-long}
 
 -- ---- how long a branch can be
 

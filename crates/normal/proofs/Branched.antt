@@ -6,15 +6,14 @@ use Prim.Native.Nat.{ℕ, zero, suc, _+_, _*_, _-_, _/_, _%_, _≤_, _<_, max}
 use native.Mathlib.Nat.{mod-lt, div-lt-iff-lt-mul}
 use native.Mathlib.Omega.{arith}
 use mathlib.Core.Logic.{⊎-elim}
-use mathlib.Core.Bool.{Bool, true, false, _&&_}
-use mathlib.Core.List.{List, [], _∷_, _++_, map, append-assoc}
-use lib.ListN.{length, getD, length-append, length-map, List·getD-append}
-use lib.Dec.{ltb, eqb}
+use mathlib.Core.Bool.{true, false, _&&_}
+use mathlib.Core.List.{List, [], _∷_, _++_, map, append-assoc, map-append}
+use lib.ListN.{length, length-append, length-map}
+use lib.Dec.{eqb}
 use borrow.Author.Tests.{eqb-true, lt-ltb, le-ltb}
 use Rattle.alpha.specs.Pick.{ifb}
 use Rattle.alpha.specs.Field.{nat}
 use Rattle.alpha.specs.Sheet.{Unary, Binary, Head, Constraint, Map, Expr, Exprs}
-use Rattle.alpha.specs.Sheet.{Node.nVar, Node.nInt, Node.nBool, Node.nUnary, Node.nBinary, Node.nIf, Node.nRestr}
 use Rattle.alpha.specs.Sheet.{Expr.var, Expr.int, Expr.boo, Expr.un, Expr.bin, Expr.ite, Expr.kase, Expr.restr, Expr.dep, Exprs.none, Exprs.more}
 use Rattle.alpha.specs.Affine.{rowAfter, constraintAfter, mapAfter, identity}
 use Rattle.alpha.specs.Read.{dimension}
@@ -27,9 +26,9 @@ use Rattle.laws.proofs.Branches.{joined, joined3}
 use Rattle.laws.proofs.NormalAgain.{map-again, rows-after-wide}
 use Rattle.affine.proofs.Several.{lt-or-le}
 use Rattle.normal.specs.Count.{countOf, sumOf}
-use Rattle.normal.specs.Part.{Part, nothing, beside, leaf, operator, ofTree, ofGiven, own, partOf, chosenOf}
+use Rattle.normal.specs.Part.{Part, nothing, beside, leaf, operator, ofGiven, partOf, chosenOf}
 use Rattle.normal.proofs.Composing.{given-twice, push-twice}
-use Rattle.normal.proofs.Numbered.{noBranch, branchAt, map-at, later-at, positive, count-is, bin-at, ite-at, first-at, rest-at}
+use Rattle.normal.proofs.Numbered.{branchAt, map-at, positive, count-is, bin-at, ite-at, first-at, rest-at}
 
 -- ---- a tree and constraints as parts
 
@@ -68,10 +67,6 @@ if-tree head w x y z l a b c =
 flat-append : (xs ys : List (List ℕ)) → flat (xs ++ ys) ≡ flat xs ++ flat ys
 flat-append [] ys = refl
 flat-append (x ∷ xs) ys = ap (λ t. x ++ t) (flat-append xs ys) ∙ sym (append-assoc x (flat xs) (flat ys))
-
-map-append : {A B : Type 0} (f : A → B) (xs ys : List A) → map f (xs ++ ys) ≡ map f xs ++ map f ys
-map-append f [] ys = refl
-map-append f (x ∷ xs) ys = ap (λ t. f x ∷ t) (map-append f xs ys)
 
 pub given-beside : (xs ys : List Constraint) → beside (givenPart xs) (givenPart ys) ≡ givenPart (xs ++ ys)
 given-beside xs ys =

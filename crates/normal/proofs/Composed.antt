@@ -2,18 +2,15 @@
 use mathlib.Core.Path.{_≡_, refl, sym, ap, _∙_, subst}
 use Prim.Native.Nat.{ℕ, zero, suc, _+_, _*_, _-_, _≤_, _<_}
 use native.Mathlib.Omega.{arith}
-use mathlib.Core.Bool.{true, _&&_}
-use mathlib.Core.List.{List, [], _∷_, _++_, map}
-use lib.ListN.{length, getD, length-map}
+use mathlib.Core.List.{List, _++_, map}
+use lib.ListN.{length}
 use lib.IntN.{natAbs}
 use lib.Seq.{sets}
-use lib.Dec.{leb}
-use borrow.Author.Tests.{leb-true}
 use Rattle.alpha.specs.Field.{field, nat}
 use Rattle.alpha.specs.Sheet as Sheet
 use Rattle.alpha.specs.Affine.{rowAfter, constraintAfter}
 use Rattle.alpha.specs.Read.{relationOf}
-use Rattle.alpha.specs.Reach.{limit, topReach, rowReach, mapReach, allReach}
+use Rattle.alpha.specs.Reach.{limit, topReach, rowReach, mapReach}
 use Rattle.alpha.specs.Written.{flat, relationCode, rowBytes, constraintBytes}
 use Rattle.laws.specs.Wide.{RowsWide}
 use Rattle.laws.proofs.NormalAgain.{combine-wide}

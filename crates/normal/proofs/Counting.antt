@@ -8,7 +8,7 @@ use mathlib.Core.Bool.{Bool, true, false}
 use mathlib.Core.List.{List}
 use mathlib.Core.Logic.{⊎-elim}
 use lib.IntN.{natAbs}
-use lib.Dec.{ltb, eqb}
+use lib.Dec.{eqb}
 use borrow.Author.Tests.{lt-ltb, le-ltb}
 use Rattle.alpha.specs.Pick.{ifb}
 use Rattle.alpha.specs.Field.{field}
@@ -21,12 +21,12 @@ use Rattle.laws.specs.Children.{childrenOf, arity}
 use Rattle.laws.specs.Sheets.{varsOf}
 use Rattle.laws.proofs.Shapes.{allAt-none, MoreAt}
 use Rattle.affine.proofs.Several.{lt-or-le}
-use Rattle.tree.specs.Standing.{Standing, StandingAll}
+use Rattle.tree.specs.Standing.{StandingAll}
 use Rattle.tree.proofs.Standings.{children-at, children-counted, one-more}
 use Rattle.domain.proofs.Walks.{tree-code}
 use Rattle.normal.specs.declared.Chosen.{Chosen}
 use Rattle.normal.specs.Count.{countOf, sumOf, productOf, alone, joined, countsOf, capped, Picked, pick}
-use Rattle.normal.specs.Counted.{Counts, CountsAll, Ends, EndsAll, ChildrenAt, PicksOf, Picks}
+use Rattle.normal.specs.Counted.{Counts, CountsAll, Ends, EndsAll, ChildrenAt, Picks}
 
 -- ---- by the children
 

@@ -5,23 +5,17 @@ use native.Mathlib.Nat.{add-zero, zero-add, sub-zero}
 use native.Mathlib.Omega.{arith}
 use mathlib.Core.List.{List, [], _∷_, _++_, map, append-assoc}
 use lib.ListN.{length, getD, take, length-append, set}
-use lib.Seq.{sets, length-sets, length-take-le, take-suc}
+use lib.Seq.{sets, length-take-le, take-suc}
 use lib.IntN.{ℤ}
-use Rattle.alpha.specs.Field.{bytesOf, wordOf, num, nat}
-use Rattle.alpha.specs.Sheet.{Row, Constraint, Map}
+use Rattle.alpha.specs.Field.{num, nat}
+use Rattle.alpha.specs.Sheet.{Row, Constraint}
 use Rattle.alpha.specs.Written.{flat, rowBytes, constraintBytes, relationCode}
 use Rattle.laws.specs.Wide.{RowsWide, ConstraintsWide}
-use Rattle.laws.proofs.Written.{length-bytesOf}
+use Rattle.laws.proofs.Written.{sets-append, length-bytesOf, length-num}
 use Rattle.affine.specs.Value.{several}
 use Rattle.affine.proofs.Several.{several-same}
 
 -- ---- one after another
-
-pub sets-append : (l : List ℕ) (i : ℕ) (xs ys : List ℕ) → sets l i (xs ++ ys) ≡ sets (sets l i xs) (i + length xs) ys
-sets-append l i [] ys = ap (λ k. sets l k ys) (sym (add-zero i))
-sets-append l i (x ∷ xs) ys =
-    let e : suc i + length xs ≡ i + suc (length xs) = omega arith in
-    sets-append (set l i x) (suc i) xs ys ∙ ap (λ k. sets (sets (set l i x) (suc i) xs) k ys) e
 
 -- a part, which has k bytes, and then another
 pub sets-then : (l : List ℕ) (i k : ℕ) (xs ys : List ℕ) → length xs ≡ k → sets (sets l i xs) (i + k) ys ≡ sets l i (xs ++ ys)
@@ -31,9 +25,6 @@ sets-then l i k xs ys e = ap (λ n. sets (sets l i xs) (i + n) ys) (sym e) ∙ s
 pub sets-after : (l : List ℕ) (i k : ℕ) (xs ys : List ℕ) {a b : List ℕ} → length xs ≡ k → a ≡ sets l i xs → b ≡ sets a (i + k) ys →
     b ≡ sets l i (xs ++ ys)
 sets-after l i k xs ys long first second = second ∙ ap (λ t. sets t (i + k) ys) first ∙ sets-then l i k xs ys long
-
-pub length-num : (x : ℤ) → length (num x) ≡ 8
-length-num x = length-bytesOf 8 (wordOf x)
 
 pub length-nat : (n : ℕ) → length (nat n) ≡ 8
 length-nat n = length-bytesOf 8 n

@@ -1,36 +1,32 @@
 -- The whole normaliser against its promise: the sheet's refusals, WIDE, ROOM, and the bytes. Assumes nothing.
 use mathlib.Core.Path.{_≡_, refl, sym, ap, ap₂, _∙_, subst}
-use Prim.Native.Nat.{ℕ, zero, suc, _+_, _*_, _-_, _^_, _≤_, _<_, min}
+use Prim.Native.Nat.{ℕ, _+_, _≤_, _<_}
 use native.Mathlib.Nat.{zero-add}
 use native.Mathlib.Omega.{arith}
-use mathlib.Core.Bool.{Bool, true, false}
-use mathlib.Core.List.{List, [], _∷_, _++_, append-assoc}
+use mathlib.Core.Bool.{true, false}
+use mathlib.Core.List.{List, [], _++_}
 use lib.ListN.{length, getD, drop, take, length-append}
-use lib.Seq.{sets, sets-eq, length-sets, length-take-le}
+use lib.Seq.{sets, sets-eq, length-take-le}
 use lib.Dec.{leb}
 use borrow.Author.Tests.{le-leb, lt-leb}
-use Rattle.alpha.specs.Pick.{ifb}
-use Rattle.alpha.specs.Answer.{Answer, accepted, refused, next, WIDE, ROOM}
+use Rattle.alpha.specs.Answer.{Answer, accepted, refused, next, WIDE}
 use Rattle.alpha.specs.Field.{nat}
 use Rattle.alpha.specs.Sheet.{Raw, Sheet}
 use Rattle.alpha.specs.Read.{Got, got, bad, read}
-use Rattle.alpha.specs.Holds.{variable, isInput}
-use Rattle.alpha.specs.Check.{checked, afterRead, check, total}
-use Rattle.alpha.specs.Run.{room}
-use Rattle.alpha.specs.Normalise.{branchesOf, Body, writeBodies, normalForm, normalAfter, normalise}
+use Rattle.alpha.specs.Check.{afterRead, check}
+use Rattle.alpha.specs.Normalise.{Body, writeBodies, normalForm, normalAfter, normalise}
 use Rattle.alpha.specs.Verdict.{numberOf, placeOf, told}
-use Rattle.alpha.specs.Promise.{totalOf, lentAfter, Normalises}
+use Rattle.alpha.specs.Promise.{totalOf, Normalises}
 use Rattle.alpha.specs.declared.Refusal.{Refusal}
 use Rattle.alpha.specs.declared.Refusal.the-variants.{Wide, Room}
 use Rattle.alpha.specs.declared.Verdict.{Verdict}
 use Rattle.alpha.specs.declared.Verdict.the-variants.{Accepted, Refused}
-use Rattle.laws.specs.Sheets.{gotRaw, rawOf, varsOf, sheetOf}
-use Rattle.laws.specs.Normal.{bodyBytes, bodyNodes}
-use Rattle.laws.proofs.Rewritten.{Kept, AllKept, Wrote, write-wrote}
+use Rattle.laws.specs.Sheets.{gotRaw, rawOf, sheetOf}
+use Rattle.laws.specs.Normal.{bodyBytes}
+use Rattle.laws.proofs.Rewritten.{Wrote, write-wrote}
 use Rattle.laws.proofs.NormalAccepted.{kept-at}
 use Rattle.tree.specs.Formed.{Formed}
 use Rattle.tree.proofs.Heading.{prepared-sections}
-use Rattle.accept.specs.Admits.{Admitted, Admits}
 use Rattle.normal.specs.declared.Plan.{Plan}
 use Rattle.normal.specs.declared.Plan.the-variants.{Total, WideAt}
 use Rattle.normal.specs.Plan.{Size, planned, frontOf, sized, Small, PlansFrom}

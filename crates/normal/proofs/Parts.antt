@@ -1,15 +1,14 @@
 -- A branch's parts by the node and its children: the children's combinations, the child that a case picks, and lengths. Assumes nothing.
-use mathlib.Core.Path.{_≡_, refl, sym, ap, ap₂, _∙_, subst}
-use Prim.Native.Nat.{ℕ, zero, suc, _+_, _*_, _-_, _/_, _%_, _^_, _≤_, _<_, max, min}
-use native.Mathlib.Nat.{mul-one, one-mul, div-one, mod-one, div-eq-of-lt, mod-eq-of-lt, mod-lt, div-lt-iff-lt-mul, mod-le, div-le-self}
-use native.Mathlib.Nat.{mul-le-mul-right}
+use mathlib.Core.Path.{_≡_, refl, sym, ap, _∙_}
+use Prim.Native.Nat.{ℕ, _+_, _*_, _-_, _/_, _%_, _^_, _≤_, _<_, max, min}
+use native.Mathlib.Nat.{mul-one, one-mul, div-one, div-eq-of-lt, mod-eq-of-lt}
 use native.Mathlib.Omega.{arith}
 use mathlib.Core.Logic.{⊎-elim}
-use mathlib.Core.Bool.{Bool, true, false, _&&_}
-use mathlib.Core.List.{List, [], _∷_, _++_, map, append-nil}
-use lib.ListN.{length, length-append, length-map}
+use mathlib.Core.Bool.{Bool, true, false}
+use mathlib.Core.List.{List, [], _++_, append-nil}
+use lib.ListN.{length, length-append}
 use lib.Seq.{sets, length-sets}
-use lib.Dec.{ltb, eqb}
+use lib.Dec.{ltb}
 use borrow.Author.Tests.{lt-ltb, le-ltb, ne-eqb}
 use Rattle.alpha.specs.Pick.{ifb}
 use Rattle.alpha.specs.Sheet.{Head, Map, Node, Expr, Exprs}
@@ -22,15 +21,14 @@ use Rattle.alpha.specs.Written.{nodeCount, nodeCounts}
 use Rattle.laws.specs.At.{nodeOf, codeOf, codeNumber}
 use Rattle.laws.specs.Children.{childrenOf}
 use Rattle.laws.proofs.Tests.{&&-left, &&-right}
+use Rattle.laws.proofs.Written.{sets-append}
 use Rattle.affine.proofs.Several.{lt-or-le}
 use Rattle.normal.specs.declared.Pen.{Pen}
 use Rattle.normal.specs.Count.{countOf, sumOf, productOf, countsOf, capped, joined, Picked, pick}
 use Rattle.normal.specs.Part.{Part, nothing, beside, own, levelBelow, partOf, chosenOf, partsOf}
 use Rattle.normal.specs.Followed.{advance, laid, roomOf, Wrote}
 use Rattle.normal.proofs.Counting.{count-children}
-use Rattle.normal.proofs.Numbered.{positive}
 use Rattle.normal.proofs.Branched.{part-same}
-use Rattle.normal.proofs.Laying.{sets-append}
 use Rattle.normal.proofs.Spots.{own-things}
 
 -- ---- nothing more

@@ -1,37 +1,36 @@
 -- The totals of the normal form: what a body's branches take together is what its normal form takes, against the limits; and the ways
 -- through the totals over the variables. Assumes nothing.
 use mathlib.Core.Path.{_≡_, refl, sym, ap, ap₂, _∙_, subst, fun-ext}
-use Prim.Native.Nat.{ℕ, zero, suc, _+_, _*_, _-_, _^_, _≤_, _<_, max, min}
-use native.Mathlib.Nat.{add-zero, le-trans}
+use Prim.Native.Nat.{ℕ, suc, _+_, _≤_, _<_}
 use native.Mathlib.Omega.{arith}
 use mathlib.Core.Logic.{⊎-elim}
-use mathlib.Core.Bool.{Bool, true, false, _&&_}
+use mathlib.Core.Bool.{Bool, true, false}
 use mathlib.Core.List.{List, [], _∷_, _++_}
 use lib.ListN.{length, getD, drop, length-append, List·getD-eq-default, drop-of-length-le}
 use lib.Seq.{drop-cons}
 use lib.Dec.{leb}
-use borrow.Author.Tests.{leb-true, le-leb, lt-leb}
+use borrow.Author.Tests.{leb-true, le-leb}
 use Rattle.alpha.specs.Pick.{ifb}
 use Rattle.alpha.specs.Answer.{Answer, accepted, refused, WIDE}
 use Rattle.alpha.specs.Field.{nat}
-use Rattle.alpha.specs.Sheet.{Expr, Expr.kase, Variable, Sheet}
 use Rattle.alpha.specs.Read.{noHead, dimension}
 use Rattle.alpha.specs.Holds.{noVariable, variable, isInput}
 use Rattle.alpha.specs.Written.{branchCount, bytes, allBytes, nodeCount, nodeCounts, depth, depths}
 use Rattle.alpha.specs.Normal.{Branch, norm, asExprs, bodyCase}
 use Rattle.alpha.specs.Normalise.{dims, branchesOf, normalBody, narrow, keepsLimits, Body, written, writeBodies}
 use Rattle.laws.specs.Sheets.{headsOf, varsOf, sheetOf}
-use Rattle.laws.proofs.Tests.{&&-left, &&-right, &&-true, true-not-false}
+use Rattle.laws.proofs.Rewritten.{limits}
+use Rattle.laws.proofs.Tests.{&&-left, &&-right, &&-true}
 use Rattle.affine.proofs.Several.{lt-or-le}
 use Rattle.tree.specs.Standing.{Standing}
 use Rattle.tree.specs.Formed.{BodyStands, Formed}
 use Rattle.normal.specs.declared.Taken.{Taken}
 use Rattle.normal.specs.declared.Plan.{Plan}
 use Rattle.normal.specs.declared.Plan.the-variants.{Total, WideAt}
-use Rattle.normal.specs.Count.{countOf, capped}
+use Rattle.normal.specs.Count.{capped}
 use Rattle.normal.specs.Counted.{Counts}
-use Rattle.normal.specs.Body.{nothing, both, total, branchesIn, BodyAt, IsBody, TakesFrom}
-use Rattle.normal.specs.Plan.{Size, planned, frontOf, sized, grown, Small, Grows, PlansFrom}
+use Rattle.normal.specs.Body.{nothing, total, branchesIn, BodyAt, IsBody, TakesFrom}
+use Rattle.normal.specs.Plan.{Size, frontOf, sized, Small, Grows, PlansFrom}
 use Rattle.normal.proofs.Numbered.{count-is}
 use Rattle.normal.proofs.Bodies.{taken-same}
 use Rattle.normal.proofs.Laying.{two-long}
@@ -101,17 +100,8 @@ module _ (n : ℕ) where
     where
       kept : keepsLimits xs (bodyCase n xs) k b ≡ true → ⊥
       kept h =
-          let p = leb k 2048 in
-          let q = leb (length xs) 64 in
-          let r = narrow xs in
-          let s = leb (depth (bodyCase n xs)) 32 in
-          let t = leb b 65536 in
-          let pqrs = &&-left (p && q && r && s) t h in
-          let pqr = &&-left (p && q && r) s pqrs in
-          let pq = &&-left (p && q) r pqr in
-          let deep = leb-true (depth (bodyCase n xs)) 32 (&&-right (p && q && r) s pqrs) in
-          bad (leb-true k 2048 (&&-left p q pq)) (leb-true (length xs) 64 (&&-right p q pq)) (narrow-no xs (&&-right (p && q) r pqr))
-          (deep-no xs (omega (arith, deep, body-depth xs))) (leb-true b 65536 (&&-right (p && q && r && s) t h))
+          let l = limits xs (bodyCase n xs) k b h in
+          bad (l .nodes-low) (l .branches-low) (narrow-no xs (l .tight)) (deep-no xs (omega (arith, l .deep-low, body-depth xs))) (l .bytes-low)
 
       go : (d : Bool) → keepsLimits xs (bodyCase n xs) k b ≡ d → d ≡ false
       go true e = absurd (kept e)

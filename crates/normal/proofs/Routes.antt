@@ -1,13 +1,13 @@
 -- What following a branch knows at a node, and that it may go on at the children: at the child that a case picks, below a dependence with
 -- the maps composed, and at operands one after another; and that no sum on the way leaves an i64 or the room. Assumes nothing.
-use mathlib.Core.Path.{_≡_, refl, sym, ap, ap₂, _∙_, subst}
-use Prim.Native.Nat.{ℕ, zero, suc, _+_, _*_, _-_, _/_, _%_, _^_, _≤_, _<_, max}
-use native.Mathlib.Nat.{le-trans, mod-lt, mod-le, div-le-self, div-lt-iff-lt-mul, mul-le-mul-left}
+use mathlib.Core.Path.{_≡_, sym, ap, ap₂, _∙_, subst}
+use Prim.Native.Nat.{ℕ, suc, _+_, _*_, _-_, _/_, _%_, _≤_, _<_}
+use native.Mathlib.Nat.{le-trans, mod-lt, mod-le, div-le-self, div-lt-iff-lt-mul}
 use native.Mathlib.Omega.{arith}
 use mathlib.Core.Bool.{Bool, true, false, _&&_}
-use mathlib.Core.List.{List, [], _∷_, _++_, map}
-use lib.ListN.{length, getD, length-append}
-use lib.IntN.{pos, natAbs}
+use mathlib.Core.List.{List, [], _∷_}
+use lib.ListN.{length, length-append}
+use lib.IntN.{natAbs}
 use lib.Dec.{leb, eqb}
 use borrow.Author.Tests.{leb-true, eqb-true}
 use Rattle.alpha.specs.Field.{field}
@@ -19,35 +19,34 @@ use Rattle.alpha.specs.Shape.{fits, allFit}
 use Rattle.alpha.specs.Reach.{limit, topReach, rowReach, mapReach, allReach, reach, reachAll}
 use Rattle.alpha.specs.Written.{branchCount, nodeCount, nodeCounts}
 use Rattle.laws.specs.At.{nodeOf, codeNumber, codeOf, nodeLen, At, AllAt}
-use Rattle.laws.specs.Children.{childrenOf, arity, wanted, reachBelow, fitsHere, reachHere}
+use Rattle.laws.specs.Children.{childrenOf, arity, reachBelow, reachHere}
 use Rattle.laws.specs.Sheets.{headsOf, varsOf}
 use Rattle.laws.proofs.Tests.{&&-left, &&-right}
 use Rattle.laws.proofs.Readers.{counted-is}
-use Rattle.laws.proofs.Nodes.{Restricts, restr-constraint, node-at}
-use Rattle.laws.proofs.Rows.{ConstraintAt}
+use Rattle.laws.proofs.Nodes.{restr-constraint}
 use Rattle.laws.proofs.Shapes.{at-got, at-node, at-kase, at-dep, at-restr, KaseAt, DepAt, RestrAt, MoreAt, allAt-none}
-use Rattle.laws.proofs.Children.{arity-few, children-count, fits-children, reach-children}
+use Rattle.laws.proofs.Children.{arity-few, children-count, reach-children}
+use Rattle.laws.proofs.NormalReach.{map-reach}
 use Rattle.affine.specs.declared.Map.{Map}
 use Rattle.affine.specs.Value.{line, mapOf, Neat}
 use Rattle.affine.specs.Size.{FitAfter}
-use Rattle.affine.specs.Reading.{MapRead, rowFields}
+use Rattle.affine.specs.Reading.{MapRead}
 use Rattle.affine.proofs.Meaning.{height-length, width-cols}
-use Rattle.affine.proofs.Bounds.{rowReach-more, mapReach-after, compose-fits}
-use Rattle.domain.specs.Constraints.{constraintFields}
+use Rattle.affine.proofs.Bounds.{rowReach-more, compose-fits}
 use Rattle.domain.proofs.Walks.{tree-code, code-field, same-below, children-fit}
 use Rattle.domain.proofs.Restrictions.{Each, each-first, each-rest, constraint-is}
-use Rattle.tree.specs.Standing.{Noded, Standing, StandingAll}
-use Rattle.tree.proofs.Standings.{at-noded, children-at, children-counted, one-more}
+use Rattle.tree.specs.Standing.{Standing, StandingAll}
+use Rattle.tree.proofs.Standings.{children-at, children-counted, one-more}
 use Rattle.normal.specs.declared.Chosen.{Chosen}
 use Rattle.normal.specs.declared.Pen.{Pen}
 use Rattle.normal.specs.Count.{countOf, sumOf, productOf, capped, joined, pick}
-use Rattle.normal.specs.Counted.{CountsAll, ChildrenAt, PicksOf, Picks}
-use Rattle.normal.specs.Part.{Part, nothing, beside, own, levelBelow, partOf, chosenOf, partsOf}
-use Rattle.normal.specs.Rows.{Composable, AllComposable}
+use Rattle.normal.specs.Counted.{CountsAll, ChildrenAt, Picks}
+use Rattle.normal.specs.Part.{nothing, beside, own, levelBelow, partOf, chosenOf, partsOf}
+use Rattle.normal.specs.Rows.{AllComposable}
 use Rattle.normal.specs.Spot.{Limits, Spot}
-use Rattle.normal.specs.Followed.{roomOf, Carried, Route, RouteAll, Wrote, Visits, Follows, FollowsAll}
+use Rattle.normal.specs.Followed.{roomOf, Route, RouteAll, Wrote, Visits, Follows, FollowsAll}
 use Rattle.normal.proofs.Numbered.{positive}
-use Rattle.normal.proofs.Parts.{part-children, count-operands, PickKept, pick-kept, capped-some, capped-div, capped-mod, wrote-nothing}
+use Rattle.normal.proofs.Parts.{part-children, count-operands, pick-kept, capped-some, capped-div, capped-mod, wrote-nothing}
 use Rattle.normal.proofs.Parts.{wrote-then, room-same, things-low, part-things}
 use Rattle.normal.proofs.Spots.{own-out, own-things}
 
@@ -211,7 +210,7 @@ module _ (bs : List ℕ) where
           carried = record {
             neat = neat;
             within = subst (λ f. mapReach topReach (f .rows) ≤ mapReach (h .bound) (below .by .rows)) (sym by-is)
-                (le-trans (mapReach-after topReach (mapOf m) (below .by .rows)) (mapReach-more (below .by .rows) (h .carried .within)));
+                (le-trans (map-reach (mapOf m) (below .by .rows) topReach) (mapReach-more (below .by .rows) (h .carried .within)));
             high = dep-limit;
           };
           low = h .low;

@@ -1,5 +1,5 @@
 -- One node's own bytes and sizes, by its code and its fields. Assumes nothing.
-use mathlib.Core.Path.{_≡_, refl, sym, ap, ap₂, _∙_, subst}
+use mathlib.Core.Path.{_≡_, refl, sym, ap, ap₂, _∙_}
 use Prim.Native.Nat.{ℕ, zero, suc, _+_, _*_, _^_, _≤_, _<_, max}
 use native.Mathlib.Omega.{arith}
 use mathlib.Core.Bool.{Bool, true, false}
@@ -12,7 +12,7 @@ use borrow.Author.Tests.{eq-eqb, ne-eqb}
 use Rattle.alpha.specs.Pick.{ifb}
 use Rattle.alpha.specs.Field.{field, num, nat}
 use Rattle.alpha.specs.Sheet as Sheet
-use Rattle.alpha.specs.Sheet.{Unary, Binary, Node, Expr.var, Expr.int, Expr.boo, Expr.dep}
+use Rattle.alpha.specs.Sheet.{Node, Expr.var, Expr.int, Expr.boo}
 use Rattle.alpha.specs.Sheet.{Node.nVar, Node.nInt, Node.nBool, Node.nUnary, Node.nBinary, Node.nIf, Node.nCase, Node.nRestr, Node.nDep}
 use Rattle.alpha.specs.Affine.{constraintAfter}
 use Rattle.alpha.specs.Read.{got, node, unaryOf, binaryOf}
@@ -20,19 +20,19 @@ use Rattle.alpha.specs.Written.{flat, relationCode, unaryCode, binaryCode, rowB
 use Rattle.laws.specs.At.{codeOf}
 use Rattle.laws.specs.Sheets.{varsOf}
 use Rattle.laws.proofs.Readers.{counted-is}
-use Rattle.laws.proofs.Rows.{Chosen}
 use Rattle.laws.proofs.Nodes.{NodeAt, node-at}
 use Rattle.laws.proofs.NormalAgain.{constraints-after-wide}
 use Rattle.affine.specs.declared.Map.{Map}
 use Rattle.affine.specs.Value.{mapOf}
 use Rattle.domain.specs.Constraints.{constraintsFields}
 use Rattle.domain.proofs.Restrictions.{restriction-says}
-use Rattle.normal.specs.Part.{Part, mapBytes, ofTree, givenBy, ofGiven, own}
+use Rattle.laws.proofs.Written.{length-num}
+use Rattle.normal.specs.Part.{mapBytes, ofTree, givenBy, ofGiven, own}
 use Rattle.tree.specs.Standing.{Noded}
 use Rattle.normal.specs.declared.Pen.{Pen}
 use Rattle.normal.specs.Followed.{laid, roomOf, Visits}
 use Rattle.normal.specs.Spot.{headBytes, Spot, moves, Sizes, Stores}
-use Rattle.normal.proofs.Laying.{sets-after, length-num, length-nat, two-long, three-long, rows-long, constraints-long}
+use Rattle.normal.proofs.Laying.{sets-after, length-nat, two-long, three-long, rows-long, constraints-long}
 use Rattle.normal.proofs.Composed.{map-wide, map-high, limitBytes}
 
 -- ---- operators by their numbers

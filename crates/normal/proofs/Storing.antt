@@ -1,33 +1,27 @@
 -- The bodies of the normal form, stored one after another: the ways through. Assumes nothing.
-use mathlib.Core.Path.{_≡_, refl, sym, ap, ap₂, _∙_, subst}
-use Prim.Native.Nat.{ℕ, zero, suc, _+_, _*_, _-_, _^_, _≤_, _<_, min}
+use mathlib.Core.Path.{_≡_, refl, sym, ap, _∙_, subst}
+use Prim.Native.Nat.{ℕ, _+_, _^_, _≤_, _<_, min}
 use native.Mathlib.Omega.{arith}
-use mathlib.Core.Bool.{Bool, true, false}
-use mathlib.Core.List.{List, [], _∷_, _++_}
-use lib.ListN.{length, getD, drop, length-append}
+use mathlib.Core.Bool.{true, false}
+use mathlib.Core.List.{List, _++_}
+use lib.ListN.{length, getD, length-append}
 use lib.Seq.{sets, length-sets}
 use Rattle.alpha.specs.Pick.{ifb}
 use Rattle.alpha.specs.Field.{nat}
-use Rattle.alpha.specs.Sheet.{Expr}
 use Rattle.alpha.specs.Read.{dimension}
 use Rattle.alpha.specs.Holds.{variable, isInput}
-use Rattle.alpha.specs.Written.{branchCount, bytes, allBytes}
-use Rattle.alpha.specs.Normal.{Branch, norm, asExprs, bodyCase}
-use Rattle.alpha.specs.Normalise.{branchesOf, normalBody}
+use Rattle.alpha.specs.Written.{bytes, allBytes}
+use Rattle.alpha.specs.Normal.{Branch, asExprs}
+use Rattle.alpha.specs.Normalise.{branchesOf}
 use Rattle.laws.specs.Sheets.{headsOf, varsOf, sheetOf}
 use Rattle.laws.specs.Normal.{bodyBytes}
 use Rattle.laws.proofs.Trees.{at-unique}
-use Rattle.tree.specs.Formed.{Formed}
-use Rattle.normal.specs.Count.{capped}
+use Rattle.laws.proofs.NormalWritable.{branchCount-asExprs}
 use Rattle.normal.specs.Counted.{Counts}
-use Rattle.normal.specs.Body.{branchesIn, BodyAt, IsBody, RoomFrom, StoresFrom}
+use Rattle.normal.specs.Body.{branchesIn, IsBody, RoomFrom, StoresFrom}
 use Rattle.normal.specs.Stored.{Room, Stored, bodyOf, bodiesFrom, Writes, WritesFrom}
 use Rattle.normal.proofs.Laying.{sets-after, length-nat, two-long}
-use Rattle.normal.proofs.Plans.{body-is, body-at, count-capped, branches-are, normal-is, split-variables, no-variables}
-
-branches-many : (n : ℕ) (xs : List Branch) → branchCount (asExprs n xs) ≡ length xs
-branches-many n [] = refl
-branches-many n (x ∷ xs) = ap suc (branches-many n xs)
+use Rattle.normal.proofs.Plans.{body-is, count-capped, branches-are, normal-is, split-variables, no-variables}
 
 module _ (bs tab : List ℕ) (v : ℕ) (h : Writes bs tab v) (at n : ℕ) (place : at ≡ getD tab (69 + v) 0) (dim : n ≡ dimension (headsOf bs) v) (many : ℕ)
     (counted : Counts bs at many) where
@@ -46,7 +40,7 @@ module _ (bs tab : List ℕ) (v : ℕ) (h : Writes bs tab v) (at n : ℕ) (place
   body-cut =
       let xs = branchesOf (sheetOf bs) (variable (sheetOf bs) v) in
       ap bytes (sym (normal-is bs tab (h .formed) v (h .known) (h .body) at n place dim many counted))
-      ∙ ap (λ k. nat 6 ++ nat k ++ allBytes (asExprs n xs)) (branches-many n xs ∙ sym many-is)
+      ∙ ap (λ k. nat 6 ++ nat k ++ allBytes (asExprs n xs)) (branchCount-asExprs n xs ∙ sym many-is)
       ∙ ap (λ l. nat 6 ++ nat many ++ allBytes (asExprs n l)) (sym (branches-are bs tab (h .formed) v (h .known) (h .body) at n place dim))
 
   body-long : length (bodyOf bs v) ≡ 16 + length (allBytes (asExprs n (branchesIn bs (variable (sheetOf bs) v .body))))

@@ -1,7 +1,7 @@
 -- What the branches of a body take in the normal form: nodes, bytes, constraints and depth, of one branch and of all of them; and the body
 -- that stands at a place. Assumes nothing.
 use mathlib.Core.Path.{_≡_}
-use Prim.Native.Nat.{ℕ, _+_, _*_, _^_, _≤_, _<_, max}
+use Prim.Native.Nat.{ℕ, _+_, _^_, _≤_, max}
 use mathlib.Core.Bool.{true}
 use mathlib.Core.List.{List, [], _∷_}
 use lib.ListN.{length, getD, drop}

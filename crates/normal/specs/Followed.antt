@@ -1,7 +1,7 @@
 -- What following a branch requires and answers: the node or the nodes at a place, with the map composed so far, and the pen with which
 -- the branch's constraints or its tree are written, or only measured. Assumes nothing.
 use mathlib.Core.Path.{_≡_}
-use Prim.Native.Nat.{ℕ, _+_, _*_, _^_, _≤_, _<_, min, max}
+use Prim.Native.Nat.{ℕ, _+_, _^_, _≤_, _<_, min, max}
 use mathlib.Core.Bool.{Bool, true, false}
 use mathlib.Core.List.{List}
 use lib.ListN.{length}

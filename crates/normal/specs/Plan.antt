@@ -1,10 +1,8 @@
 -- The totals of the normal form over the variables, as the code keeps them: nodes and bytes so far, or WIDE at a variable. Assumes nothing.
 use mathlib.Core.Path.{_≡_}
 use Prim.Native.Nat.{ℕ, _+_, _≤_}
-use mathlib.Core.Bool.{Bool, true, false}
 use mathlib.Core.List.{List}
 use lib.ListN.{length, drop}
-use lib.Seq.{sets}
 use Rattle.alpha.specs.Pick.{ifb}
 use Rattle.alpha.specs.Answer.{Answer, accepted, refused, WIDE}
 use Rattle.alpha.specs.Sheet.{Variable, Sheet}
@@ -12,7 +10,6 @@ use Rattle.alpha.specs.Holds.{variable}
 use Rattle.alpha.specs.Written.{bytes, nodeCount}
 use Rattle.alpha.specs.Normalise.{branchesOf, normalBody, keepsLimits, Body, writeBodies}
 use Rattle.laws.specs.Sheets.{rawOf, sheetOf}
-use Rattle.laws.specs.Normal.{bodyBytes}
 use Rattle.normal.specs.declared.Plan.{Plan}
 use Rattle.normal.specs.declared.Plan.the-variants.{Total, WideAt}
 

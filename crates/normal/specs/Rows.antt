@@ -1,5 +1,4 @@
 -- What a function that writes constraints where they stand requires. Assumes nothing.
-use mathlib.Core.Path.{_≡_}
 use Prim.Native.Nat.{ℕ, zero, suc, _+_, _*_, _≤_}
 use mathlib.Core.List.{List}
 use lib.ListN.{length}

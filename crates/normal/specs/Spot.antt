@@ -1,8 +1,8 @@
 -- One node where it stands, as a branch is followed through it: what is required, and what is answered of it. Assumes nothing.
 use mathlib.Core.Path.{_≡_}
 use Prim.Native.Nat.{ℕ, _+_, _≤_}
-use mathlib.Core.Bool.{Bool, true, false}
-use mathlib.Core.List.{List, [], _∷_, _++_}
+use mathlib.Core.Bool.{Bool}
+use mathlib.Core.List.{List, _++_}
 use lib.ListN.{length}
 use lib.IntN.{natAbs}
 use lib.Seq.{sets}
@@ -11,12 +11,11 @@ use Rattle.alpha.specs.Pick.{ifb}
 use Rattle.alpha.specs.Field.{field, num, nat}
 use Rattle.alpha.specs.Sheet.{Node}
 use Rattle.alpha.specs.Read.{got, node}
-use Rattle.laws.specs.At.{codeOf}
 use Rattle.laws.specs.Sheets.{varsOf}
 use Rattle.affine.specs.declared.Map.{Map}
 use Rattle.affine.specs.Value.{mapOf, Neat}
 use Rattle.normal.specs.declared.Pen.{Pen}
-use Rattle.normal.specs.Part.{Part, own, ofTree}
+use Rattle.normal.specs.Part.{Part, own}
 use Rattle.normal.specs.Rows.{AllComposable}
 
 -- the own fields of the leaf or operator at p: its code, and but for an if one field more

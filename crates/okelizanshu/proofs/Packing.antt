@@ -1,5 +1,5 @@
 -- A verdict packed, from its case. Assumes nothing.
-use mathlib.Core.Path.{_≡_, refl, sym, ap, ap₂, _∙_}
+use mathlib.Core.Path.{_≡_, sym, ap, ap₂, _∙_}
 use Prim.Native.Nat.{ℕ, _+_, _*_, _%_}
 use Rattle.alpha.specs.Verdict.{numberOf, placeOf, told}
 use Rattle.alpha.specs.declared.Refusal.{Refusal}

@@ -8,7 +8,7 @@ use lib.ListN.{length}
 use lib.IntN.{ℤ}
 use Rattle.alpha.specs.Answer.{Answer, accepted, refused, next}
 use Rattle.alpha.specs.Check.{check}
-use Rattle.alpha.specs.Run.{Tables, run}
+use Rattle.alpha.specs.Run.{run}
 use Rattle.alpha.specs.Normalise.{normalise}
 use Rattle.alpha.specs.Ask.{Part}
 use Rattle.alpha.specs.Promise.{totalOf, lentAfter}

@@ -1,20 +1,17 @@
 -- The numbers of a range that was read are small: at most 32768 in size. Assumes nothing.
-use mathlib.Core.Path.{_≡_, refl, sym, ap, _∙_}
-use Prim.Native.Nat.{ℕ, _+_, _*_, _≤_, _<_}
+use mathlib.Core.Path.{_≡_}
+use Prim.Native.Nat.{ℕ, _+_, _*_, _≤_}
 use native.Mathlib.Omega.{arith}
-use mathlib.Core.Bool.{Bool, true, false, _&&_}
+use mathlib.Core.Bool.{true}
 use mathlib.Core.List.{List}
-use lib.IntN.{ℤ, pos, negsuc, negℤ, natAbs}
+use lib.IntN.{ℤ, pos, negℤ, natAbs}
 use lib.Signed.{leZ}
-use borrow.Author.Tests.{leb-true}
 use Rattle.alpha.specs.Field.{field}
 use Rattle.alpha.specs.Box.{within}
-use Rattle.integer.proofs.Order.{leZ-trans, within-true, true-and}
+use Rattle.laws.proofs.Order.{leZ-trans}
+use Rattle.laws.proofs.Boxes.{size-bound}
+use Rattle.integer.proofs.Order.{within-true}
 use Rattle.sheet.specs.Record.{Ranges}
-
-between : (x : ℤ) → leZ (negℤ (pos 32768)) x ≡ true → leZ x (pos 32767) ≡ true → natAbs x ≤ 32768
-between (pos n) h k = let l = leb-true n 32767 k in omega arith
-between (negsuc n) h k = let l = leb-true n 32767 h in omega arith
 
 module _ (bs : List ℕ) (p : ℕ) (h : Ranges bs p 1) where
   here : p + 16 * 0 ≡ p
@@ -27,12 +24,12 @@ module _ (bs : List ℕ) (p : ℕ) (h : Ranges bs p 1) where
   high = rw here at (h .high 0 (omega arith))
 
   pub low-small : natAbs (field bs p) ≤ 32768
-  low-small = let w = within-true (negℤ (pos 32768)) (pos 32767) (field bs p) low in between (field bs p) (w .0) (w .1)
+  low-small = let w = within-true (negℤ (pos 32768)) (pos 32767) (field bs p) low in size-bound (field bs p) (w .0) (w .1)
 
   pub inside-small : (x : ℤ) → leZ (field bs p) x ≡ true → leZ x (pos 32767) ≡ true → natAbs x ≤ 32768
   inside-small x a b =
       let w = within-true (negℤ (pos 32768)) (pos 32767) (field bs p) low in
-      between x (leZ-trans (negℤ (pos 32768)) (field bs p) x (w .0) a) b
+      size-bound x (leZ-trans (negℤ (pos 32768)) (field bs p) x (w .0) a) b
 
   pub high-small : natAbs (field bs (p + 8)) ≤ 32768
   high-small = let w = within-true (field bs p) (pos 32767) (field bs (p + 8)) high in inside-small (field bs (p + 8)) (w .0) (w .1)

@@ -1,11 +1,11 @@
 -- The frame of the input: a law for each way through the code. Assumes nothing.
-use mathlib.Core.Path.{_≡_, refl, ap, _∙_}
+use mathlib.Core.Path.{_≡_, ap, _∙_}
 use Prim.Native.Nat.{ℕ, _+_, _-_, _≤_, _<_}
 use native.Mathlib.Omega.{arith}
 use mathlib.Core.Bool.{Bool, true, false, _&&_}
 use mathlib.Core.List.{List}
 use lib.ListN.{length, take, drop}
-use lib.IntN.{ℤ, pos, negsuc, natAbs}
+use lib.IntN.{pos, natAbs}
 use lib.Signed.{leZ, nonNeg}
 use lib.Dec.{leb}
 use borrow.Author.Tests.{le-leb, lt-leb}
@@ -16,12 +16,9 @@ use Rattle.alpha.specs.Read.{room}
 use Rattle.alpha.specs.Program.{framed, answered}
 use Rattle.alpha.specs.declared.Refusal.{Refusal}
 use Rattle.alpha.specs.declared.Refusal.the-variants.{Long, Cut}
+use Rattle.integer.proofs.Order.{leZ-zero}
 use Rattle.program.specs.declared.input.Frame.the-variants.{Sheet, Refused}
 use Rattle.program.specs.Given.{Frames, answerIn}
-
-pub not-negative : (x : ℤ) → leZ (pos 0) x ≡ nonNeg x
-not-negative (pos n) = le-leb 0 n (omega arith)
-not-negative (negsuc n) = refl
 
 -- a sheet of n bytes in the input bs, and the values after it
 abbrev pub framedAt : List ℕ → ℕ → Answer (List ℕ)
@@ -37,7 +34,7 @@ pub answered-picked : (bs : List ℕ) →
 unfolding answered
 answered-picked bs =
     let n = field bs 0 in
-    ap (λ b. picked bs (room bs 0) (leZ n (pos 65536)) b (leb (8 + natAbs n) (length bs))) (not-negative n)
+    ap (λ b. picked bs (room bs 0) (leZ n (pos 65536)) b (leb (8 + natAbs n) (length bs))) (leZ-zero n)
 
 module _ (bs : List ℕ) where
   refusing : (why : Refusal) → answered bs ≡ answerIn bs (Refused why) → Frames bs (Refused why)

@@ -11,12 +11,8 @@ use lib.Seq.{sets, sets-eq, take-at}
 use lib.IntN.{ℤ}
 use lib.Dec.{eqb}
 use borrow.Author.Tests.{eq-eqb, ne-eqb, eqb-true, eqb-false}
-use Rattle.alpha.specs.Pick.{ifb}
 use Rattle.alpha.specs.Answer.{Answer, accepted, refused, next, INPUT}
 use Rattle.alpha.specs.Sheet.{Sheet}
-use Rattle.alpha.specs.Box.{size}
-use Rattle.alpha.specs.Holds.{isInput}
-use Rattle.alpha.specs.Check.{total}
 use Rattle.alpha.specs.Run.{inputCount, inputs}
 use Rattle.alpha.specs.Program.{word4, value4, valuesAt, inputsFrom, report}
 use Rattle.program.specs.Given.{Lists}
@@ -55,14 +51,6 @@ module _ (rest : List ℕ) (ins : List ℤ) where
   lists-whole w h e = record { whole = λ _ _. e; broken = λ b. absurd (b w); long = λ l. absurd (omega arith) }
 
 -- ---- INPUT
-
-pub count-total : (s : Sheet) → inputCount s ≤ total s
-count-total [] = omega arith
-count-total (x ∷ s) = go (isInput x) (count-total s)
-  where
-    go : (b : Bool) → inputCount s ≤ total s → ifb b (λ _. size (x .head .box) + inputCount s) (λ _. inputCount s) ≤ size (x .head .box) + total s
-    go true h = omega arith
-    go false h = omega arith
 
 inputs-other : (s : Sheet) (ins : List ℤ) → (length ins ≡ inputCount s → ⊥) → inputs s ins ≡ refused INPUT (inputCount s)
 unfolding inputs

@@ -20,10 +20,11 @@ use Rattle.alpha.specs.declared.Verdict.the-variants.{Accepted, Refused}
 use Rattle.laws.specs.Sheets.{sheetOf}
 use Rattle.laws.proofs.Checked.{check-accepts, accepted-total}
 use Rattle.accept.specs.Admits.{Admitted, Admits}
+use Rattle.run.proofs.Listing.{count-total}
 use Rattle.text.specs.Lines.{reportIn}
 use Rattle.text.proofs.Lines.{report-told}
 use Rattle.program.specs.Given.{Lists}
-use Rattle.program.proofs.Listing.{count-total, from-listed}
+use Rattle.program.proofs.Listing.{from-listed}
 
 -- ---- a sheet that was accepted is admitted again
 

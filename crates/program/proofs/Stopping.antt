@@ -19,8 +19,9 @@ use Rattle.alpha.specs.Run.{inputCount}
 use Rattle.alpha.specs.Program.{inputsFrom, report, framed, answered, printed, program}
 use Rattle.laws.proofs.Checked.{check-accepts, accepted-total}
 use Rattle.integer.proofs.Fields.{wordAt-same}
+use Rattle.run.proofs.Listing.{count-total}
 use Rattle.program.proofs.Framing.{framedAt, frame-long, frame-negative, answered-framed}
-use Rattle.program.proofs.Listing.{count-total, from-long}
+use Rattle.program.proofs.Listing.{from-long}
 
 -- after a sheet, more values than any sheet asks for are all alike
 framed-long : (sheet rest other : List ℕ) → 16384 < length rest → 16384 < length other → framed sheet rest ≡ framed sheet other

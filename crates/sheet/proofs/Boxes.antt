@@ -1,32 +1,30 @@
 -- Boxes as they are read: the ranges that stand where a reader passed, the sizes of their numbers, and the number of points, which is
 -- multiplied up range by range and stopped over 4,096. Assumes nothing.
-use mathlib.Core.Path.{_≡_, refl, sym, ap, _∙_, subst}
-use mathlib.Core.Bool.{Bool, true, false, _&&_}
+use mathlib.Core.Path.{_≡_, sym, ap, _∙_}
+use mathlib.Core.Bool.{true}
 use mathlib.Core.List.{List, [], _∷_}
 use Prim.Native.Nat.{ℕ, zero, suc, _+_, _-_, _*_, _≤_, _<_}
 use native.Mathlib.Omega.{arith}
-use native.Mathlib.Nat.{mul-assoc, mul-one, one-mul, mul-pos, le-mul-of-pos-right}
+use native.Mathlib.Nat.{mul-assoc, mul-one, one-mul, le-mul-of-pos-right}
 use borrow.Author.Tests.{le-leb, lt-leb, leb-true}
 use lib.ListN.{length}
-use lib.Dec.{leb}
 use lib.IntN.{ℤ, pos, negsuc, negℤ, natAbs}
-use lib.Signed.{leZ}
+use Rattle.laws.proofs.Boxes.{size-pos, size-bound}
 use Rattle.integer.proofs.Order.{within-true}
-use Rattle.alpha.specs.Answer.{Answer, accepted, refused, next, NUMBER}
+use Rattle.alpha.specs.Answer.{accepted, next, NUMBER}
 use Rattle.alpha.specs.Field.{field}
 use Rattle.alpha.specs.Sheet.{Range}
 use Rattle.alpha.specs.Box.{within, side, size}
-use Rattle.alpha.specs.Read.{Got, got, bad, after, repeat, number, range}
+use Rattle.alpha.specs.Read.{got, repeat, number, range}
 use Rattle.sheet.specs.Place.{placeAfter}
 use Rattle.sheet.specs.Record.{boxAt, Ranges, capped}
-use Rattle.sheet.proofs.Places.{after-gave, pure-after, Passed, passing-passed, passing-gives}
+use Rattle.sheet.proofs.Places.{after-gave, pure-after, passing-passed, passing-gives}
 use Rattle.sheet.proofs.Readers.{any-next, next-accepted, range-place}
 
 -- ---- the sizes of a range's numbers
 
 pub low-size : (x : ℤ) → within (negℤ (pos 32768)) (pos 32767) x ≡ true → natAbs x ≤ 32768
-low-size (pos n) e = let h = leb-true n 32767 (within-true (negℤ (pos 32768)) (pos 32767) (pos n) e .1) in omega arith
-low-size (negsuc n) e = let h = leb-true n 32767 (within-true (negℤ (pos 32768)) (pos 32767) (negsuc n) e .0) in omega arith
+low-size x e = let w = within-true (negℤ (pos 32768)) (pos 32767) x e in size-bound x (w .0) (w .1)
 
 pub high-size : (lo hi : ℤ) → natAbs lo ≤ 32768 → within lo (pos 32767) hi ≡ true → natAbs hi ≤ 32768
 high-size lo (pos n) k e = let h = leb-true n 32767 (within-true lo (pos 32767) (pos n) e .1) in omega arith
@@ -146,10 +144,6 @@ first-sizes bs p r =
 
 -- ---- the number of points
 
-size-positive : (rs : List Range) → 0 < size rs
-size-positive [] = omega arith
-size-positive (r ∷ rs) = mul-pos (omega arith) (size-positive rs)
-
 box-size : (bs : List ℕ) (p n : ℕ) → 0 < n → size (boxAt bs p n) ≡ side (rangeAt bs p) * size (boxAt bs (p + 16) (n - 1))
 unfolding boxAt
 box-size bs p zero h = absurd (omega arith)
@@ -183,7 +177,7 @@ module _ {bs : List ℕ} {at n p left product : ℕ} (inv : Product bs at n p le
     pub product-over : 4096 < product * r → 4097 ≡ capped (size (boxAt bs at n))
     unfolding capped
     product-over over =
-        let more = le-mul-of-pos-right (product * r) (size-positive (boxAt bs (p + 16) (left - 1))) in
+        let more = le-mul-of-pos-right (product * r) (size-pos (boxAt bs (p + 16) (left - 1))) in
         let all = stepped in
         sym (rw (lt-leb (size (boxAt bs at n)) 4096 (omega arith)))
 

@@ -1,14 +1,14 @@
 -- The records at the first places of a table: how many there are, what dimension each has, where it stands. Assumes nothing.
-use mathlib.Core.Path.{_≡_, refl, sym, ap, _∙_}
-use mathlib.Core.List.{List, [], _∷_, map}
+use mathlib.Core.Path.{_≡_, refl, ap, _∙_}
+use mathlib.Core.List.{List, [], _∷_}
 use Prim.Native.Nat.{ℕ, zero, suc, _+_, _-_, _≤_, _<_}
 use native.Mathlib.Omega.{arith}
 use lib.ListN.{length, getD, take, length-map}
 use lib.Seq.{length-take-le, getD-take}
-use lib.IntN.{ℤ, pos, natAbs}
-use Rattle.alpha.specs.Answer.{Answer, next}
+use lib.IntN.{natAbs}
+use Rattle.alpha.specs.Answer.{next}
 use Rattle.alpha.specs.Field.{field}
-use Rattle.alpha.specs.Sheet.{Head, Range}
+use Rattle.alpha.specs.Sheet.{Head}
 use Rattle.alpha.specs.Read.{noHead, dimension, choice, constraint, declared}
 use Rattle.sheet.specs.Place.{placeAfter}
 use Rattle.sheet.specs.Record.{boxAt, dimensionAt, headAt, headsAt, Known}

@@ -6,5 +6,3 @@ pub mod Heads
 pub mod Boxes
 pub mod Variables
 pub mod Sections
-pub mod Rows
-pub mod Accepted

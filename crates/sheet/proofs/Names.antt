@@ -1,14 +1,13 @@
 -- Names where they stand: one law for each way through a loop over bytes or places. Assumes nothing.
-use mathlib.Core.Path.{_≡_, refl, sym, ap, _∙_}
-use mathlib.Core.Bool.{Bool, true, false, not, _&&_, _||_}
+use mathlib.Core.Path.{_≡_, refl, ap, _∙_}
+use mathlib.Core.Bool.{Bool, true, false, _||_}
 use mathlib.Core.List.{List, [], _∷_, _++_}
 use Prim.Native.Nat.{ℕ, zero, suc, _+_, _-_, _≤_, _<_}
 use native.Mathlib.Omega.{arith}
-use borrow.Author.Tests.{eq-eqb, ne-eqb, eqb-true, leb-true}
+use borrow.Author.Tests.{eq-eqb, ne-eqb}
 use lib.ListN.{length, getD, take}
 use lib.Seq.{take-suc}
-use lib.Dec.{leb, eqb}
-use Rattle.alpha.specs.Field.{byte, eight, letter, digit, zeros, nameTail, nameForm, sameBytes}
+use Rattle.alpha.specs.Field.{byte, eight, letter, zeros, nameTail, nameForm, sameBytes}
 use Rattle.sheet.specs.Name.{bytesAt, inName, takenAt}
 
 or-false : (b : Bool) → b || false ≡ b

@@ -2,22 +2,19 @@
 -- code leaves. Assumes nothing.
 use mathlib.Core.Path.{_≡_, refl, sym, ap, _∙_}
 use mathlib.Core.Bool.{Bool, true, false}
-use mathlib.Core.List.{List, [], _∷_}
+use mathlib.Core.List.{List, _∷_}
 use Prim.Native.Nat.{ℕ, zero, suc, _+_, _-_, _≤_, _<_}
 use native.Mathlib.Omega.{arith}
-use native.Mathlib.Numerals.{sub-one}
-use borrow.Author.Tests.{le-leb, lt-leb, leb-true, leb-false}
+use borrow.Author.Tests.{le-leb, lt-leb, leb-true}
 use lib.ListN.{length}
-use lib.Dec.{leb}
 use lib.IntN.{ℤ, pos, natAbs}
-use Rattle.integer.proofs.Order.{within-nat}
 use Rattle.alpha.specs.Pick.{ifb}
-use Rattle.alpha.specs.Answer.{Answer, accepted, refused, CUT, COUNT, NUMBER}
+use Rattle.alpha.specs.Answer.{accepted, refused, CUT, COUNT, NUMBER}
 use Rattle.alpha.specs.Field.{field}
 use Rattle.alpha.specs.Box.{within}
 use Rattle.alpha.specs.Read.{Got, got, bad, Reader, after, repeat, room, passing, count, number, choice}
-use Rattle.alpha.specs.Verdict.{numberOf, placeOf}
 use Rattle.alpha.specs.declared.Refusal.{Refusal}
+use Rattle.laws.proofs.Tests.{within-pos}
 use Rattle.sheet.specs.declared.Pass.{Pass}
 use Rattle.sheet.specs.declared.Pass.the-variants.{To, Refused}
 use Rattle.sheet.specs.Place.{placeAfter, passed}
@@ -127,7 +124,7 @@ module _ (bs : List ℕ) (p : ℕ) (r : Pass) (q : ℕ) (to : r ≡ To q) where
 
 -- a count that was read is within its limits
 pub counted : (lo hi : ℕ) {bs : List ℕ} {p q : ℕ} → Passed (within (pos lo) (pos hi)) bs p q → (lo ≤ natAbs (field bs p)) × (natAbs (field bs p) ≤ hi)
-counted lo hi {bs} {p} h = let w = within-nat lo hi (field bs p) (h .fine) in (w .1, w .2)
+counted lo hi {bs} {p} h = let w = within-pos lo hi (field bs p) (h .fine) in (w .low, w .high)
 
 -- ---- a reader n times
 

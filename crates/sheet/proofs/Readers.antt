@@ -1,22 +1,21 @@
 -- How far each reader of crate alpha comes, field by field: one equation for each. Assumes nothing.
 use mathlib.Core.Path.{_≡_, refl, sym, ap, _∙_}
-use mathlib.Core.Bool.{Bool, true, false}
-use mathlib.Core.List.{List, [], _∷_}
-use Prim.Native.Nat.{ℕ, zero, suc, _+_, _-_, _≤_, _<_}
+use mathlib.Core.List.{List}
+use Prim.Native.Nat.{ℕ, _-_}
 use native.Mathlib.Omega.{arith}
 use lib.ListN.{length, getD}
 use lib.IntN.{ℤ, pos, negℤ, natAbs}
-use Rattle.alpha.specs.Answer.{Answer, accepted, refused, next, COUNT, NUMBER}
-use Rattle.alpha.specs.Field.{field, eight}
+use Rattle.alpha.specs.Answer.{Answer, accepted, refused, next, NUMBER}
+use Rattle.alpha.specs.Field.{field}
 use Rattle.alpha.specs.Box.{within}
-use Rattle.alpha.specs.Sheet.{Head, Declared, Constraint, Row, Node, Node.nIf, Kind, Sort}
+use Rattle.alpha.specs.Sheet.{Head, Node.nIf}
 use Rattle.alpha.specs.Read.{Got, got, bad, after, repeat, pure, count, number, choice, free}
-use Rattle.alpha.specs.Read.{nameField, kindOf, sortOf, range, headRecord, rowOf, constraint, dimension, declared, restriction, dependence, nodes, node, relationOf}
+use Rattle.alpha.specs.Read.{nameField, range, headRecord, rowOf, constraint, dimension, declared, restriction, dependence, nodes, node}
 use Rattle.alpha.specs.declared.Refusal.{Refusal}
 use Rattle.sheet.specs.declared.Pass.{Pass}
 use Rattle.sheet.specs.declared.Pass.the-variants.{To, Refused}
 use Rattle.sheet.specs.Place.{placeAfter, passed}
-use Rattle.sheet.proofs.Places.{gave, pure-after, passing-then, count-then, choice-then}
+use Rattle.sheet.proofs.Places.{pure-after, passing-then, count-then, choice-then}
 
 -- ---- one reader after another, by places
 

@@ -1,8 +1,8 @@
 -- The whole of reading, section by section: what `read` of crate alpha gives on each way through. Assumes nothing.
 use mathlib.Core.Path.{_≡_, refl, sym, ap, _∙_, subst}
-use mathlib.Core.List.{List, [], _∷_}
+use mathlib.Core.List.{List, []}
 use mathlib.Core.Logic.{_⊎_, inl, inr, ⊎-elim}
-use Prim.Native.Nat.{ℕ, zero, suc, _+_, _-_, _≤_, _<_}
+use Prim.Native.Nat.{ℕ, _+_, _≤_, _<_}
 use native.Mathlib.Omega.{arith}
 use borrow.Author.Tests.{le-leb, lt-leb, eq-eqb, ne-eqb}
 use lib.ListN.{length, take, set, getD, length-set}
@@ -10,14 +10,14 @@ use lib.Seq.{getD-set-same, getD-set-other, take-length}
 use lib.IntN.{natAbs}
 use Rattle.alpha.specs.Answer.{Answer, accepted, refused, next, LONG, TAIL}
 use Rattle.alpha.specs.Field.{field}
-use Rattle.alpha.specs.Sheet.{Head, Declared, Node, Raw}
+use Rattle.alpha.specs.Sheet.{Head, Declared, Raw}
 use Rattle.alpha.specs.Read.{Got, got, bad, after, repeat, count, heads, declared, node, ended, sections, read}
 use Rattle.alpha.specs.Verdict.{told}
 use Rattle.alpha.specs.declared.Verdict.{Verdict}
 use Rattle.alpha.specs.declared.Verdict.the-variants.{Accepted}
 use Rattle.alpha.specs.declared.Refusal.{Refusal}
 use Rattle.sheet.specs.declared.Pass.{Pass}
-use Rattle.sheet.specs.declared.Pass.the-variants.{To, Refused}
+use Rattle.sheet.specs.declared.Pass.the-variants.{Refused}
 use Rattle.sheet.specs.Place.{placeAfter, passed}
 use Rattle.sheet.specs.Record.{points, headsAt, headAt, Filled}
 use Rattle.sheet.specs.Section.{secondSection, thirdSection}

@@ -1,7 +1,7 @@
 -- The first section: a name field, a record, and the records one after another with the table that they fill. Assumes nothing.
 use mathlib.Core.Path.{_≡_, refl, sym, ap, _∙_, subst}
 use mathlib.Core.Bool.{Bool, true, false, not, _&&_, _||_}
-use mathlib.Core.List.{List, [], _∷_, _++_, map}
+use mathlib.Core.List.{List, [], _∷_, _++_}
 use Prim.Native.Nat.{ℕ, zero, suc, _+_, _-_, _*_, _≤_, _<_}
 use native.Mathlib.Omega.{arith}
 use borrow.Author.Count.{below-more}
@@ -9,24 +9,23 @@ use borrow.Author.Tests.{le-leb, lt-leb, leb-true, leb-false}
 use lib.ListN.{length, getD, take, set, length-set}
 use lib.Seq.{getD-set-same, getD-set-other, take-set-le, take-suc-set, take-append-le, take-at, take-all}
 use lib.Dec.{leb}
-use lib.IntN.{ℤ, pos, natAbs}
 use Rattle.alpha.specs.Pick.{ifb}
-use Rattle.alpha.specs.Answer.{Answer, accepted, refused, next, CUT, COUNT, NAME, NUMBER}
-use Rattle.alpha.specs.Field.{field, eight, nameForm, sameBytes}
+use Rattle.alpha.specs.Answer.{accepted, refused, next, CUT, COUNT, NAME}
+use Rattle.alpha.specs.Field.{eight, nameForm, sameBytes}
 use Rattle.alpha.specs.Sheet.{Head}
-use Rattle.alpha.specs.Box.{within, size}
-use Rattle.alpha.specs.Read.{Got, got, bad, after, room, repeat, taken, nameField, choice, count, range, headRecord, heads, kindOf, sortOf}
+use Rattle.alpha.specs.Box.{size}
+use Rattle.alpha.specs.Read.{got, bad, after, room, repeat, taken, nameField, choice, count, range, headRecord, heads}
 use Rattle.alpha.specs.declared.Refusal.{Refusal}
 use Rattle.alpha.specs.declared.Refusal.the-variants.{Count}
 use Rattle.sheet.specs.declared.Pass.{Pass}
 use Rattle.sheet.specs.declared.Pass.the-variants.{To, Refused}
 use Rattle.sheet.specs.Place.{placeAfter, passed}
 use Rattle.sheet.specs.Name.{takenAt}
-use Rattle.sheet.specs.Record.{boxAt, dimensionAt, headAt, headsAt, Ranges, Recorded, Known, capped, points, before, Filled, Fills}
-use Rattle.sheet.proofs.Places.{after-gave, came-to, refused-whole, Passed, choice-passed, count-passed, choice-then, count-then, counted}
+use Rattle.sheet.specs.Record.{boxAt, dimensionAt, headAt, headsAt, Recorded, Known, capped, points, before, Filled, Fills}
+use Rattle.sheet.proofs.Places.{after-gave, came-to, refused-whole, choice-passed, count-passed, choice-then, count-then, counted}
 use Rattle.sheet.proofs.Readers.{next-accepted, boxPlace, dimensionPlace, sortPlace, kindPlace, head-place}
 use Rattle.sheet.proofs.Heads.{heads-length}
-use Rattle.sheet.proofs.Boxes.{RangesRead, ranges-came}
+use Rattle.sheet.proofs.Boxes.{ranges-came}
 
 -- ---- a name field
 

@@ -2,7 +2,5 @@
 pub mod Place
 pub mod Name
 pub mod Record
-pub mod Rows
 pub mod Section
 pub mod Table
-pub mod Understood

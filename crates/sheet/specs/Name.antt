@@ -1,6 +1,6 @@
 -- A name where it stands: the bytes from a place on, and whether one of some records has that name. Assumes nothing.
 use Prim.Native.Nat.{ℕ, zero, suc, _+_}
-use mathlib.Core.Bool.{Bool, true, false, _||_}
+use mathlib.Core.Bool.{Bool, false, _||_}
 use mathlib.Core.List.{List, [], _∷_}
 use Rattle.alpha.specs.Field.{byte, eight, letter, digit, sameBytes}
 

@@ -1,16 +1,16 @@
 -- The variables' records by their places: a record that was read is what the bytes from its place on say. Assumes nothing.
 use Prim.Native.Nat.{ℕ, zero, suc, _+_, _*_, _≤_, _<_}
 use mathlib.Core.Path.{_≡_}
-use mathlib.Core.Bool.{Bool, true, false, _||_}
+use mathlib.Core.Bool.{true}
 use mathlib.Core.List.{List, [], _∷_, map}
 use lib.ListN.{length, getD, take}
 use lib.Dec.{leb}
-use lib.IntN.{ℤ, pos, negℤ, natAbs}
+use lib.IntN.{pos, negℤ, natAbs}
 use Rattle.alpha.specs.Pick.{ifb}
-use Rattle.alpha.specs.Field.{field, eight, sameBytes}
+use Rattle.alpha.specs.Field.{field, eight}
 use Rattle.alpha.specs.Sheet.{Head, Range}
 use Rattle.alpha.specs.Box.{within, side, size}
-use Rattle.alpha.specs.Read.{Got, got, kindOf, sortOf, heads}
+use Rattle.alpha.specs.Read.{got, kindOf, sortOf, heads}
 use Rattle.sheet.specs.declared.Pass.{Pass}
 use Rattle.sheet.specs.declared.Pass.the-variants.{To}
 use Rattle.sheet.specs.Place.{placeAfter, passed}

@@ -1,12 +1,8 @@
 -- The three sections as readers of their own. Assumes nothing.
 use Prim.Native.Nat.{ℕ}
-use mathlib.Core.List.{List, []}
+use mathlib.Core.List.{List}
 use Rattle.alpha.specs.Sheet.{Head, Declared, Node}
-use Rattle.alpha.specs.Read.{Reader, _>>=_, count, repeat, heads, declared, node}
-
--- the count of variables, and their records
-unfoldable pub firstSection : Reader (List Head)
-firstSection = count 1 32 >>= λ n. heads n [] 0
+use Rattle.alpha.specs.Read.{Reader, _>>=_, count, repeat, declared, node}
 
 -- the count of declared constraints, and these
 unfoldable pub secondSection : List Head → Reader (List Declared)

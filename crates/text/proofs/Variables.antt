@@ -1,6 +1,6 @@
 -- What a line says of a variable of a sheet that is laid out: its name where its record stands, and its points, how long each is.
 -- Assumes nothing.
-use mathlib.Core.Path.{_≡_, refl, sym, ap, _∙_}
+use mathlib.Core.Path.{_≡_, sym, ap, _∙_}
 use Prim.Native.Nat.{ℕ, zero, suc, _+_, _≤_, _<_}
 use native.Mathlib.Omega.{arith}
 use mathlib.Core.List.{List, [], _∷_, _++_}
@@ -15,7 +15,7 @@ use Rattle.alpha.specs.Program.{trimmed, spaced}
 use Rattle.laws.specs.Heads.{HeadsAt}
 use Rattle.laws.specs.Sheets.{rawOf, headsOf, varsOf, sheetOf}
 use Rattle.laws.proofs.Heads.{HeadAt, head-at}
-use Rattle.laws.proofs.Boxes.{pointAt-inBox, readBox-ordered, inBox-small}
+use Rattle.laws.proofs.Boxes.{pointAt-inBox, length-pointAt, readBox-ordered, inBox-small}
 use Rattle.affine.specs.Value.{pointOf}
 use Rattle.points.specs.Number.{PointAt}
 use Rattle.tree.specs.Formed.{Formed}
@@ -37,10 +37,6 @@ heads-named bs (x ∷ hs) earlier p q h zero lt = head-named earlier bs p x (hea
 heads-named bs (x ∷ hs) earlier p q h (suc v) lt = heads-named bs hs (earlier ++ (x ∷ [])) (h .next) q (h .after) v (omega arith)
 
 -- ---- a point
-
-length-pointAt : (box : List Range) (i : ℕ) → length (pointAt box i) ≡ length box
-length-pointAt [] i = refl
-length-pointAt (r ∷ rs) i = ap suc (length-pointAt rs _)
 
 -- ---- a variable
 

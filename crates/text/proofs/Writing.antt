@@ -1,18 +1,13 @@
 -- Texts written one after another are one text. `Going` follows a text while it is written: what is left of it, written from here on,
 -- gives what the whole text gives from its start. Assumes nothing.
 use mathlib.Core.Path.{_≡_, refl, sym, ap, _∙_}
-use Prim.Native.Nat.{ℕ, suc, _+_, _≤_}
+use Prim.Native.Nat.{ℕ, _+_, _≤_}
 use native.Mathlib.Omega.{arith}
 use mathlib.Core.List.{List, [], _∷_, _++_}
 use lib.ListN.{length, set, length-append}
 use lib.Seq.{sets, length-sets}
+use Rattle.laws.proofs.Written.{sets-append}
 use Rattle.text.specs.Wrote.{Wrote}
-
-sets-append : (l t u : List ℕ) (i : ℕ) → sets l i (t ++ u) ≡ sets (sets l i t) (i + length t) u
-sets-append l [] u i = let e : i + 0 ≡ i = omega arith in rw e
-sets-append l (v ∷ t) u i =
-    let e : suc i + length t ≡ i + suc (length t) = omega arith in
-    rw e at (sets-append (set l i v) t u (suc i))
 
 -- ---- what was written
 
@@ -23,7 +18,7 @@ module _ (before after : List ℕ) (at next : ℕ) (text : List ℕ) (w : Wrote 
   -- one text after another
   pub wrote-more : (last : List ℕ) (end : ℕ) (more : List ℕ) → Wrote after last next end more → Wrote before last at end (text ++ more)
   wrote-more last end more m = record {
-    is = m .is ∙ rw (w .is, w .ends) (sym (sets-append before text more at));
+    is = m .is ∙ rw (w .is, w .ends) (sym (sets-append before at text more));
     ends = omega (arith, length-append text more, m .ends, w .ends);
   }
 
@@ -48,7 +43,7 @@ going-start before at whole = record { same = refl; place = refl; sized = refl }
 module _ {before : List ℕ} {at : ℕ} {whole now : List ℕ} {p : ℕ} {rest : List ℕ} (g : Going before at whole now p rest) where
   pub going-wrote : (text left after : List ℕ) (next : ℕ) → rest ≡ text ++ left → Wrote now after p next text → Going before at whole after next left
   going-wrote text left after next e w = record {
-    same = rw (w .is, w .ends) (sym (sets-append now text left p)) ∙ ap (sets now p) (sym e) ∙ g .same;
+    same = rw (w .is, w .ends) (sym (sets-append now p text left)) ∙ ap (sets now p) (sym e) ∙ g .same;
     place = omega (arith, length-append text left, ap length e, w .ends, g .place);
     sized = wrote-length now after p next text w ∙ g .sized;
   }

@@ -1,7 +1,7 @@
 -- The ways through SHAPE over all variables: what one body, the end of the variables and a step to the next say, from what the code has
 -- found; and what is known of each variable where all pass. Assumes nothing.
 use mathlib.Core.Path.{_≡_, refl, sym, ap, _∙_, subst}
-use Prim.Native.Nat.{ℕ, zero, suc, _+_, _-_, _≤_, _<_}
+use Prim.Native.Nat.{ℕ, zero, suc, _+_, _≤_, _<_}
 use native.Mathlib.Omega.{arith}
 use mathlib.Core.Bool.{Bool, true, false}
 use mathlib.Core.List.{List, [], _∷_}
@@ -13,12 +13,12 @@ use Rattle.alpha.specs.Answer.{Answer, accepted, refused, next, SHAPE}
 use Rattle.alpha.specs.Sheet.{Kind, Kind.input, Kind.output, Kind.local, Head, Expr, Variable, Sheet}
 use Rattle.alpha.specs.Read.{noHead, kindOf, dimension}
 use Rattle.alpha.specs.Shape.{Parsed, tree, ill, exprAt, fits, ofVariable, Bodied, shaped, bodyOf, bodies}
-use Rattle.alpha.specs.Holds.{noVariable, variable, isInputKind, isInput}
+use Rattle.alpha.specs.Holds.{noVariable, variable, isInput}
 use Rattle.alpha.specs.declared.Refusal.the-variants.{Shape}
-use Rattle.laws.specs.Accepted.{TreeAt, BodyAt, BodiesAt}
+use Rattle.laws.specs.Accepted.{TreeAt, BodiesAt}
 use Rattle.laws.specs.Sheets.{rawOf, headsOf, varsOf, shapedOf, acceptedSheet, sheetOf}
-use Rattle.laws.proofs.Tests.{true-not-false}
 use Rattle.laws.proofs.Bodies.{BodiesRead, bodies-read}
+use Rattle.laws.proofs.Checked.{left-fewer, not-input}
 use Rattle.tree.specs.declared.Shaped.the-variants.{Fits, Bad}
 use Rattle.tree.specs.declared.Ruling.{Ruling}
 use Rattle.tree.specs.declared.Ruling.the-variants.{Passes, Refused}
@@ -234,16 +234,6 @@ module _ (bs : List ℕ) where
     declared-is : x .declared ≡ ofVariable v (rawOf bs .decls)
     tree-at : isInput x ≡ false → (k : ℕ) × (n : ℕ) × (k ≤ m) × TreeAt (rawOf bs) bs x (x .start) k n
 
-  no-input : (k : Kind) (x : Variable) (p m n : ℕ) → isInputKind k ≡ false → BodyAt k (rawOf bs) bs x p m n → TreeAt (rawOf bs) bs x p m n
-  no-input input x p m n i h = true-not-false {b = true} refl i
-  no-input output x p m n i h = h
-  no-input local x p m n i h = h
-
-  fewer : (k : Kind) (x : Variable) (p m n : ℕ) → BodyAt k (rawOf bs) bs x p m n → n ≤ m
-  fewer input x p m n h = omega (arith, h .left-is)
-  fewer output x p m n h = omega (arith, h .count)
-  fewer local x p m n h = omega (arith, h .count)
-
   each : (s : Sheet) (w p m : ℕ) → BodiesAt s (rawOf bs) bs w p m → (v : ℕ) → v < length s → Known (w + v) m (variable s v)
   unfolding BodiesAt
   each [] w p m h v lt = absurd (omega arith)
@@ -251,12 +241,12 @@ module _ (bs : List ℕ) where
       let e : w + 0 ≡ w = omega arith in
       rw e (record {
         declared-is = h .declared-is;
-        tree-at = λ i. (m, h .left, omega arith, subst (λ q. TreeAt (rawOf bs) bs x q m (h .left)) (sym (h .start-is)) (no-input (x .head .kind) x p m (h .left) i (h .body-at)));
+        tree-at = λ i. (m, h .left, omega arith, subst (λ q. TreeAt (rawOf bs) bs x q m (h .left)) (sym (h .start-is)) (not-input (rawOf bs) bs (x .head .kind) x p m (h .left) i (h .body-at)));
       })
   each (x ∷ s) w p m h (suc v) lt =
       let e : w + suc v ≡ suc w + v = omega arith in
       let r = each s (suc w) (x .end) (h .left) (h .after) v (omega arith) in
-      let l = fewer (x .head .kind) x p m (h .left) (h .body-at) in
+      let l = left-fewer (rawOf bs) bs (x .head .kind) x p m (h .left) (h .body-at) in
       rw e (record { declared-is = r .declared-is; tree-at = λ i. let t = r .tree-at i in (t .0, t .1, omega (arith, t .2), t .3) })
 
   module _ (tab : List ℕ) (prepared : Prepared bs tab) (s : Sheet) (is : shapedOf bs ≡ accepted s) (places : PlacesFrom tab 0 (rawOf bs .first) s) where

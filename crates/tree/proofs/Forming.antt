@@ -12,6 +12,7 @@ use Rattle.alpha.specs.Holds.{variable}
 use Rattle.alpha.specs.Verdict.{numberOf, placeOf}
 use Rattle.alpha.specs.declared.Refusal.{Refusal}
 use Rattle.laws.specs.Sheets.{rawOf, headsOf, shapedOf, sheetOf}
+use Rattle.laws.proofs.Checked.{each-passes}
 use Rattle.tree.specs.declared.Ruling.{Ruling}
 use Rattle.tree.specs.declared.Ruling.the-variants.{Passes, Refused}
 use Rattle.tree.specs.Prepared.{Prepared}
@@ -21,7 +22,7 @@ use Rattle.tree.specs.Formed.{ShapesFrom, BodiesPlaced, ShapesAll, Forme
 use Rattle.tree.proofs.Heading.{prepared-sections}
 use Rattle.tree.proofs.Placing.{prepared-kept}
 use Rattle.tree.proofs.Bodying.{all-placed}
-use Rattle.tree.proofs.Passing.{each-passes, body-reaches}
+use Rattle.tree.proofs.Passing.{body-reaches}
 
 -- ---- SHAPE over all variables
 

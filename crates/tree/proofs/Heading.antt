@@ -1,19 +1,19 @@
 -- What the table and the bytes say of a variable of a prepared sheet: where its record stands, and what its fields say. Assumes nothing.
 use mathlib.Core.Path.{_≡_, sym}
-use Prim.Native.Nat.{ℕ, zero, suc, _+_, _≤_, _<_}
+use Prim.Native.Nat.{ℕ, _+_, _≤_, _<_}
 use native.Mathlib.Omega.{arith}
-use mathlib.Core.List.{List, [], _∷_, _++_}
+use mathlib.Core.List.{List, []}
 use lib.ListN.{length, getD}
 use lib.IntN.{natAbs}
 use Rattle.alpha.specs.Field.{field}
 use Rattle.alpha.specs.Sheet.{Head}
 use Rattle.alpha.specs.Read.{noHead, kindOf, sortOf}
-use Rattle.laws.specs.Heads.{HeadsAt}
 use Rattle.laws.specs.Accepted.{Sections}
 use Rattle.laws.specs.Sheets.{rawOf, headsOf, varsOf}
 use Rattle.laws.proofs.Readers.{counted-is}
-use Rattle.laws.proofs.Heads.{HeadAt, head-at}
+use Rattle.laws.proofs.Heads.{HeadAt}
 use Rattle.laws.proofs.Bodies.{SheetRead, read-says}
+use Rattle.laws.proofs.Checked.{headsAt-each}
 use Rattle.tree.specs.Prepared.{Prepared}
 
 -- the record h stands at p, and its fields say what it is
@@ -39,13 +39,6 @@ head-recorded earlier bs p h a =
       dim-high = omega (arith, a .dim .high);
     })
 
-heads-recorded : (bs : List ℕ) (hs earlier : List Head) (p q : ℕ) → HeadsAt hs earlier bs p q → (v : ℕ) → v < length hs →
-    Recorded bs (getD hs v noHead) (getD hs v noHead .place)
-unfolding HeadsAt
-heads-recorded bs [] earlier p q h v lt = absurd (omega arith)
-heads-recorded bs (x ∷ hs) earlier p q h zero lt = head-recorded earlier bs p x (head-at earlier bs p x (h .next) (h .here))
-heads-recorded bs (x ∷ hs) earlier p q h (suc v) lt = heads-recorded bs hs (earlier ++ (x ∷ [])) (h .next) q (h .after) v (omega arith)
-
 module _ (bs tab : List ℕ) (h : Prepared bs tab) where
   pub prepared-read : SheetRead bs (rawOf bs)
   prepared-read = read-says (h .accepted)
@@ -57,7 +50,8 @@ module _ (bs tab : List ℕ) (h : Prepared bs tab) where
     pub prepared-record : Recorded bs (getD (headsOf bs) v noHead) (getD tab v 0)
     prepared-record =
         rw (h .table .record-at v lt)
-        (heads-recorded bs (headsOf bs) [] 8 (rawOf bs .second) (prepared-sections .heads-stand) v lt)
+        (headsAt-each (λ x. Recorded bs x (x .place)) bs (λ earlier p x a. head-recorded earlier bs p x a) (headsOf bs) [] 8 (rawOf bs .second)
+        (prepared-sections .heads-stand) v lt noHead)
 
     -- the table has a place for each variable
     pub prepared-few : v < 32

@@ -1,10 +1,10 @@
 -- A test over all variables in order, variable by variable; and the tests of TYPE and REACH at one variable, from what the code has
 -- found. Assumes nothing.
 use mathlib.Core.Path.{_≡_, refl, sym, ap, _∙_, subst}
-use Prim.Native.Nat.{ℕ, zero, suc, _+_, _-_, _≤_, _<_}
+use Prim.Native.Nat.{ℕ, zero, suc, _+_, _≤_, _<_}
 use native.Mathlib.Omega.{arith}
-use mathlib.Core.Bool.{Bool, true, false, _&&_, _||_}
-use mathlib.Core.List.{List, [], _∷_}
+use mathlib.Core.Bool.{Bool, true, false, _||_}
+use mathlib.Core.List.{List}
 use mathlib.Core.Option.{Option, Option.none, some}
 use lib.ListN.{length, getD, drop, drop-of-length-le}
 use lib.Seq.{drop-cons}
@@ -58,21 +58,9 @@ module _ (code : ℕ) (test : Variable → Bool) (s : Sheet) where
       pub one-passes : test (variable s v) ≡ true → Reached (v + 1)
       one-passes e = let n : suc v ≡ v + 1 = omega arith in record { decides = subst (λ w. first code test w (drop w s) ≡ first code test 0 s) n (sym (one ∙ rw e) ∙ h .decides) }
 
--- where all pass, each does
-pub each-passes : (code : ℕ) (test : Variable → Bool) (v : ℕ) (s : Sheet) → first code test v s ≡ accepted tt → (i : ℕ) → i < length s → test (variable s i) ≡ true
-unfolding first
-each-passes code test v [] h i lt = absurd (omega arith)
-each-passes code test v (x ∷ s) h i lt = go (test x) refl h i lt (λ k j l. each-passes code test (suc v) s k j l)
-  where
-    go : (b : Bool) → test x ≡ b → ifb b (λ _. first code test (suc v) s) (λ _. refused code v) ≡ accepted tt → (i : ℕ) → i < suc (length s) →
-        (first code test (suc v) s ≡ accepted tt → (j : ℕ) → j < length s → test (variable s j) ≡ true) → test (variable (x ∷ s) i) ≡ true
-    go true e h zero lt rest = e
-    go true e h (suc i) lt rest = rest h i (omega arith)
-    go false e h i lt rest = let z : _≡_ {A = ℕ} 0 1 = cc in absurd (omega arith)
-
 -- ---- a variable of a sheet whose bodies are placed
 
-input-is : (k : ℕ) → k ≡ 0 → isInputKind (kindOf k) ≡ true
+pub input-is : (k : ℕ) → k ≡ 0 → isInputKind (kindOf k) ≡ true
 input-is k e = rw e
 
 other-is : (k : ℕ) → k ≤ 2 → (k ≡ 0 → ⊥) → isInputKind (kindOf k) ≡ false

@@ -1,5 +1,5 @@
 -- `accept::element` meets its contract. Assumes nothing.
-use mathlib.Core.Path.{_≡_, sym, _∙_}
+use mathlib.Core.Path.{sym, _∙_}
 use Rattle.accept.proofs.Asked.{refused-number, accepted-number}
 use borrow.Author.Needs.{needs}
 use Rattle.accept.proofs.element.Statement.{statement}

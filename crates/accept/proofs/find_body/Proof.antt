@@ -1,5 +1,5 @@
 -- `accept::find_body` meets its contract. Assumes nothing.
-use mathlib.Core.Path.{refl, _∙_}
+use mathlib.Core.Path.{_∙_}
 use Rattle.accept.proofs.Parts.{no-part, refused-part, accepted-part}
 use borrow.Author.Needs.{needs}
 use Rattle.accept.proofs.find_body.Statement.{statement}

@@ -1,13 +1,12 @@
 -- `accept::number_of` meets its contract, by each way through. Assumes nothing.
-use mathlib.Core.Path.{_≡_, refl, sym, ap, _∙_}
+use mathlib.Core.Path.{sym, ap, _∙_}
 use Prim.Native.Nat.{_<_, _+_}
 use native.Mathlib.Omega.{arith}
 use lib.ListN.{length}
 use Rattle.alpha.specs.Box.{size}
 use Rattle.alpha.specs.Holds.{variable}
-use Rattle.affine.specs.Value.{pointOf}
 use Rattle.laws.specs.Sheets.{varsOf, sheetOf}
-use Rattle.points.specs.Number.{boxOf, numberIn}
+use Rattle.points.specs.Number.{boxOf}
 use Rattle.domain.proofs.Records.{laid-variable, laid-length}
 use Rattle.accept.proofs.Asked.{unknown-asked, other-asked, off-asked, found-asked, index-is, found-low}
 use borrow.Author.Needs.{needs}

@@ -1,6 +1,5 @@
 -- `normal::normalise` keeps its promise: the sheet's refusals, then WIDE, then ROOM, or the normal form's bytes. Assumes nothing.
-use mathlib.Core.Path.{_≡_, refl, sym, ap, _∙_}
-use Prim.Native.Nat.{_+_, _≤_}
+use mathlib.Core.Path.{_∙_}
 use native.Mathlib.Omega.{arith}
 use borrow.Author.Needs.{needs}
 use Rattle.tree.proofs.Heading.{prepared-read}

@@ -4,7 +4,7 @@ use native.Mathlib.Omega.{arith}
 use mathlib.Core.Path.{_≡_, refl, sym, ap, _∙_, subst}
 use mathlib.Core.List.{List, []}
 use Prim.Native.Nat.{ℕ, _+_, _≤_}
-use lib.ListN.{length, take, getD}
+use lib.ListN.{take, getD}
 use lib.IntN.{pos, natAbs}
 use Rattle.alpha.specs.Answer.{accepted}
 use Rattle.alpha.specs.Field.{field}

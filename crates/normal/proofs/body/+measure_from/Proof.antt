@@ -8,10 +8,9 @@ use Rattle.normal.proofs.body.both.Reads as both-reads
 use Rattle.normal.proofs.body.measure.Reads as measure-reads
 use Rattle.normal.proofs.body.+measure_from.{statement}
 use Rattle.normal.proofs.body.+measure_from.Tie.{close}
-use Prim.Native.Nat.{ℕ, _+_, _*_, _-_, _^_, _<_, _≤_}
-use mathlib.Core.Path.{_≡_, refl, sym, ap, _∙_}
+use Prim.Native.Nat.{ℕ, _-_, _<_}
+use mathlib.Core.Path.{ap}
 use native.Mathlib.Omega.{arith}
-use borrow.Author.Needs.{needs}
 use Rattle.normal.proofs.Bodies.{measure-none, measure-more}
 
 abbrev μ-measure-from : Measures 1 measure-from-kinds.ps ℕ

@@ -7,8 +7,7 @@ use Rattle.normal.proofs.body.+put_from.Lts-put_from as put-from-lts
 use Rattle.normal.proofs.body.put_branch.Reads as put-branch-reads
 use Rattle.normal.proofs.body.+put_from.{statement}
 use Rattle.normal.proofs.body.+put_from.Tie.{close}
-use Prim.Native.Nat.{ℕ, _+_, _*_, _-_, _^_, _<_, _≤_}
-use mathlib.Core.Path.{_≡_, refl, sym, ap, _∙_}
+use Prim.Native.Nat.{ℕ, _-_, _<_}
 use native.Mathlib.Omega.{arith}
 use borrow.Author.Needs.{needs}
 use Rattle.normal.proofs.Bodies.{is-body, store-none, first-room, rest-room, store-more}

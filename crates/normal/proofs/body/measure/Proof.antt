@@ -1,5 +1,4 @@
 -- `normal::measure` meets its contract: the constraints and the tree of the branch, followed from the identity and only measured. Assumes nothing.
-use Prim.Native.Nat.{_+_, _≤_}
 use native.Mathlib.Omega.{arith}
 use Rattle.normal.proofs.Bodies.{measure-route, measured-low, measured}
 use borrow.Author.Needs.{needs}

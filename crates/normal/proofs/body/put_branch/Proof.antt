@@ -1,10 +1,9 @@
 -- `normal::put_branch` meets its contract: the restriction's three numbers, its constraints, its tree. Assumes nothing.
-use mathlib.Core.Path.{_≡_, ap, _∙_}
+use mathlib.Core.Path.{ap, _∙_}
 use mathlib.Core.List.{_++_}
-use Prim.Native.Nat.{_+_, _≤_}
 use native.Mathlib.Omega.{arith}
 use lib.ListN.{length}
-use lib.Seq.{sets, length-sets}
+use lib.Seq.{length-sets}
 use Rattle.alpha.specs.Field.{nat}
 use Rattle.normal.proofs.Laying.{three-stored}
 use Rattle.normal.proofs.Bodies.{stored-long, room-there, given-route, term-route, branch-stored}

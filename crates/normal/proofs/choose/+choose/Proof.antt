@@ -7,9 +7,8 @@ use Rattle.normal.proofs.choose.+choose.Lts-choose as choose-lts
 use Rattle.normal.proofs.count.count_tree.Reads as count-reads
 use Rattle.normal.proofs.choose.+choose.{statement}
 use Rattle.normal.proofs.choose.+choose.Tie.{close}
-use Prim.Native.Nat.{ℕ, _+_, _*_, _-_, _<_, _≤_}
+use Prim.Native.Nat.{ℕ, _<_}
 use native.Mathlib.Omega.{arith}
-use borrow.Author.Needs.{needs}
 use Rattle.tree.proofs.Standings.{first-standing}
 use Rattle.normal.proofs.Counting.{children-some, children-standing, first-way, children-rest, later-way}
 

@@ -1,5 +1,4 @@
 -- `normal::joined` meets its contract: a sum or a product, up to 65. Assumes nothing.
-use Prim.Native.Nat.{_*_}
 use native.Mathlib.Nat.{mul-le-mul-left}
 use native.Mathlib.Omega.{arith}
 use borrow.Author.Needs.{needs}

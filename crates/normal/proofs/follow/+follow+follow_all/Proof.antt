@@ -19,8 +19,8 @@ use Rattle.tree.proofs.node.node_len.Reads as node-len-reads
 use Rattle.tree.proofs.skip.skip.Reads as skip-reads
 use Rattle.normal.proofs.follow.+follow+follow_all.{statement}
 use Rattle.normal.proofs.follow.+follow+follow_all.Tie.{close}
-use Prim.Native.Nat.{ℕ, _+_, _*_, _-_, _<_, _≤_}
-use mathlib.Core.Path.{_≡_, refl, sym, ap, _∙_, subst}
+use Prim.Native.Nat.{ℕ, _+_, _*_, _≤_, _<_}
+use mathlib.Core.Path.{_≡_, refl, sym, _∙_}
 use native.Mathlib.Omega.{arith}
 use borrow.Author.Needs.{needs}
 use lib.IntN.{natAbs}
@@ -29,7 +29,6 @@ use Rattle.laws.specs.Sheets.{varsOf}
 use Rattle.tree.specs.Standing.{Noded}
 use Rattle.tree.proofs.Noding.{code-there}
 use Rattle.tree.proofs.Standings.{standing-noded, standing-some, standing-there, first-standing, rest-standing}
-use Rattle.normal.specs.Followed.{Route, RouteAll}
 use Rattle.normal.proofs.Routes.{route-standing, route-choice, route-chosen, dep-dims, dep-composes, route-below, route-spot, route-after}
 use Rattle.normal.proofs.Routes.{visited-things, route-many}
 use Rattle.normal.proofs.Routes.{operands-standing, count-some, route-first, followed-things, route-next, case-way, node-way, dep-way}

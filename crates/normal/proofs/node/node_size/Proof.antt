@@ -1,5 +1,5 @@
 -- `normal::node_size` meets its contract: a leaf with its map, an operator, an if, and nothing of any other node. Assumes nothing.
-use mathlib.Core.Path.{_≡_, sym, _∙_}
+use mathlib.Core.Path.{sym}
 use Prim.Native.Nat.{_+_, _*_}
 use native.Mathlib.Nat.{mul-le-mul-right}
 use native.Mathlib.Omega.{arith}

@@ -1,10 +1,7 @@
 -- `normal::put_limits` meets its contract: the constraints of a restriction, and nothing of any other node. Assumes nothing.
-use mathlib.Core.Path.{_≡_, sym, ap, _∙_, subst}
-use Prim.Native.Nat.{_+_, _*_, _≤_}
+use mathlib.Core.Path.{sym, _∙_}
 use native.Mathlib.Omega.{arith}
-use lib.ListN.{length}
 use Rattle.tree.proofs.Noding.{code-there, wide-fields}
-use Rattle.normal.specs.Rows.{AllComposable}
 use Rattle.normal.proofs.Spots.{noded, other-limits-stores, limits-stores, limits-room}
 use borrow.Author.Needs.{needs}
 use Rattle.normal.proofs.node.put_limits.Statement.{statement}

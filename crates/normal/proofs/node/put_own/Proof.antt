@@ -1,5 +1,5 @@
 -- `normal::put_own` meets its contract: as the tree's, or as the constraints'. Assumes nothing.
-use mathlib.Core.Path.{_≡_, sym, subst}
+use mathlib.Core.Path.{subst}
 use lib.ListN.{length}
 use Rattle.normal.specs.Spot.{Spot}
 use Rattle.normal.proofs.Spots.{stores-as}

@@ -1,5 +1,5 @@
 -- `normal::size_of` meets its contract: as the tree's, or as the constraints'. Assumes nothing.
-use mathlib.Core.Path.{_≡_, sym, subst}
+use mathlib.Core.Path.{sym, subst}
 use Rattle.tree.proofs.Noding.{code-there}
 use Rattle.normal.specs.Spot.{Sizes}
 use Rattle.normal.proofs.Spots.{tree-sizes}

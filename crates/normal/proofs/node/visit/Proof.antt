@@ -1,9 +1,4 @@
 -- `normal::visit` meets its contract: measured, and stored where it is not only measured. Assumes nothing.
-use mathlib.Core.Path.{_≡_, refl, sym, ap, _∙_, subst}
-use Prim.Native.Nat.{_+_, _*_, _≤_}
-use native.Mathlib.Omega.{arith}
-use mathlib.Core.Bool.{true, false}
-use Rattle.normal.specs.Followed.{laid}
 use Rattle.normal.proofs.Spots.{noded, visit-room, visit-is, stored-spot, dry-laid, stored-laid}
 use borrow.Author.Needs.{needs}
 use Rattle.normal.proofs.node.visit.Statement.{statement}

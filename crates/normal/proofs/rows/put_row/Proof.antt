@@ -10,9 +10,10 @@ use lib.Seq.{sets, length-sets}
 use Rattle.alpha.specs.declared.Int.{Int}
 use Rattle.alpha.specs.Field.{num}
 use Rattle.alpha.specs.Written.{flat, rowBytes}
-use Rattle.affine.specs.Value.{at, several, rowOf}
+use Rattle.affine.specs.Value.{at, several}
 use Rattle.affine.proofs.Several.{map-several}
-use Rattle.normal.proofs.Laying.{sets-then, length-num, run, run-start, run-again, run-over}
+use Rattle.laws.proofs.Written.{length-num}
+use Rattle.normal.proofs.Laying.{run, run-start, run-again, run-over}
 use Rattle.normal.proofs.rows.put_row.Statement.{statement}
 use Rattle.normal.proofs.rows.put_row.Tie as tie
 

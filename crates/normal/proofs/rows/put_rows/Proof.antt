@@ -13,7 +13,7 @@ use Rattle.alpha.specs.Written.{flat, rowBytes}
 use Rattle.affine.specs.declared.Row.{Row}
 use Rattle.affine.specs.Value.{at, several, line, rowOf}
 use Rattle.affine.proofs.Several.{length-several, map-several}
-use Rattle.normal.proofs.Laying.{sets-then, row-long, run, run-start, run-again, run-over}
+use Rattle.normal.proofs.Laying.{row-long, run, run-start, run-again, run-over}
 use Rattle.normal.proofs.rows.put_rows.Statement.{statement}
 use Rattle.normal.proofs.rows.put_rows.Tie as tie
 

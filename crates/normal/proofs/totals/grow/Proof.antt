@@ -1,6 +1,5 @@
 -- `normal::grow` meets its contract: WIDE where the body breaks a limit, and else the totals with it. Assumes nothing.
-use mathlib.Core.Path.{_≡_, refl, sym, ap, _∙_}
-use Prim.Native.Nat.{_+_, _≤_}
+use mathlib.Core.Path.{refl}
 use native.Mathlib.Omega.{arith}
 use Rattle.tree.proofs.Passing.{few}
 use Rattle.normal.proofs.Plans.{body-standing, body-at, many-way, wide-way, fits-way}

@@ -9,8 +9,7 @@ use Rattle.sheet.proofs.table.variable_count.Reads as variable-count-reads
 use Rattle.tree.proofs.variable.kind_of.Reads as kind-of-reads
 use Rattle.normal.proofs.write.+put_bodies.{statement}
 use Rattle.normal.proofs.write.+put_bodies.Tie.{close}
-use Prim.Native.Nat.{ℕ, _+_, _*_, _-_, _<_, _≤_}
-use mathlib.Core.Path.{_≡_, refl, sym, ap, _∙_}
+use Prim.Native.Nat.{ℕ, _-_, _<_, _≤_}
 use native.Mathlib.Omega.{arith}
 use borrow.Author.Needs.{needs}
 use Rattle.laws.specs.Sheets.{varsOf}

@@ -1,10 +1,9 @@
 -- `normal::copy` meets its contract. The loop's invariant: the first i bytes are stored. Assumes nothing.
-use mathlib.Core.Path.{_≡_, refl, sym, ap, _∙_}
-use Prim.Native.Nat.{_+_, _-_, _≤_}
+use mathlib.Core.Path.{_≡_, refl, ap, _∙_}
+use Prim.Native.Nat.{_-_, _≤_}
 use native.Mathlib.Omega.{arith}
 use lib.ListN.{length, getD, take, set}
 use lib.Seq.{sets, length-sets}
-use borrow.Author.Needs.{needs}
 use Rattle.normal.proofs.Laying.{copied-more}
 use Rattle.normal.proofs.write.copy.Statement.{statement}
 use Rattle.normal.proofs.write.copy.Tie as tie

@@ -1,17 +1,15 @@
 -- `normal::put_body` meets its contract: the case's two numbers, then its branches. Assumes nothing.
-use mathlib.Core.Path.{_≡_, refl, sym, ap, _∙_}
-use Prim.Native.Nat.{_+_, _≤_}
+use mathlib.Core.Path.{refl, ap, _∙_}
 use native.Mathlib.Omega.{arith}
 use mathlib.Core.List.{_++_}
 use lib.ListN.{length}
-use lib.Seq.{sets, length-sets}
+use lib.Seq.{length-sets}
 use Rattle.alpha.specs.Field.{nat}
 use Rattle.tree.proofs.Passing.{few}
 use Rattle.normal.proofs.Laying.{sets-after, length-nat}
 use Rattle.normal.specs.Stored.{bodyOf}
 use Rattle.normal.proofs.Plans.{body-standing, body-at}
 use Rattle.normal.proofs.Storing.{few-branches, body-stored, head-room, branch-rooms}
-use borrow.Author.Needs.{needs}
 use Rattle.normal.proofs.write.put_body.Statement.{statement}
 use Rattle.normal.proofs.write.put_body.Tie as tie
 

@@ -1,10 +1,9 @@
 -- `normal::write_all` meets its contract: ROOM, or the copied sections, the node count and the bodies. Assumes nothing.
-use mathlib.Core.Path.{_≡_, refl, sym, ap, _∙_}
-use Prim.Native.Nat.{_+_, _≤_}
+use mathlib.Core.Path.{ap, _∙_}
 use native.Mathlib.Omega.{arith}
 use borrow.Author.Needs.{needs}
 use lib.ListN.{length, take}
-use lib.Seq.{sets, length-sets}
+use lib.Seq.{length-sets}
 use Rattle.alpha.specs.Field.{nat}
 use Rattle.normal.proofs.Normalising.{front-there, bodies-long, writes-all, room-refuses, written-all}
 use Rattle.normal.proofs.write.write_all.Statement.{statement}

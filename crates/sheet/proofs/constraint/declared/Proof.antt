@@ -1,13 +1,12 @@
 -- `declared` meets its contract: the variable's number, then a constraint of its dimension. Assumes nothing.
 use borrow.Author.Needs.{needs}
 use native.Mathlib.Omega.{arith}
-use mathlib.Core.Path.{_≡_, sym, ap, _∙_}
+use mathlib.Core.Path.{sym, ap, _∙_}
 use Prim.Native.Nat.{ℕ, _-_, _≤_, _<_, _+_}
 use lib.ListN.{length, getD, take}
-use lib.IntN.{pos, natAbs}
+use lib.IntN.{pos}
 use Rattle.sheet.specs.Record.{headsAt}
 use Rattle.alpha.specs.Box.{within}
-use Rattle.alpha.specs.Field.{field}
 use Rattle.alpha.specs.Read.{constraint, dimension}
 use Rattle.sheet.specs.Place.{placeAfter}
 use Rattle.sheet.proofs.Places.{Passed, choice-came, counted}

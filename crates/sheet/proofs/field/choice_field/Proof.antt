@@ -1,6 +1,6 @@
 -- `choice_field` meets its contract: the value changes no place. Assumes nothing.
 use borrow.Author.Needs.{needs}
-use mathlib.Core.Path.{sym, ap, _∙_}
+use mathlib.Core.Path.{sym, _∙_}
 use Rattle.sheet.proofs.Places.{choice-place}
 use Rattle.sheet.proofs.field.choice_field.Statement.{statement}
 use Rattle.sheet.proofs.field.choice_field.Tie as tie

@@ -1,6 +1,6 @@
 -- `count_field` meets its contract: the value changes no place. Assumes nothing.
 use borrow.Author.Needs.{needs}
-use mathlib.Core.Path.{sym, ap, _∙_}
+use mathlib.Core.Path.{sym, _∙_}
 use Rattle.sheet.proofs.Places.{count-place}
 use Rattle.sheet.proofs.field.count_field.Statement.{statement}
 use Rattle.sheet.proofs.field.count_field.Tie as tie

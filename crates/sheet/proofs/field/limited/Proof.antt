@@ -3,7 +3,7 @@ use borrow.Author.Needs.{needs}
 use native.Mathlib.Omega.{arith}
 use mathlib.Core.Path.{sym, ap, _∙_}
 use Rattle.sheet.proofs.Places.{passing-cut, passing-to, passing-refused}
-use Rattle.alpha.specs.Answer.{Answer, refused}
+use Rattle.alpha.specs.Answer.{refused}
 use Rattle.alpha.specs.Box.{within}
 use Rattle.alpha.specs.Verdict.{numberOf}
 use Rattle.sheet.proofs.field.limited.Statement.{statement}

@@ -1,7 +1,6 @@
 -- `box_points` meets its contract. The invariant: the product so far times the points of the ranges left. Assumes nothing.
 use borrow.Author.Needs.{needs}
 use native.Mathlib.Omega.{arith}
-use Prim.Native.Nat.{_≤_, _*_}
 use Rattle.sheet.proofs.Boxes.{Product, product-start, product-over, product-more, product-done, ranges-first}
 use native.Mathlib.Nat.{mul-le-mul}
 use Rattle.sheet.proofs.variable.box_points.Statement.{statement}

@@ -1,10 +1,9 @@
 -- `heads` meets its contract. The invariant: the first k records were read, and the table has their places and first elements. Assumes nothing.
 use borrow.Author.Needs.{needs}
 use native.Mathlib.Omega.{arith}
-use mathlib.Core.Path.{_≡_, sym, ap, _∙_, subst}
-use Prim.Native.Nat.{ℕ, _-_, _+_, _≤_}
+use Prim.Native.Nat.{_-_}
 use lib.ListN.{take}
-use Rattle.sheet.specs.Record.{headsAt, dimensionAt, boxAt, Ranges}
+use Rattle.sheet.specs.Record.{headsAt}
 use Rattle.sheet.proofs.Variables.{Reading, HeadRead, capped-small, head-passed}
 use Rattle.sheet.proofs.Variables.{reading-start, reading-stops, reading-over, reading-more, reading-done, filled-fills}
 use Rattle.sheet.proofs.variable.heads.Statement.{statement}

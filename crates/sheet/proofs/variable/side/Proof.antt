@@ -1,11 +1,10 @@
 -- `side` meets its contract: hi less lo, and 1. Assumes nothing.
 use borrow.Author.Needs.{needs}
 use native.Mathlib.Omega.{arith}
-use mathlib.Core.Path.{_≡_, sym, ap, _∙_}
-use Prim.Native.Nat.{ℕ, _+_, _≤_, _<_}
-use lib.IntN.{natAbs, _-ℤ_}
+use mathlib.Core.Path.{ap}
+use Prim.Native.Nat.{_+_, _≤_, _<_}
+use lib.IntN.{natAbs}
 use Rattle.sheet.proofs.Boxes.{first-sizes}
-use Rattle.sheet.specs.Record.{Side}
 use Rattle.sheet.proofs.variable.side.Statement.{statement}
 use Rattle.sheet.proofs.variable.side.Tie as tie
 

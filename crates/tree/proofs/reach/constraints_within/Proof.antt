@@ -1,7 +1,6 @@
 -- `tree::constraints_within` meets its contract. The loop's invariant: those that are left are there and decide. The measure is how many
 -- are left. Assumes nothing.
 use mathlib.Core.Path.{refl, sym, _∙_}
-use Prim.Native.Nat.{_-_}
 use native.Mathlib.Omega.{arith}
 use borrow.Author.Needs.{needs}
 use borrow.Author.Tests.{not-true, not-false}

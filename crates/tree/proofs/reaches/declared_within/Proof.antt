@@ -1,7 +1,7 @@
 -- `tree::declared_within` meets its contract. The loop's invariant: those that are left stand there and decide. The measure is how many
 -- are left. Assumes nothing.
 use mathlib.Core.Path.{_≡_, ap, _∙_}
-use Prim.Native.Nat.{_+_, _-_}
+use Prim.Native.Nat.{_+_}
 use native.Mathlib.Omega.{arith}
 use lib.IntN.{natAbs}
 use borrow.Author.Needs.{needs}

@@ -1,5 +1,5 @@
 -- `tree::shape` and `tree::shape_all` meet their contracts: a tree is judged by its node and then by its children. Assumes nothing.
-use Prim.Native.Nat.{ℕ, _+_, _*_, _-_, _<_}
+use Prim.Native.Nat.{ℕ, _+_, _*_, _<_}
 use mathlib.Core.Path.{sym, _∙_}
 use native.Mathlib.Omega.{arith}
 use borrow.Author.Needs.{needs}
