@@ -99,7 +99,8 @@ fn chains() -> Vec<Named> {
         ("cycle-of-4096", single(&line, cycle)),
         ("thousand-leaves", thousand_leaves()),
         ("mapped-leaves", mapped_leaves()),
-        ("nested-cases", nested_cases()),
+        ("nested-cases", nested_cases(4096, false)),
+        ("nested-in-first", nested_cases(1024, true)),
         ("all-elements-of-input", single_input()),
     ]
 }
@@ -125,15 +126,16 @@ fn mapped_leaves() -> Vec<u8> {
     draft.body(balanced(6, vec![leaf; 600])).bytes()
 }
 
-/// Cases in cases as deep as they go, over many points.
-fn nested_cases() -> Vec<u8> {
+/// Cases in cases as deep as they go, each the last branch or the first of
+/// the next, over so many points.
+fn nested_cases(points: i64, first: bool) -> Vec<u8> {
     let mut part = everywhere(1, integer(1));
     for level in 0..29 {
         let mut branches: Vec<Part> = (0..20).map(|_| shifted(0, 9000 + level)).collect();
-        branches.push(part);
+        branches.insert(if first { 0 } else { 20 }, part);
         part = case(&branches);
     }
-    single(&[(0, 4095)], part)
+    single(&[(0, points - 1)], part)
 }
 
 /// An input of 4,095 entries and their sum at one point.

@@ -28,6 +28,7 @@ const ANSWERS: [(&str, Answer, Answer); 53] = [
     ("thousand-leaves", Ok(3600), Err((13, 0))),
     ("mapped-leaves", Ok(3700), Ok(56352)),
     ("nested-cases", Ok(4096), Err((13, 0))),
+    ("nested-in-first", Ok(1024), Err((13, 0))),
     ("all-elements-of-input", Ok(4096), Ok(192)),
     ("body-32-deep", Ok(1), Err((13, 0))),
     ("body-33-deep", Err((7, 0)), Err((7, 0))),

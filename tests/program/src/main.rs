@@ -12,25 +12,20 @@ use std::time::Duration;
 
 /// The second program's walks may go deep; the executable has the process's.
 const STACK: usize = 1 << 28;
-/// What a hostile sheet may take: a second where elements and nodes make it
-/// large, and ten where cases nest too, since time grows with their depth. The
+/// What a hostile sheet may take: a second, and ten where cases nest in a
+/// branch before the last, since time grows with their depth there. The
 /// machine may have other work: a run past the limit is tried again, and the
 /// least of three counts.
 const LIMIT: Duration = Duration::from_secs(1);
 const NESTED: Duration = Duration::from_secs(10);
-const LARGE: [&str; 4] = [
-    "reverse-chain-of-4096-deep-bodies",
-    "doubled-chain-of-4000",
-    "cycle-of-4096",
-    "thousand-leaves",
-];
+const NEST: &str = "nested-in-first";
 const TRIES: usize = 3;
 
 fn limit(name: &str) -> Duration {
-    if LARGE.contains(&name) {
-        LIMIT
-    } else {
+    if name == NEST {
         NESTED
+    } else {
+        LIMIT
     }
 }
 
@@ -137,9 +132,7 @@ impl Comparison {
                 self.fail(name, input, &format!("{took:.2} s, over {limit} s"));
             }
         }
-        for name in LARGE {
-            assert!(list.iter().any(|(other, _)| other == name), "{name} is a hostile sheet");
-        }
+        assert!(list.iter().any(|(name, _)| name == NEST), "{NEST} is a hostile sheet");
         println!("program: {} hostile sheets", list.len());
     }
 }
