@@ -15,23 +15,18 @@ use Rattle.integer.proofs.number_at.Reads as number-at-reads
 use Rattle.integer.proofs.within.Reads as within-reads
 use Rattle.points.proofs.above.Reads as above-reads
 
--- src/lib.rt:51:9
 number-at-requires : tie.Need-number-at-requires
 number-at-requires c κs = search needs
 
--- src/lib.rt:52:36
 add-number-at : tie.Need-add-number-at
 add-number-at c = search needs
 
--- src/lib.rt:52:9
 number-at-requires-2 : tie.Need-number-at-requires-2
 number-at-requires-2 c κs = search needs
 
--- src/lib.rt:53:8
 within-requires : tie.Need-within-requires
 within-requires c κs = search needs
 
--- src/lib.rt:54:19
 above-requires : tie.Need-above-requires
 above-requires c κs =
     let start = c .before .before .before .before .before in
