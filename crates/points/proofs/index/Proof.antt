@@ -36,7 +36,9 @@ loop-holds c =
     let place = start .args .place in
     let n = c .dimension .ensures in
     record {
-      number = rw n (numberFrom-none (boxOf bs place) (pointFrom 0 (dimensionAt bs place) (start .args .t3)) ∙ ap (numberIn (boxOf bs place)) (pointFrom-zero (dimensionAt bs place) (start .args .t3)));
+      number =
+          rw n (numberFrom-none (boxOf bs place) (pointFrom 0 (dimensionAt bs place) (start .args .t3))
+          ∙ ap (numberIn (boxOf bs place)) (pointFrom-zero (dimensionAt bs place) (start .args .t3)));
       low = rw n (omega (arith, start .pre .1));
       ranges = rw n (start .pre .0 .ranges);
       few = omega (arith, n, start .pre .0 .small);
@@ -59,35 +61,43 @@ enum-told c = search needs
 
 returns : tie.Need-returns Inv-loop μ-loop
 returns c =
+    let in-loop = c .before .before .before .before in
+    let loop = in-loop .before in
     let asked = c .before .before .digit .ensures in
-    let loop = c .before .before .before .before .before in
-    kept-off _ (c .before .before .before .before .loop-test .taken) (loop .loop .inv) (sym asked ∙ c .enum-told .given .1)
+    kept-off _ (in-loop .loop-test .taken) (loop .loop .inv) (sym asked ∙ c .enum-told .given .1)
 
 width-requires : tie.Need-width-requires Inv-loop μ-loop
 width-requires c κs =
     let inside = c .before .before .before .before .before in
-    kept-head _ (inside .loop-test .taken) (inside .before .loop .inv)
+    let at-loop = inside .before in
+    kept-head _ (inside .loop-test .taken) (at-loop .loop .inv)
 
 mul-e : tie.Need-mul-e Inv-loop μ-loop
 mul-e c =
-    let loop = c .before .before .before .before .before .before .before .loop in
+    let at-loop = c .before .before .before .before .before .before .before in
+    let loop = at-loop .loop in
     record { fits = omega (arith, mul-le-mul (kept-low _ (loop .inv)) (c .width .ensures .1)) }
 
 add-e : tie.Need-add-e Inv-loop μ-loop
 add-e c =
-    let loop = c .before .before .before .before .before .before .before .loop in
-    let asked = c .before .before .before .before .digit .ensures in
-    let start = c .before .before .before .before .before .before .before .before .before .before in
+    let after-digit = c .before .before .before .before in
+    let at-loop = after-digit .before .before .before in
+    let start = at-loop .before .before .before in
+    let loop = at-loop .loop in
+    let asked = after-digit .digit .ensures in
     let low = digit-low (rangeAt (start .args .s .now) (loop .p)) (at (start .args .t3) (loop .k)) _ (sym asked ∙ c .before .before .d .given .1) in
     record { fits = omega (arith, mul-le-mul (kept-low _ (loop .inv)) (c .width .ensures .1), low, c .width .ensures .0, c .width .ensures .1) }
 
 add-p-2 : tie.Need-add-p-2 Inv-loop μ-loop
 add-p-2 c =
     let inside = c .before .before .before .before .before .before in
-    omega (arith, kept-head _ (inside .loop-test .taken) (inside .before .loop .inv) .there)
+    let at-loop = inside .before in
+    omega (arith, kept-head _ (inside .loop-test .taken) (at-loop .loop .inv) .there)
 
 add-k : tie.Need-add-k Inv-loop μ-loop
-add-k c = omega (arith, c .before .before .before .before .before .before .before .loop .inv .few)
+add-k c =
+    let at-loop = c .before .before .before .before .before .before .before in
+    omega (arith, at-loop .loop .inv .few)
 
 sub-left : tie.Need-sub-left Inv-loop μ-loop
 sub-left c = search needs
@@ -97,9 +107,11 @@ loop-less c = search needs
 
 loop-again : tie.Need-loop-again Inv-loop μ-loop
 loop-again c =
-    let inside = c .before .before .before .before .before .before in
-    let asked = c .before .before .before .before .digit .ensures in
-    rw (c .width .ensures .0) (kept-more _ _ (inside .loop-test .taken) (inside .before .loop .inv) (sym asked ∙ c .before .before .d .given .1))
+    let after-digit = c .before .before .before .before in
+    let inside = after-digit .before .before in
+    let at-loop = inside .before in
+    let asked = after-digit .digit .ensures in
+    rw (c .width .ensures .0) (kept-more _ _ (inside .loop-test .taken) (at-loop .loop .inv) (sym asked ∙ c .before .before .d .given .1))
 
 returns-2 : tie.Need-returns-2 Inv-loop μ-loop
 returns-2 c = kept-end _ (omega (arith, c .loop-test .left)) (c .before .loop .inv)

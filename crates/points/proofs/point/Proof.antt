@@ -61,26 +61,34 @@ div-nth c = rw (c .width .ensures .0) (rest-some _ (c .before .loop-test .taken)
 
 nth-requires : tie.Need-nth-requires Inv-loop μ-loop
 nth-requires c κs =
-    let loop = c .before .before .loop in
-    (making-head _ (c .before .loop-test .taken) (loop .inv), omega (arith, div-le-self (loop .j) (loop .rest / c .width .result), loop .inv .low, loop .inv .few))
+    let loop = c .before .before .loop in (
+      making-head _ (c .before .loop-test .taken) (loop .inv),
+      omega (arith, div-le-self (loop .j) (loop .rest / c .width .result), loop .inv .low, loop .inv .few),
+    )
 
 mul-z : tie.Need-mul-z Inv-loop μ-loop
 mul-z c = search needs
 
 array-set-from-z : tie.Need-array-set-from-z Inv-loop μ-loop
 array-set-from-z c =
-    let inv = c .before .before .before .loop .inv in
+    let at-loop = c .before .before .before in
+    let inv = at-loop .loop .inv in
     omega (arith, inv .whole, inv .four, c .before .before .loop-test .taken)
 
 rem-j : tie.Need-rem-j Inv-loop μ-loop
-rem-j c = rw (c .before .width .ensures .0) (rest-some _ (c .before .before .loop-test .taken) (c .before .before .before .loop .inv))
+rem-j c =
+    let at-loop = c .before .before .before in
+    rw (c .before .width .ensures .0) (rest-some _ (c .before .before .loop-test .taken) (at-loop .loop .inv))
 
 add-p-2 : tie.Need-add-p-2 Inv-loop μ-loop
-add-p-2 c = omega (arith, making-head _ (c .before .before .loop-test .taken) (c .before .before .before .loop .inv) .there)
+add-p-2 c =
+    let at-loop = c .before .before .before in
+    omega (arith, making-head _ (c .before .before .loop-test .taken) (at-loop .loop .inv) .there)
 
 add-k : tie.Need-add-k Inv-loop μ-loop
 add-k c =
-    let inv = c .before .before .before .loop .inv in
+    let at-loop = c .before .before .before in
+    let inv = at-loop .loop .inv in
     omega (arith, inv .whole, inv .four)
 
 sub-left : tie.Need-sub-left Inv-loop μ-loop
@@ -91,9 +99,10 @@ loop-less c = search needs
 
 loop-again : tie.Need-loop-again Inv-loop μ-loop
 loop-again c =
+    let at-loop = c .before .before .before in
     let taken = c .before .before .loop-test .taken in
     let width = c .before .width .ensures .0 in
-    rw width (making-more _ taken (c .before .before .before .loop .inv) (c .nth .result) (rw width at (c .nth .ensures)))
+    rw width (making-more _ taken (at-loop .loop .inv) (c .nth .result) (rw width at (c .nth .ensures)))
 
 returns : tie.Need-returns Inv-loop μ-loop
 returns c =
