@@ -67,15 +67,20 @@ module _ (bs tab : List ℕ) (v i : ℕ) (h : VariableLaid bs tab v) (low : i < 
     in-domain : inDomain (variable (sheetOf bs) v) point ≡ meetsAll (variable (sheetOf bs) v .declared) point
     in-domain = ap (λ b. b && meetsAll (variable (sheetOf bs) v .declared) point) in-box
 
-    pub byte-asks : getD inside (getD tab (32 + v) 0 + i) 0 ≡ 1 → standing (variable (sheetOf bs) v .body) (sheetOf bs) point ≡ bodyStanding (sheetOf bs) v point
-    byte-asks one = sym (ap (λ b. ifb b (λ _. standing (variable (sheetOf bs) v .body) (sheetOf bs) point) (λ _. Holds)) (go (inDomain (variable (sheetOf bs) v) point) in-domain))
+    pub byte-asks : getD inside (getD tab (32 + v) 0 + i) 0 ≡ 1 →
+        standing (variable (sheetOf bs) v .body) (sheetOf bs) point ≡ bodyStanding (sheetOf bs) v point
+    byte-asks one =
+        sym (ap (λ b. ifb b (λ _. standing (variable (sheetOf bs) v .body) (sheetOf bs) point) (λ _. Holds))
+        (go (inDomain (variable (sheetOf bs) v) point) in-domain))
       where
         go : (b : Bool) → b ≡ meetsAll (variable (sheetOf bs) v .declared) point → b ≡ true
         go true e = refl
         go false e = let f : bit false ≡ 1 = rw (← e) at (sym byte-is ∙ one) in absurd (omega arith)
 
     pub byte-skips : (getD inside (getD tab (32 + v) 0 + i) 0 ≡ 1 → ⊥) → Holds ≡ bodyStanding (sheetOf bs) v point
-    byte-skips other = sym (ap (λ b. ifb b (λ _. standing (variable (sheetOf bs) v .body) (sheetOf bs) point) (λ _. Holds)) (go (inDomain (variable (sheetOf bs) v) point) in-domain))
+    byte-skips other =
+        sym (ap (λ b. ifb b (λ _. standing (variable (sheetOf bs) v .body) (sheetOf bs) point) (λ _. Holds))
+        (go (inDomain (variable (sheetOf bs) v) point) in-domain))
       where
         go : (b : Bool) → b ≡ meetsAll (variable (sheetOf bs) v .declared) point → b ≡ false
         go true e = let f : getD inside (getD tab (32 + v) 0 + i) 0 ≡ 1 = byte-is ∙ ap bit (sym e) in absurd (other f)

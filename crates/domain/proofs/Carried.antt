@@ -153,7 +153,9 @@ module _ (bs : List ℕ) where
       held-image m r y is =
           let x = imaged in
           let map-is = r .is (x .by) (p + nodeLen bs p) (x .fields .read) in
-          let cols = eqb-true (x .by .cols) (h .dims) (&&-left (eqb (x .by .cols) (h .dims)) (fits (x .child) (headsOf bs) (length (x .by .rows))) fit-imaged) in
+          let cols =
+          eqb-true (x .by .cols) (h .dims)
+          (&&-left (eqb (x .by .cols) (h .dims)) (fits (x .child) (headsOf bs) (length (x .by .rows))) fit-imaged) in
           let point : pointOf (length (x .by .rows)) y ≡ image (x .by .rows) (pointOf (h .dims) z) =
           rw (height-length m map-is, width-cols m map-is, cols) at (is ∙ ap (λ w. image (w .rows) (pointOf (m .width) z)) map-is) in
           record {

@@ -110,9 +110,14 @@ module _ (s : Sheet) (v : ℕ) where
       body-passes t =
           let e : suc i ≡ i + 1 = omega arith in
           let f : suc (before s v + i) ≡ before s v + suc i = omega arith in
-          let on = ap (λ a. next a (λ _. faults s (suc (before s v + i)) (elementsAt v (pointsFrom box (suc i) (size box - suc i))))) (clear-accepted how (before s v + i) t) in
+          let on =
+          ap (λ a. next a (λ _. faults s (suc (before s v + i)) (elementsAt v (pointsFrom box (suc i) (size box - suc i)))))
+          (clear-accepted how (before s v + i) t) in
           let all = rw f at (sym (one ∙ on) ∙ h .decides) in
-          record { decides = subst (λ j. faults s (before s v + j) (elementsAt v (pointsFrom box j (size box - j))) ≡ faults s (before s v) (elementsOf s v)) e all }
+          record {
+            decides =
+                subst (λ j. faults s (before s v + j) (elementsAt v (pointsFrom box j (size box - j))) ≡ faults s (before s v) (elementsOf s v)) e all;
+          }
 
 -- ---- all variables
 
@@ -140,7 +145,8 @@ module _ (s : Sheet) where
     all-end l = sym (ap (λ t. faults s (before s v) (elementsFrom v t)) (drop-of-length-le s l)) ∙ h .decides
 
     module _ (low : v < length s) where
-      variable-first : faults s (before s v) (elementsFrom v (drop v s)) ≡ next (faults s (before s v) (elementsOf s v)) (λ _. faults s (before s (suc v)) (elementsFrom (suc v) (drop (suc v) s)))
+      variable-first : faults s (before s v) (elementsFrom v (drop v s))
+          ≡ next (faults s (before s v) (elementsOf s v)) (λ _. faults s (before s (suc v)) (elementsFrom (suc v) (drop (suc v) s)))
       unfolding elementsFrom
       variable-first =
           let n : before s v + length (elementsOf s v) ≡ before s (suc v) =

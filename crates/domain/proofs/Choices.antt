@@ -178,12 +178,15 @@ module _ (bs : List ℕ) (p left count : ℕ) (z : List Int) (some : 1 ≤ count
 
 -- ---- a case
 
-module _ (bs : List ℕ) (p left count : ℕ) (z : List Int) (w : Walk bs p left z) (code : natAbs (field bs p) ≡ 6) (many : count ≡ natAbs (field bs (p + 8))) where
+module _ (bs : List ℕ) (p left count : ℕ) (z : List Int) (w : Walk bs p left z) (code : natAbs (field bs p) ≡ 6)
+    (many : count ≡ natAbs (field bs (p + 8))) where
   other : (c : ℕ) → (c ≡ 6 → ⊥) → natAbs (field bs p) ≡ c → ⊥
   other c ne e = ne (sym e ∙ code)
 
   long : 16 ≡ nodeLen bs p
-  long = length-other (varsOf bs) bs p (standing-noded (varsOf bs) bs p left (walk-standing bs p left z w)) (other 5 (λ e. omega arith)) (other 7 (λ e. omega arith)) (other 8 (λ e. omega arith))
+  long =
+      length-other (varsOf bs) bs p (standing-noded (varsOf bs) bs p left (walk-standing bs p left z w)) (other 5 (λ e. omega arith))
+      (other 7 (λ e. omega arith)) (other 8 (λ e. omega arith))
 
   counted : (nd : Node) (q : ℕ) → node (varsOf bs) bs p ≡ got nd q → count ≡ arity nd
   counted nd q read = many ∙ arity-case-is (varsOf bs) bs p nd q read code
@@ -203,7 +206,8 @@ module _ (bs : List ℕ) (p left count : ℕ) (z : List Int) (w : Walk bs p left
   module _ (h : Held bs p z) (c : Choice) (r : TakesOf bs (p + 16) (left - 1) count z c) where
     taken : (es : Exprs) (q n : ℕ) → At (kase es) (varsOf bs) bs p q → fits (kase es) (headsOf bs) n ≡ true → Taken bs es q n z c
     taken es q n a f =
-        r .says es q n (children-at (varsOf bs) bs p 16 count long counted (kase es) q a) (children-counted (varsOf bs) bs p 16 count long counted (kase es) q a)
+        r .says es q n (children-at (varsOf bs) bs p 16 count long counted (kase es) q a)
+        (children-counted (varsOf bs) bs p 16 count long counted (kase es) q a)
         (children-fit bs p (kase es) q n a (other 8 (λ e. omega arith)) f) (held-some (held-tree bs p z h (kase es) q n a f))
       where
         held-some : holds (kase es) (sheetOf bs) (pointOf n z) ≡ true → someHolds es (sheetOf bs) (pointOf n z) ≡ true

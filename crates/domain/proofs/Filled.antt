@@ -63,12 +63,14 @@ module _ (bs : List ℕ) (p v : ℕ) (z : Point) (d : Declared) (q : ℕ) (e : d
 meets-more : (v : ℕ) (z : Point) (d : Declared) (ds : List Declared) → meetsAll (ofVariable v (d ∷ ds)) z ≡ declaredMeets v d z && meetsAll (ofVariable v ds) z
 meets-more v z d ds = go (eqb (d .who) v)
   where
-    go : (b : Bool) → meetsAll (ifb b (λ _. d .what ∷ ofVariable v ds) (λ _. ofVariable v ds)) z ≡ ifb b (λ _. meets (d .what) z) (λ _. true) && meetsAll (ofVariable v ds) z
+    go : (b : Bool) → meetsAll (ifb b (λ _. d .what ∷ ofVariable v ds) (λ _. ofVariable v ds)) z
+        ≡ ifb b (λ _. meets (d .what) z) (λ _. true) && meetsAll (ofVariable v ds) z
     go true = refl
     go false = refl
 
 -- of constraints that pass REACH, the first does if it is v's, and the others do
-reach-first : (v : ℕ) (d : Declared) (ds : List Declared) → allReach topReach (ofVariable v (d ∷ ds)) ≡ true → d .who ≡ v → rowReach topReach (d .what .row) ≤ limit
+reach-first : (v : ℕ) (d : Declared) (ds : List Declared) → allReach topReach (ofVariable v (d ∷ ds)) ≡ true → d .who ≡ v →
+    rowReach topReach (d .what .row) ≤ limit
 reach-first v d ds h w =
     let x : eqb (d .who) v ≡ true = eq-eqb (d .who) v w in
     leb-true _ _ (&&-left (leb (rowReach topReach (d .what .row)) limit) (allReach topReach (ofVariable v ds)) (rw x at h))
@@ -92,7 +94,8 @@ module _ (bs : List ℕ) (v : ℕ) (z : List Int) where
     pub reaches : allReach topReach (ofVariable v rest) ≡ true
     pub decides : meetsAll (ofVariable v rest) point ≡ meetsAll (variable (sheetOf bs) v .declared) point
 
-  pub meets-left : (tab : List ℕ) → Formed bs tab → v < varsOf bs → (left p : ℕ) → left ≡ natAbs (field bs (rawOf bs .second)) → p ≡ rawOf bs .second + 8 → MeetsLeft left p
+  pub meets-left : (tab : List ℕ) → Formed bs tab → v < varsOf bs → (left p : ℕ) → left ≡ natAbs (field bs (rawOf bs .second)) →
+      p ≡ rawOf bs .second + 8 → MeetsLeft left p
   meets-left tab f lt left p l e =
       let s = prepared-sections bs tab (f .placed .prepared) in
       let n : length (rawOf bs .decls) ≡ left = sym (l ∙ ap natAbs (s .declared-count)) in
@@ -180,7 +183,8 @@ module _ (bs : List ℕ) (v : ℕ) (z : List Int) where
 -- a later variable's first element comes no earlier
 before-more : (s : Sheet) (w v : ℕ) → w ≤ v → v ≤ length s → before s w ≤ before s v
 before-more s w zero l k = let e : w ≡ 0 = omega arith in rw e (omega arith)
-before-more s w (suc v) l k = ⊎-elim (λ h. omega (arith, before-more s w v (omega arith) (omega arith), before-suc s v (omega arith))) (λ h. same h) (lt-or-le w (suc v))
+before-more s w (suc v) l k = ⊎-elim (λ h. omega (arith, before-more s w v (omega arith) (omega arith), before-suc s v (omega arith))) (λ h. same h)
+    (lt-or-le w (suc v))
   where
     same : suc v ≤ w → before s w ≤ before s (suc v)
     same h = let e : w ≡ suc v = omega arith in rw e (omega arith)
@@ -234,7 +238,8 @@ module _ (s : Sheet) (v : ℕ) where
       mine : (z : Point) → inBox box z ≡ true → getD inside (numberOf s v z) 0 ≡ bit (meetsAll (variable s v .declared) z)
       mine z b = h .here (index box z) (omega (arith, index-low box z b)) ∙ ap (λ y. bit (meetsAll (variable s v .declared) y)) (pointAt-index box z b)
 
-      own : (w : ℕ) (z : Point) → w < v + 1 → v ≤ w → inBox (variable s w .head .box) z ≡ true → getD inside (numberOf s w z) 0 ≡ bit (meetsAll (variable s w .declared) z)
+      own : (w : ℕ) (z : Point) → w < v + 1 → v ≤ w → inBox (variable s w .head .box) z ≡ true →
+          getD inside (numberOf s w z) 0 ≡ bit (meetsAll (variable s w .declared) z)
       own w z lt l b =
           let e : v ≡ w = omega arith in
           subst (λ u. inBox (variable s u .head .box) z ≡ true → getD inside (numberOf s u z) 0 ≡ bit (meetsAll (variable s u .declared) z)) e (mine z) b

@@ -67,7 +67,8 @@ module _ (bs tab : List ℕ) (v : ℕ) (z : List Int) (h : VariableLaid bs tab v
 
   -- off the box it does not hold
   pub off-stands : Off ≡ numberIn (boxOf bs (getD tab v 0)) (pointOf (dimensionAt bs (getD tab v 0)) z) → Not ≡ standing (var v) (sheetOf bs) point
-  off-stands e = sym (variable-rated ∙ ap (λ b. rated (b && meetsAll (variable (sheetOf bs) v .declared) point) false) (off-outside box point (number-is Off e)))
+  off-stands e =
+      sym (variable-rated ∙ ap (λ b. rated (b && meetsAll (variable (sheetOf bs) v .declared) point) false) (off-outside box point (number-is Off e)))
 
   module _ (i : ℕ) (e : At i ≡ numberIn (boxOf bs (getD tab v 0)) (pointOf (dimensionAt bs (getD tab v 0)) z)) where
     numbered : Numbered box point i
@@ -97,6 +98,7 @@ module _ (bs tab : List ℕ) (v : ℕ) (z : List Int) (h : VariableLaid bs tab v
       pub byte-not : (getD inside (getD tab (32 + v) 0 + i) 0 ≡ 1 → ⊥) → Not ≡ standing (var v) (sheetOf bs) point
       byte-not other = go (meetsAll (variable (sheetOf bs) v .declared) point) refl byte-is
         where
-          go : (b : Bool) → meetsAll (variable (sheetOf bs) v .declared) point ≡ b → getD inside (getD tab (32 + v) 0 + i) 0 ≡ bit b → Not ≡ standing (var v) (sheetOf bs) point
+          go : (b : Bool) → meetsAll (variable (sheetOf bs) v .declared) point ≡ b → getD inside (getD tab (32 + v) 0 + i) 0 ≡ bit b →
+              Not ≡ standing (var v) (sheetOf bs) point
           go true m k = absurd (other k)
           go false m k = sym (by-byte false m)

@@ -45,7 +45,8 @@ range-same : {a b x y : ℤ} → a ≡ b → x ≡ y → _≡_ {A = Range} (reco
 range-same e f = rw (e, f)
 
 -- the ranges of a box, where each stands
-box-fields : (bs : List ℕ) (box : List Range) (p : ℕ) → ((i : ℕ) → i < length box → RangeAt bs (p + i * 16) (getD box i noRange)) → boxAt bs p (length box) ≡ box
+box-fields : (bs : List ℕ) (box : List Range) (p : ℕ) → ((i : ℕ) → i < length box → RangeAt bs (p + i * 16) (getD box i noRange)) →
+    boxAt bs p (length box) ≡ box
 unfolding boxAt
 box-fields bs [] p h = refl
 box-fields bs (r ∷ rs) p h =

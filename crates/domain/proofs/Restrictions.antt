@@ -40,7 +40,9 @@ use Rattle.domain.proofs.Walks.{code-field}
 -- ---- what the fields say
 
 row-is : (n : ℕ) (bs : List ℕ) (p : ℕ) (w : Row) → RowAt n bs p w → w ≡ rowFields n bs p
-row-is n bs p w h = row-same (ext-getD (pos 0) (w .coefs) (several n (λ i. field bs (p + 8 * i))) (h .width ∙ sym (length-several n (λ i. field bs (p + 8 * i)))) each) (h .constant)
+row-is n bs p w h =
+    row-same (ext-getD (pos 0) (w .coefs) (several n (λ i. field bs (p + 8 * i))) (h .width ∙ sym (length-several n (λ i. field bs (p + 8 * i))))
+    each) (h .constant)
   where
     each : (i : ℕ) → i < length (w .coefs) → getD (w .coefs) i (pos 0) ≡ getD (several n (λ i. field bs (p + 8 * i))) i (pos 0)
     each i lt = let l : i < n = omega (arith, h .width) in h .coef i l ∙ sym (getD-several n (λ i. field bs (p + 8 * i)) (pos 0) i l)
@@ -62,8 +64,11 @@ constraint-testable n bs p c h few bound z near k = record {
 }
 
 -- a row of n coefficients that is w, with zeros beyond
-pub neat-small : (n : ℕ) (r : Coded) (z : List Int) → NeatRow n r → (w : Row) → rowOf n r ≡ w → rowSize w (pointOf n z) < 2 ^ 63 → rowSize (rowOf 4 r) (pointOf 4 z) < 2 ^ 63
-neat-small n r z h w e k = let l : rowSize (rowOf n r) (pointOf n z) < 2 ^ 63 = subst (λ x. rowSize x (pointOf n z) < 2 ^ 63) (sym e) k in omega (arith, rowSize-neat n r h z)
+pub neat-small : (n : ℕ) (r : Coded) (z : List Int) → NeatRow n r → (w : Row) → rowOf n r ≡ w → rowSize w (pointOf n z) < 2 ^ 63 →
+    rowSize (rowOf 4 r) (pointOf 4 z) < 2 ^ 63
+neat-small n r z h w e k =
+    let l : rowSize (rowOf n r) (pointOf n z) < 2 ^ 63 = subst (λ x. rowSize x (pointOf n z) < 2 ^ 63) (sym e) k in
+    omega (arith, rowSize-neat n r h z)
 
 -- ---- one after another
 
@@ -110,7 +115,8 @@ module _ (bs : List ℕ) (p n k : ℕ) (z : Point) (some : 0 < k) where
   pub testable-rest : AllTestable k bs p n z → AllTestable (k - 1) bs (p + (16 + 8 * n)) n z
   testable-rest h = split (k - 1) (omega arith) h .1
 
-  first-rest : (j : ℕ) → k ≡ suc j → meetsAll (constraintsFields k n bs p) z ≡ meets (constraintFields n bs p) z && meetsAll (constraintsFields j n bs (p + (16 + 8 * n))) z
+  first-rest : (j : ℕ) → k ≡ suc j → meetsAll (constraintsFields k n bs p) z
+      ≡ meets (constraintFields n bs p) z && meetsAll (constraintsFields j n bs (p + (16 + 8 * n))) z
   unfolding constraintsFields
   first-rest j e = ap (λ i. meetsAll (constraintsFields i n bs p) z) e
 

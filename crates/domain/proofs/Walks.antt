@@ -88,7 +88,8 @@ module _ (bs : List ℕ) where
             many = children-counted (varsOf bs) bs p k n long many e (h .end) (h .at);
             fitting = children-fit p e (h .end) (h .dims) (h .at) c (h .fitting);
             reaches = rw (same .1) at
-                (&&-right (reachHere (nodeOf e) (h .bound)) (reachAll (childrenOf e) (reachBelow (nodeOf e) (h .bound))) (sym (reach-children e (h .bound)) ∙ h .reaches));
+                (&&-right (reachHere (nodeOf e) (h .bound)) (reachAll (childrenOf e) (reachBelow (nodeOf e) (h .bound)))
+                (sym (reach-children e (h .bound)) ∙ h .reaches));
             point = h .point;
           }
 
@@ -129,7 +130,8 @@ module _ (bs : List ℕ) where
         dims-are : m .width ≡ h .dims
         dims-are =
             width-cols m map-is
-            ∙ eqb-true (below .by .cols) (h .dims) (&&-left (eqb (below .by .cols) (h .dims)) (fits (below .child) (headsOf bs) (length (below .by .rows))) fit-below)
+            ∙ eqb-true (below .by .cols) (h .dims)
+            (&&-left (eqb (below .by .cols) (h .dims)) (fits (below .child) (headsOf bs) (length (below .by .rows))) fit-below)
 
         -- the image can be computed
         pub image-fits : Fit m z

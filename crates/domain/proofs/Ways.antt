@@ -35,7 +35,8 @@ use Rattle.domain.specs.declared.Standing.the-variants.{Not, Holds, Clas
 use Rattle.domain.specs.declared.Stood.{Stood}
 use Rattle.domain.specs.Standing.{rated, standing, joined, alone, together, StandsAt, StandTogether}
 use Rattle.domain.specs.Constraints.{restrictionMet}
-use Rattle.domain.proofs.Standings.{joined-alone, joined-assoc, alone-joined, operands-stand, branches-stand, restriction-stands, restriction-not, dependence-stands}
+use Rattle.domain.proofs.Standings.{joined-alone, joined-assoc, alone-joined, operands-stand, branches-stand, restriction-stands}
+use Rattle.domain.proofs.Standings.{restriction-not, dependence-stands}
 use Rattle.domain.proofs.Walks.{tree-code, code-field, children-fit}
 use Rattle.domain.proofs.Restrictions.{restriction-says}
 
@@ -54,7 +55,8 @@ leaf-end vars bs (restr d cs a) p q h l = absurd (omega arith)
 leaf-end vars bs (dep f a) p q h l = absurd (omega arith)
 
 -- a constant holds at the one point of dimension 0
-constant-stands : (s : Sheet) (hs : List Head) (z : List Int) (e : Expr) (n : ℕ) → 1 ≤ codeNumber e → codeNumber e ≤ 2 → fits e hs n ≡ true → Holds ≡ standing e s (pointOf n z)
+constant-stands : (s : Sheet) (hs : List Head) (z : List Int) (e : Expr) (n : ℕ) → 1 ≤ codeNumber e → codeNumber e ≤ 2 → fits e hs n ≡ true →
+    Holds ≡ standing e s (pointOf n z)
 unfolding fits holds clashes
 constant-stands s hs z (var v) n l h f = absurd (omega arith)
 constant-stands s hs z (int c) n l h f = rw (← eqb-true 0 n f) refl
@@ -128,7 +130,8 @@ module _ (bs : List ℕ) (p k : ℕ) (z : List Int) (long : k ≡ nodeLen bs p) 
       )
 
   -- a dependence, whose map is m and whose image is y
-  pub image-way : (m : Map) (y : List Int) (r : Stood) → natAbs (field bs p) ≡ 8 → MapRead bs (p + 8) m → pointOf (m .height) y ≡ image (mapOf m .rows) (pointOf (m .width) z) →
+  pub image-way : (m : Map) (y : List Int) (r : Stood) → natAbs (field bs p) ≡ 8 → MapRead bs (p + 8) m →
+      pointOf (m .height) y ≡ image (mapOf m .rows) (pointOf (m .width) z) →
       StandsAt bs (p + k) y r → StandsAt bs p z r
   image-way m y r code read is t e q n h f =
       let x = at-dep (varsOf bs) bs e p q h (code-field bs p e q 8 h code) in
@@ -176,7 +179,8 @@ module _ (bs : List ℕ) (p k : ℕ) (z : List Int) (long : k ≡ nodeLen bs p) 
         let a = t (x .child) q n (subst (λ i. At (x .child) (varsOf bs) bs (p + i) q) (sym long) (x .below)) g in
         (a .0, a .1 ∙ sym (restriction-stands (sheetOf bs) (pointOf n z) (x .dim) (x .given) (x .child) (sym (met-is e q n h f) ∙ held)) ∙ back e q n h f)
 
-    pub restriction-off-way : (next : ℕ) → met ≡ false → ((e : Expr) (q : ℕ) → At e (varsOf bs) bs p q → next ≡ q) → StandsAt bs p z (record { how = Not; next = next })
+    pub restriction-off-way : (next : ℕ) → met ≡ false → ((e : Expr) (q : ℕ) → At e (varsOf bs) bs p q → next ≡ q) →
+        StandsAt bs p z (record { how = Not; next = next })
     restriction-off-way next fails skipped e q n h f =
         let x = here e q n h f in
         (skipped e q h, sym (restriction-not (sheetOf bs) (pointOf n z) (x .dim) (x .given) (x .child) (sym (met-is e q n h f) ∙ fails)) ∙ back e q n h f)
@@ -191,7 +195,8 @@ module _ (bs : List ℕ) (p count : ℕ) (z : List Int) (branches : Bool) (sofar
       (x .end, sym (joined-alone branches sofar) ∙ ap (λ t. joined branches sofar (together branches t (sheetOf bs) (pointOf n z))) (sym (x .is)))
 
   -- the first, and then the others from where it ends
-  pub more-way : 1 ≤ count → (first r : Stood) → StandsAt bs p z first → StandTogether bs (first .next) (count - 1) z branches (joined branches sofar (first .how)) r →
+  pub more-way : 1 ≤ count → (first r : Stood) → StandsAt bs p z first →
+      StandTogether bs (first .next) (count - 1) z branches (joined branches sofar (first .how)) r →
       StandTogether bs p count z branches sofar r
   unfolding together
   more-way some first r t rest es q n h m f =

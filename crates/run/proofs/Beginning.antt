@@ -38,7 +38,8 @@ use Rattle.run.specs.Starting.{codeFrom, valueFrom, startCode, entryPlac
 -- ---- by the byte
 
 module _ (memo : Memo) (e : ℕ) (input : Bool) (byte : ℕ) (ins : List ℤ) (i : ℕ) where
-  noted-same : (c : ℕ) (x : ℤ) → c ≡ codeFrom input byte → x ≡ valueFrom input byte ins i → noted memo e c x ≡ noted memo e (codeFrom input byte) (valueFrom input byte ins i)
+  noted-same : (c : ℕ) (x : ℤ) → c ≡ codeFrom input byte → x ≡ valueFrom input byte ins i →
+      noted memo e c x ≡ noted memo e (codeFrom input byte) (valueFrom input byte ins i)
   noted-same c x f g = rw (f, g)
 
   pub outside-noted : (byte ≡ 1 → ⊥) → noted memo e 0 (pos 0) ≡ noted memo e (codeFrom input byte) (valueFrom input byte ins i)
@@ -93,7 +94,8 @@ started-none s ins = record {
 
 -- ---- one element more
 
-module _ (bs tab : List ℕ) (v i : ℕ) (h : VariableLaid bs tab v) (low : i < size (variable (sheetOf bs) v .head .box)) (inside : List ℕ) (I : Inside (sheetOf bs) inside) where
+module _ (bs tab : List ℕ) (v i : ℕ) (h : VariableLaid bs tab v) (low : i < size (variable (sheetOf bs) v .head .box)) (inside : List ℕ)
+    (I : Inside (sheetOf bs) inside) where
   abbrev sheet : Sheet
   sheet = sheetOf bs
 
@@ -115,14 +117,18 @@ module _ (bs tab : List ℕ) (v i : ℕ) (h : VariableLaid bs tab v) (low : i < 
       rw n at (I .says v (pointAt box i) (h .known) in-box)
 
   code-is : codeFrom (isInput (variable sheet v)) (getD inside e 0) ≡ startCode sheet (elementAt sheet e)
-  code-is = ap (codeFrom (isInput (variable sheet v))) byte-is ∙ go (meetsAll (variable sheet v .declared) (pointAt box i)) refl ∙ ap (startCode sheet) (sym element-is)
+  code-is =
+      ap (codeFrom (isInput (variable sheet v))) byte-is ∙ go (meetsAll (variable sheet v .declared) (pointAt box i)) refl
+      ∙ ap (startCode sheet) (sym element-is)
     where
-      go : (b : Bool) → meetsAll (variable sheet v .declared) (pointAt box i) ≡ b → codeFrom (isInput (variable sheet v)) (bit b) ≡ startCode sheet (record { who = v; at = pointAt box i })
+      go : (b : Bool) → meetsAll (variable sheet v .declared) (pointAt box i) ≡ b →
+          codeFrom (isInput (variable sheet v)) (bit b) ≡ startCode sheet (record { who = v; at = pointAt box i })
       go true m = sym (ifb-true (inDomain (variable sheet v) (pointAt box i)) _ _ (rw (in-box, m) refl))
       go false m = sym (ifb-false (inDomain (variable sheet v) (pointAt box i)) _ _ (rw (in-box, m) refl))
 
   -- an input's value is its entry
-  value-is : (ins : List ℤ) (input : Bool) (byte : ℕ) → codeFrom input byte ≡ 1 → valueFrom input byte ins (inputsBefore sheet v + i) ≡ getD ins (entryPlace sheet (elementAt sheet e)) (pos 0)
+  value-is : (ins : List ℤ) (input : Bool) (byte : ℕ) → codeFrom input byte ≡ 1 →
+      valueFrom input byte ins (inputsBefore sheet v + i) ≡ getD ins (entryPlace sheet (elementAt sheet e)) (pos 0)
   value-is ins input byte c = go (eqb byte 1) input c ∙ ap (λ n. getD ins n (pos 0)) place
     where
       place : inputsBefore sheet v + i ≡ entryPlace sheet (elementAt sheet e)
@@ -165,7 +171,8 @@ module _ (bs tab : List ℕ) (v i : ℕ) (h : VariableLaid bs tab v) (low : i < 
           (λ is. rw is (code-same memo e code number in-codes ∙ ap (λ b. codeFrom b (getD inside e 0)) same ∙ code-is))
           (λ other. code-other memo e code number m other ∙ S .code m (upto m l other));
       value = λ m l one. decide m e (ℕ-discrete m e)
-          (λ is. rw is (getD-set-same (memo .values) e number (pos 0) in-values ∙ value-is ins input (getD inside e 0) (sym (code-same memo e code number in-codes) ∙ rw is at one)))
+          (λ is. rw is (getD-set-same (memo .values) e number (pos 0) in-values
+          ∙ value-is ins input (getD inside e 0) (sym (code-same memo e code number in-codes) ∙ rw is at one)))
           (λ other.
           getD-set-other (memo .values) e m number (pos 0) other
           ∙ S .value m (upto m l other) (sym (code-other memo e code number m other) ∙ one));

@@ -34,13 +34,15 @@ pub before-step : (s : Sheet) (v : ℕ) → v < length s → inputsBefore s (suc
 before-step [] v h = absurd (omega arith)
 before-step (x ∷ s) zero h = go (isInput x)
   where
-    go : (b : Bool) → ifb b (λ _. size (x .head .box) + inputsBefore s 0) (λ _. inputsBefore s 0) ≡ inputsBefore (x ∷ s) 0 + ifb b (λ _. size (x .head .box)) (λ _. 0)
+    go : (b : Bool) → ifb b (λ _. size (x .head .box) + inputsBefore s 0) (λ _. inputsBefore s 0)
+        ≡ inputsBefore (x ∷ s) 0 + ifb b (λ _. size (x .head .box)) (λ _. 0)
     go true = omega arith
     go false = omega arith
 before-step (x ∷ s) (suc v) h = go (isInput x) (before-step s v (omega arith))
   where
     go : (b : Bool) → inputsBefore s (suc v) ≡ inputsBefore s v + inputSize s v →
-        ifb b (λ _. size (x .head .box) + inputsBefore s (suc v)) (λ _. inputsBefore s (suc v)) ≡ ifb b (λ _. size (x .head .box) + inputsBefore s v) (λ _. inputsBefore s v) + inputSize s v
+        ifb b (λ _. size (x .head .box) + inputsBefore s (suc v)) (λ _. inputsBefore s (suc v))
+        ≡ ifb b (λ _. size (x .head .box) + inputsBefore s v) (λ _. inputsBefore s v) + inputSize s v
     go true e = omega (arith, e)
     go false e = e
 
@@ -49,7 +51,8 @@ before-all [] = refl
 before-all (x ∷ s) = go (isInput x) (before-all s)
   where
     go : (b : Bool) → inputsBefore s (length s) ≡ inputCount s →
-        ifb b (λ _. size (x .head .box) + inputsBefore s (length s)) (λ _. inputsBefore s (length s)) ≡ ifb b (λ _. size (x .head .box) + inputCount s) (λ _. inputCount s)
+        ifb b (λ _. size (x .head .box) + inputsBefore s (length s)) (λ _. inputsBefore s (length s))
+        ≡ ifb b (λ _. size (x .head .box) + inputCount s) (λ _. inputCount s)
     go true e = omega (arith, e)
     go false e = e
 
@@ -110,13 +113,19 @@ module _ (s : Sheet) (v : ℕ) where
     entries-none e = sym (ifb-false (isInput (variable s v)) _ _ e)
 
     pub entries-integer : isInput (variable s v) ≡ true → variable s v .head .sort ≡ integer → accepted tt ≡ entriesAt s ins v
-    entries-integer e t = sym (ifb-true (isInput (variable s v)) _ _ e ∙ ap (λ k. entriesOf k (inputsBefore s v) (take (size (variable s v .head .box)) (drop (inputsBefore s v) ins))) t)
+    entries-integer e t =
+        sym (ifb-true (isInput (variable s v)) _ _ e
+        ∙ ap (λ k. entriesOf k (inputsBefore s v) (take (size (variable s v .head .box)) (drop (inputsBefore s v) ins))) t)
 
-    pub entries-boolean : isInput (variable s v) ≡ true → variable s v .head .sort ≡ boolean → bits (inputsBefore s v) (take (size (variable s v .head .box)) (drop (inputsBefore s v) ins)) ≡ entriesAt s ins v
-    entries-boolean e t = sym (ifb-true (isInput (variable s v)) _ _ e ∙ ap (λ k. entriesOf k (inputsBefore s v) (take (size (variable s v .head .box)) (drop (inputsBefore s v) ins))) t)
+    pub entries-boolean : isInput (variable s v) ≡ true → variable s v .head .sort ≡ boolean →
+        bits (inputsBefore s v) (take (size (variable s v .head .box)) (drop (inputsBefore s v) ins)) ≡ entriesAt s ins v
+    entries-boolean e t =
+        sym (ifb-true (isInput (variable s v)) _ _ e
+        ∙ ap (λ k. entriesOf k (inputsBefore s v) (take (size (variable s v .head .box)) (drop (inputsBefore s v) ins))) t)
 
     -- the part of the list from a to b, where b is past the variable's entries
-    pub bits-entries : isInput (variable s v) ≡ true → variable s v .head .sort ≡ boolean → (a b : ℕ) → a ≡ inputsBefore s v → b ≡ a + size (variable s v .head .box) →
+    pub bits-entries : isInput (variable s v) ≡ true → variable s v .head .sort ≡ boolean → (a b : ℕ) → a ≡ inputsBefore s v →
+        b ≡ a + size (variable s v .head .box) →
         (r : Answer (Unit {0})) → r ≡ bits a (take (b - a) (drop a ins)) → r ≡ entriesAt s ins v
     bits-entries e t a b first last r is =
         let wide : b - a ≡ size (variable s v .head .box) = omega (arith, last) in
@@ -164,36 +173,47 @@ pub entries-start : (s : Sheet) (ins : List ℤ) → EntriesFrom s ins 0
 entries-start s ins = refl
 
 entries-cons : (s : Sheet) (v i : ℕ) (l : List ℤ) → v < length s → entries (drop v s) i l ≡
-    ifb (isInput (variable s v)) (λ _. next (entriesOf (variable s v .head .sort) i (take (size (variable s v .head .box)) l)) (λ _. entries (drop (suc v) s) (i + size (variable s v .head .box)) (drop (size (variable s v .head .box)) l)))
+    ifb (isInput (variable s v))
+    (λ _. next (entriesOf (variable s v .head .sort) i (take (size (variable s v .head .box)) l))
+    (λ _. entries (drop (suc v) s) (i + size (variable s v .head .box)) (drop (size (variable s v .head .box)) l)))
     (λ _. entries (drop (suc v) s) i l)
 unfolding entries
 entries-cons s v i l h = ap (λ t. entries t i l) (drop-cons s v noVariable h)
 
 -- one variable, and then the others
 entries-one : (s : Sheet) (ins : List ℤ) (v : ℕ) → v < length s →
-    entries (drop v s) (inputsBefore s v) (drop (inputsBefore s v) ins) ≡ next (entriesAt s ins v) (λ _. entries (drop (suc v) s) (inputsBefore s (suc v)) (drop (inputsBefore s (suc v)) ins))
+    entries (drop v s) (inputsBefore s v) (drop (inputsBefore s v) ins)
+    ≡ next (entriesAt s ins v) (λ _. entries (drop (suc v) s) (inputsBefore s (suc v)) (drop (inputsBefore s (suc v)) ins))
 entries-one s ins v h = entries-cons s v (inputsBefore s v) (drop (inputsBefore s v) ins) h ∙ go (isInput (variable s v)) refl
   where
     later : (i : ℕ) → inputsBefore s (suc v) ≡ inputsBefore s v + i → entries (drop (suc v) s) (inputsBefore s v + i) (drop i (drop (inputsBefore s v) ins)) ≡
         entries (drop (suc v) s) (inputsBefore s (suc v)) (drop (inputsBefore s (suc v)) ins)
-    later i e = ap (entries (drop (suc v) s) (inputsBefore s v + i)) (drop-drop i (inputsBefore s v) ins) ∙ ap (λ n. entries (drop (suc v) s) n (drop n ins)) (sym e)
+    later i e =
+        ap (entries (drop (suc v) s) (inputsBefore s v + i)) (drop-drop i (inputsBefore s v) ins)
+        ∙ ap (λ n. entries (drop (suc v) s) n (drop n ins)) (sym e)
 
     go : (b : Bool) → isInput (variable s v) ≡ b →
         ifb b (λ _. next (entriesOf (variable s v .head .sort) (inputsBefore s v) (take (size (variable s v .head .box)) (drop (inputsBefore s v) ins)))
-        (λ _. entries (drop (suc v) s) (inputsBefore s v + size (variable s v .head .box)) (drop (size (variable s v .head .box)) (drop (inputsBefore s v) ins))))
+        (λ _. entries (drop (suc v) s) (inputsBefore s v + size (variable s v .head .box))
+        (drop (size (variable s v .head .box)) (drop (inputsBefore s v) ins))))
         (λ _. entries (drop (suc v) s) (inputsBefore s v) (drop (inputsBefore s v) ins)) ≡
-        next (ifb b (λ _. entriesOf (variable s v .head .sort) (inputsBefore s v) (take (size (variable s v .head .box)) (drop (inputsBefore s v) ins))) (λ _. accepted tt))
+        next (ifb b (λ _. entriesOf (variable s v .head .sort) (inputsBefore s v)
+        (take (size (variable s v .head .box)) (drop (inputsBefore s v) ins))) (λ _. accepted tt))
         (λ _. entries (drop (suc v) s) (inputsBefore s (suc v)) (drop (inputsBefore s (suc v)) ins))
     go true e =
-        let n : inputsBefore s (suc v) ≡ inputsBefore s v + size (variable s v .head .box) = before-step s v h ∙ ap (λ k. inputsBefore s v + k) (sym (size-input s v e)) in
-        ap (λ r. next (entriesOf (variable s v .head .sort) (inputsBefore s v) (take (size (variable s v .head .box)) (drop (inputsBefore s v) ins))) (λ _. r)) (later (size (variable s v .head .box)) n)
+        let n : inputsBefore s (suc v) ≡ inputsBefore s v + size (variable s v .head .box) =
+        before-step s v h ∙ ap (λ k. inputsBefore s v + k) (sym (size-input s v e)) in
+        ap (λ r. next (entriesOf (variable s v .head .sort) (inputsBefore s v) (take (size (variable s v .head .box)) (drop (inputsBefore s v) ins)))
+        (λ _. r)) (later (size (variable s v .head .box)) n)
     go false e =
         let n : inputsBefore s (suc v) ≡ inputsBefore s v = omega (arith, before-step s v h, size-other s v e) in
         ap (λ i. entries (drop (suc v) s) i (drop i ins)) (sym n)
 
 module _ (s : Sheet) (ins : List ℤ) (v : ℕ) (h : v < length s) (inv : EntriesFrom s ins v) where
   failed : (n p : ℕ) → entriesAt s ins v ≡ refused n p → refused n p ≡ entries s 0 ins
-  failed n p e = sym (entries-one s ins v h ∙ ap (λ r. next r (λ _. entries (drop (suc v) s) (inputsBefore s (suc v)) (drop (inputsBefore s (suc v)) ins))) e) ∙ inv
+  failed n p e =
+      sym (entries-one s ins v h ∙ ap (λ r. next r (λ _. entries (drop (suc v) s) (inputsBefore s (suc v)) (drop (inputsBefore s (suc v)) ins))) e)
+      ∙ inv
 
   pub entries-fail : (r : Ruling) {why : Refusal} → r ≡ Refused why → ruled r ≡ entriesAt s ins v → ruled r ≡ entries s 0 ins
   entries-fail r {why} is e = ap ruled is ∙ failed (numberOf why) (placeOf why) (sym e ∙ ap ruled is)
@@ -231,6 +251,7 @@ module _ (s : Sheet) (ins : List ℤ) where
   unfolding inputs
   inputs-length h = go (eqb (length ins) (inputCount s)) refl h
     where
-      go : (b : Bool) → eqb (length ins) (inputCount s) ≡ b → ifb b (λ _. entries s 0 ins) (λ _. refused INPUT (inputCount s)) ≡ accepted tt → length ins ≡ inputCount s
+      go : (b : Bool) → eqb (length ins) (inputCount s) ≡ b → ifb b (λ _. entries s 0 ins) (λ _. refused INPUT (inputCount s)) ≡ accepted tt →
+          length ins ≡ inputCount s
       go true e q = eqb-true (length ins) (inputCount s) e
       go false e q = let x : _≡_ {A = ℕ} 0 1 = cc in absurd (omega arith)

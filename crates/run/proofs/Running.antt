@@ -87,7 +87,9 @@ module _ (bs : List ℕ) (ins : List ℤ) (codes : List ℕ) (values : List ℤ)
 
   module _ (s : Sheet) (is : check bs ≡ accepted s) where
     pub inputs-runs : (why : Refusal) → refused (numberOf why) (placeOf why) ≡ inputs s ins → Runs bs ins codes codes values values (Refused why)
-    inputs-runs why e = refused-runs (numberOf why) (placeOf why) (run-inputs bs ins (length codes) (length values) s is (numberOf why) (placeOf why) (sym e)) (Refused why) refl
+    inputs-runs why e =
+        refused-runs (numberOf why) (placeOf why) (run-inputs bs ins (length codes) (length values) s is (numberOf why) (placeOf why) (sym e))
+        (Refused why) refl
 
     -- the total that the check answered
     pub total-is : (n : ℕ) → accepted n ≡ totalOf (check bs) → n ≡ total s
@@ -100,7 +102,8 @@ module _ (bs : List ℕ) (ins : List ℤ) (codes : List ℕ) (values : List ℤ)
 
       pub values-runs : n ≤ length codes → length values < n → (r : Verdict) → told r ≡ refused ROOM n → Runs bs ins codes codes values values r
       values-runs h k r e =
-          refused-runs ROOM (total s) (run-values bs ins (length codes) (length values) s is (sym taken) (omega (arith, many)) (omega (arith, many))) r (e ∙ ap (refused ROOM) many)
+          refused-runs ROOM (total s) (run-values bs ins (length codes) (length values) s is (sym taken) (omega (arith, many)) (omega (arith, many)))
+          r (e ∙ ap (refused ROOM) many)
 
       -- ---- both tables
 
@@ -122,7 +125,14 @@ module _ (bs : List ℕ) (ins : List ℤ) (codes : List ℕ) (values : List ℤ)
             many-entries = length-map (elements s) f ∙ length-elements s
 
             whole : length new ≡ length (map f (elements s) ++ drop (length (map f (elements s))) old)
-            whole = omega (arith, long, many-entries, length-append (map f (elements s)) (drop (length (map f (elements s))) old), length-drop (length (map f (elements s))) old)
+            whole =
+                omega (
+                  arith,
+                  long,
+                  many-entries,
+                  length-append (map f (elements s)) (drop (length (map f (elements s))) old),
+                  length-drop (length (map f (elements s))) old,
+                )
 
             each : (m : ℕ) → m < length new → getD new m d ≡ getD (map f (elements s) ++ drop (length (map f (elements s))) old) m d
             each m l = go (decLt m (total s))

@@ -65,7 +65,8 @@ decoded-value (suc (suc zero)) x = refl
 decoded-value (suc (suc (suc zero))) x = refl
 decoded-value (suc (suc (suc (suc c)))) x = sym (ifb-false (eqb (suc (suc (suc (suc c)))) 1) _ _ (ne-eqb (suc (suc (suc (suc c)))) 1 (λ e. omega arith)))
 
-module _ (s : Sheet) (ins : List ℤ) (memo : Memo) (M : Ready s memo) (R : Right (outcomes s ins) (total s) memo) (m : ℕ) (lt : m < total s) (low : codeAt memo m ≤ 4) where
+module _ (s : Sheet) (ins : List ℤ) (memo : Memo) (M : Ready s memo) (R : Right (outcomes s ins) (total s) memo) (m : ℕ) (lt : m < total s)
+    (low : codeAt memo m ≤ 4) where
   outcome-is : outcomeAt s ins (elementAt s m) ≡ decoded (codeAt memo m) (valueAt memo m)
   outcome-is = go (codeAt memo m) refl low
     where
@@ -73,7 +74,9 @@ module _ (s : Sheet) (ins : List ℤ) (memo : Memo) (M : Ready s memo) (R : Righ
       few = omega (arith, count-few (memo .codes), M .codes-long)
 
       plain : (c : ℕ) → codeAt memo m ≡ c → c ≤ 3 → outcomeAt s ins (elementAt s m) ≡ decoded c (valueAt memo m)
-      plain c is l = later (outcomes s ins) (element-grows s ins) (total s) (count memo) deepest m c (valueAt memo m) few l (rw is at (R .settled m lt (omega (arith, is, l))))
+      plain c is l =
+          later (outcomes s ins) (element-grows s ins) (total s) (count memo) deepest m c (valueAt memo m) few l
+          (rw is at (R .settled m lt (omega (arith, is, l))))
 
       go : (c : ℕ) → codeAt memo m ≡ c → c ≤ 4 → outcomeAt s ins (elementAt s m) ≡ decoded c (valueAt memo m)
       go (suc (suc (suc (suc zero)))) is l = R .stuck m lt is deepest
@@ -111,11 +114,14 @@ module _ (s : Sheet) (v : ℕ) (memo : Memo) where
   abbrev stretch : ℕ
   stretch = size (variable s v .head .box)
 
-  pub fills-none : (codes : List ℕ) (values : List ℤ) → Ready s memo → Idle memo → length codes ≡ stretch → length values ≡ stretch → FillsBelow s v memo memo codes values 0
+  pub fills-none : (codes : List ℕ) (values : List ℤ) → Ready s memo → Idle memo → length codes ≡ stretch → length values ≡ stretch →
+      FillsBelow s v memo memo codes values 0
   fills-none codes values M I c w = record { advances = advances-none s memo M I; codes-long = c; values-long = w; shows = λ ins R j h. absurd (omega arith) }
 
-  pub fills-next : (memo′ memo″ : Memo) (codes : List ℕ) (values : List ℤ) (i : ℕ) → FillsBelow s v memo memo′ codes values i → i < stretch → before s v + i < total s →
-      Settled s (before s v + i) memo′ memo″ → (codes′ : List ℕ) (values′ : List ℤ) → codes′ ≡ set codes i (codeAt memo″ (before s v + i)) → values′ ≡ set values i (valueWith memo″ (before s v + i)) →
+  pub fills-next : (memo′ memo″ : Memo) (codes : List ℕ) (values : List ℤ) (i : ℕ) → FillsBelow s v memo memo′ codes values i → i < stretch →
+      before s v + i < total s →
+      Settled s (before s v + i) memo′ memo″ → (codes′ : List ℕ) (values′ : List ℤ) → codes′ ≡ set codes i (codeAt memo″ (before s v + i)) →
+      values′ ≡ set values i (valueWith memo″ (before s v + i)) →
       FillsBelow s v memo memo″ codes′ values′ (i + 1)
   fills-next memo′ memo″ codes values i F low lt S codes′ values′ ce ve = rw (ce, ve) (record {
     advances = advances-on s memo memo′ memo″ (F .advances) (advances-settled s (before s v + i) memo′ memo″ S);
@@ -125,8 +131,12 @@ module _ (s : Sheet) (v : ℕ) (memo : Memo) where
         (λ same.
         let R″ = S .right ins (F .advances .right ins R) in
         rw same (record {
-          code = getD-set-same codes i (codeAt memo″ (before s v + i)) 0 (omega (arith, F .codes-long)) ∙ settled-code s ins memo″ (S .ready) R″ (before s v + i) lt (S .settled);
-          value = getD-set-same values i (valueWith memo″ (before s v + i)) (pos 0) (omega (arith, F .values-long)) ∙ settled-value s ins memo″ (S .ready) R″ (before s v + i) lt (S .settled);
+          code =
+              getD-set-same codes i (codeAt memo″ (before s v + i)) 0 (omega (arith, F .codes-long))
+              ∙ settled-code s ins memo″ (S .ready) R″ (before s v + i) lt (S .settled);
+          value =
+              getD-set-same values i (valueWith memo″ (before s v + i)) (pos 0) (omega (arith, F .values-long))
+              ∙ settled-value s ins memo″ (S .ready) R″ (before s v + i) lt (S .settled);
         }))
         (λ other.
         let old = F .shows ins R j (under j h other) in
@@ -139,7 +149,8 @@ module _ (s : Sheet) (v : ℕ) (memo : Memo) where
       under : (j : ℕ) → j < i + 1 → (j ≡ i → ⊥) → j < i
       under j h n = omega (arith, n)
 
-  pub fills-whole : (memo′ : Memo) (codes : List ℕ) (values : List ℤ) (i : ℕ) → FillsBelow s v memo memo′ codes values i → stretch ≤ i → FillsVariable s v memo memo′ codes values
+  pub fills-whole : (memo′ : Memo) (codes : List ℕ) (values : List ℤ) (i : ℕ) → FillsBelow s v memo memo′ codes values i → stretch ≤ i →
+      FillsVariable s v memo memo′ codes values
   fills-whole memo′ codes values i F l =
       record { advances = F .advances; codes-long = F .codes-long; values-long = F .values-long; shows = λ ins R j h. F .shows ins R j (omega arith) }
 
@@ -194,8 +205,10 @@ fills-start s memo codes values = record {
   values-stay = λ m h. refl;
 }
 
-module _ (s : Sheet) (v a b : ℕ) (first : a ≡ before s v) (last : b ≡ before s v + size (variable s v .head .box)) (memo memo′ memo″ : Memo) (A : Advances s memo memo′)
-    (codes codes′ part : List ℕ) (values values′ number : List ℤ) (F : FillsAll s memo (before s v) codes codes′ values values′) (P : FillsVariable s v memo′ memo″ part number)
+module _ (s : Sheet) (v a b : ℕ) (first : a ≡ before s v) (last : b ≡ before s v + size (variable s v .head .box)) (memo memo′ memo″ : Memo)
+    (A : Advances s memo memo′)
+    (codes codes′ part : List ℕ) (values values′ number : List ℤ) (F : FillsAll s memo (before s v) codes codes′ values values′)
+    (P : FillsVariable s v memo′ memo″ part number)
     (room : b ≤ length codes) (space : b ≤ length values) where
   abbrev wide : ℕ
   wide = b - a
@@ -218,13 +231,20 @@ module _ (s : Sheet) (v a b : ℕ) (first : a ≡ before s v) (last : b ≡ befo
     values-long = put-length a wide values′ number (pos 0) tall in-values ∙ F .values-long;
     shows = λ ins R m h. split m h
         (λ l. let old = F .shows ins R m (omega (arith, first)) in
-        record { code = put-before a wide codes′ part 0 long in-codes m l ∙ old .code; value = put-before a wide values′ number (pos 0) tall in-values m l ∙ old .value })
+        record {
+          code =
+              put-before a wide codes′ part 0 long in-codes m l ∙ old .code;
+          value = put-before a wide values′ number (pos 0) tall in-values m l
+              ∙ old .value;
+        })
         (λ j is l.
         let new = P .shows ins (A .right ins R) j (omega (arith, first, last)) in
         let here : before s v + j ≡ m = omega (arith, first, is) in
         rw (← is) (record {
           code = put-within a wide codes′ part 0 long in-codes j l ∙ new .code ∙ ap (λ n. codeOf (outcomeAt s ins (elementAt s n))) (here ∙ sym is);
-          value = put-within a wide values′ number (pos 0) tall in-values j l ∙ new .value ∙ ap (λ n. valueOf (outcomeAt s ins (elementAt s n))) (here ∙ sym is);
+          value =
+              put-within a wide values′ number (pos 0) tall in-values j l ∙ new .value
+              ∙ ap (λ n. valueOf (outcomeAt s ins (elementAt s n))) (here ∙ sym is);
         }));
     codes-stay = λ m h. put-past a wide codes′ part 0 long in-codes m (omega (arith, first, last)) ∙ F .codes-stay m (omega (arith, first, last));
     values-stay = λ m h. put-past a wide values′ number (pos 0) tall in-values m (omega (arith, first, last)) ∙ F .values-stay m (omega (arith, first, last));
@@ -238,5 +258,6 @@ module _ (s : Sheet) (v a b : ℕ) (first : a ≡ before s v) (last : b ≡ befo
           go (yes l) = f l
           go (no l) = g (m - a) (omega arith) (omega arith)
 
-pub fills-at : (s : Sheet) (memo : Memo) (m n : ℕ) (codes codes′ : List ℕ) (values values′ : List ℤ) → m ≡ n → FillsAll s memo m codes codes′ values values′ → FillsAll s memo n codes codes′ values values′
+pub fills-at : (s : Sheet) (memo : Memo) (m n : ℕ) (codes codes′ : List ℕ) (values values′ : List ℤ) → m ≡ n →
+    FillsAll s memo m codes codes′ values values′ → FillsAll s memo n codes codes′ values values′
 fills-at s memo m n codes codes′ values values′ e F = subst (λ k. FillsAll s memo k codes codes′ values values′) e F

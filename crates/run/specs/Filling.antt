@@ -36,7 +36,8 @@ pub record FillsVariable (s : Sheet) (v : ℕ) (memo memo′ : Memo) (codes : Li
   pub advances : Advances s memo memo′
   pub codes-long : length codes ≡ size (variable s v .head .box)
   pub values-long : length values ≡ size (variable s v .head .box)
-  pub shows : (ins : List ℤ) → Right (outcomes s ins) (total s) memo → (j : ℕ) → j < size (variable s v .head .box) → Shows s ins codes values j (before s v + j)
+  pub shows : (ins : List ℤ) → Right (outcomes s ins) (total s) memo → (j : ℕ) → j < size (variable s v .head .box) →
+      Shows s ins codes values j (before s v + j)
 
 -- the entries of both tables below n are filled, and the others are as before
 pub record FillsAll (s : Sheet) (memo : Memo) (n : ℕ) (codes codes′ : List ℕ) (values values′ : List ℤ) : Type 0 where

@@ -42,4 +42,5 @@ module _ {bs tab : List ℕ} {n : ℕ} (known : Known bs tab n) where
       next (placeAfter (choice (n - 1) bs p)) (λ q. placeAfter (constraint (dimension (headsAt bs (take n tab)) (natAbs (field bs p))) bs q))
   declared-known p =
       declared-place bs p (headsAt bs (take n tab))
-      ∙ ap (λ (k : ℕ). next (placeAfter (choice (k - 1) bs p)) (λ q. placeAfter (constraint (dimension (headsAt bs (take n tab)) (natAbs (field bs p))) bs q))) heads-length
+      ∙ ap (λ (k : ℕ). next (placeAfter (choice (k - 1) bs p))
+      (λ q. placeAfter (constraint (dimension (headsAt bs (take n tab)) (natAbs (field bs p))) bs q))) heads-length

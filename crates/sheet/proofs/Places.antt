@@ -96,7 +96,8 @@ module _ (lo hi : ℕ) (bs : List ℕ) (p : ℕ) where
   pub count-passed : (q : ℕ) → placeAfter (count lo hi bs p) ≡ accepted q → Passed (within (pos lo) (pos hi)) bs p q
   count-passed q e = passing-passed COUNT (within (pos lo) (pos hi)) bs p q (sym count-place ∙ e)
 
-  pub count-then : {B : Type 0} (k : ℕ → ℕ → Got B) (q : ℕ) → placeAfter (count lo hi bs p) ≡ accepted q → after (count lo hi bs p) k ≡ k (natAbs (field bs p)) q
+  pub count-then : {B : Type 0} (k : ℕ → ℕ → Got B) (q : ℕ) → placeAfter (count lo hi bs p) ≡ accepted q →
+      after (count lo hi bs p) k ≡ k (natAbs (field bs p)) q
   count-then k q e =
       ap (λ (g : Got ℕ). after g k) (passing-then COUNT (within (pos lo) (pos hi)) bs p (λ x r. got (natAbs x) r) q (sym count-place ∙ e))
 

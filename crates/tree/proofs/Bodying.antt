@@ -63,13 +63,15 @@ body-refusal output v h hs bs p m a b e = shaped-refusal v h hs (exprAt 32 (leng
 body-refusal local v h hs bs p m a b e = shaped-refusal v h hs (exprAt 32 (length hs) bs p m) a b e
 
 module _ (bs : List ℕ) (v p m : ℕ) where
-  by-kind : (k : Kind) → getD (headsOf bs) v noHead .kind ≡ k → bodyShape (bodyAt bs v p m) ≡ bodyShape (bodyOf k v (getD (headsOf bs) v noHead) (headsOf bs) bs p m)
+  by-kind : (k : Kind) → getD (headsOf bs) v noHead .kind ≡ k →
+      bodyShape (bodyAt bs v p m) ≡ bodyShape (bodyOf k v (getD (headsOf bs) v noHead) (headsOf bs) bs p m)
   by-kind k e = ap (λ x. bodyShape (bodyOf x v (getD (headsOf bs) v noHead) (headsOf bs) bs p m)) e
 
   pub body-input : (k : ℕ) → getD (headsOf bs) v noHead .kind ≡ kindOf k → k ≡ 0 → Fits p m ≡ bodyShape (bodyAt bs v p m)
   body-input k e z = sym (by-kind input (e ∙ ap kindOf z))
 
-  pub body-tree : (k : ℕ) → getD (headsOf bs) v noHead .kind ≡ kindOf k → k ≤ 2 → (k ≡ 0 → ⊥) → treeJudged bs p m 32 (dimension (headsOf bs) v) ≡ bodyShape (bodyAt bs v p m)
+  pub body-tree : (k : ℕ) → getD (headsOf bs) v noHead .kind ≡ kindOf k → k ≤ 2 → (k ≡ 0 → ⊥) →
+      treeJudged bs p m 32 (dimension (headsOf bs) v) ≡ bodyShape (bodyAt bs v p m)
   body-tree k e l n = go (kind-two k l n)
     where
       go : (kindOf k ≡ output) ⊎ (kindOf k ≡ local) → treeJudged bs p m 32 (dimension (headsOf bs) v) ≡ bodyShape (bodyAt bs v p m)
@@ -202,7 +204,8 @@ module _ (bs tab : List ℕ) (v p m : ℕ) (sized : length tab ≡ 102) (few : v
   ends-bad known h = refusal SHAPE v (body-refused bs v p m known h) (Refused (Shape v)) refl
 
   -- the places of this variable and of the others
-  module _ (tab′ : List ℕ) (q : ℕ) (here : getD tab′ (69 + v) 0 ≡ p) (x : Variable) (rest : Sheet) (start-is : x .start ≡ p) (end-is : x .end ≡ q) (h : PlacesFrom tab′ (v + 1) q rest) where
+  module _ (tab′ : List ℕ) (q : ℕ) (here : getD tab′ (69 + v) 0 ≡ p) (x : Variable) (rest : Sheet) (start-is : x .start ≡ p) (end-is : x .end ≡ q)
+      (h : PlacesFrom tab′ (v + 1) q rest) where
     start-at : (i : ℕ) → i < suc (length rest) → getD tab′ (69 + (v + i)) 0 ≡ variable (x ∷ rest) i .start
     start-at zero lt = let e : v + 0 ≡ v = omega arith in rw e (here ∙ sym start-is)
     start-at (suc i) lt = let e : v + suc i ≡ v + 1 + i = omega arith in rw e (h .starts i (omega arith))
@@ -241,7 +244,14 @@ module _ (bs : List ℕ) where
       let e : w + 0 ≡ w = omega arith in
       rw e (record {
         declared-is = h .declared-is;
-        tree-at = λ i. (m, h .left, omega arith, subst (λ q. TreeAt (rawOf bs) bs x q m (h .left)) (sym (h .start-is)) (not-input (rawOf bs) bs (x .head .kind) x p m (h .left) i (h .body-at)));
+        tree-at =
+            λ i. (
+              m,
+              h .left,
+              omega arith,
+              subst (λ q. TreeAt (rawOf bs) bs x q m (h .left)) (sym (h .start-is))
+                  (not-input (rawOf bs) bs (x .head .kind) x p m (h .left) i (h .body-at)),
+            );
       })
   each (x ∷ s) w p m h (suc v) lt =
       let e : w + suc v ≡ suc w + v = omega arith in
@@ -260,7 +270,9 @@ module _ (bs : List ℕ) where
     count = sym (length-map s (λ x. x .head)) ∙ ap length (read .heads-are)
 
     known : (v : ℕ) → v < varsOf bs → Known v (rawOf bs .nodes) (variable s v)
-    known v lt = let e : 0 + v ≡ v = omega arith in subst (λ w. Known w (rawOf bs .nodes) (variable s v)) e (each s 0 (rawOf bs .first) (rawOf bs .nodes) (read .stand) v (omega (arith, count)))
+    known v lt =
+        let e : 0 + v ≡ v = omega arith in
+        subst (λ w. Known w (rawOf bs .nodes) (variable s v)) e (each s 0 (rawOf bs .first) (rawOf bs .nodes) (read .stand) v (omega (arith, count)))
 
     stands : (v : ℕ) → v < varsOf bs → isInput (variable s v) ≡ false → BodyStands bs (variable s v)
     stands v lt i =

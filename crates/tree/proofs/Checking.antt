@@ -43,6 +43,7 @@ module _ (bs tab : List ℕ) (h : Prepared bs tab) where
 pub check-formed : (bs tab : List ℕ) → Formed bs tab → check bs ≡ elementsChecked (sheetOf bs)
 check-formed bs tab f =
     check-is bs tab (f .placed .prepared)
-    ∙ ap (λ (a : Answer Sheet). next a (λ s. next (first TYPE (typed (headsOf bs)) 0 s) (λ _. next (first REACH reached 0 s) (λ _. elementsChecked s)))) (f .placed .shaped)
+    ∙ ap (λ (a : Answer Sheet). next a
+    (λ s. next (first TYPE (typed (headsOf bs)) 0 s) (λ _. next (first REACH reached 0 s) (λ _. elementsChecked s)))) (f .placed .shaped)
     ∙ ap (λ (a : Answer (Unit {0})). next a (λ _. next (first REACH reached 0 (sheetOf bs)) (λ _. elementsChecked (sheetOf bs)))) (f .types)
     ∙ ap (λ (a : Answer (Unit {0})). next a (λ _. elementsChecked (sheetOf bs))) (f .reaches)

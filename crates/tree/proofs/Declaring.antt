@@ -54,7 +54,8 @@ module _ (bs : List ℕ) (p v : ℕ) (d : Declared) (q : ℕ) (e : declared (hea
   pub other-passes : (natAbs (field bs p) ≡ v → ⊥) → true ≡ declaredPasses v d
   other-passes n = let x : eqb (d .who) v ≡ false = ne-eqb (d .who) v (λ f. n (sym (counted-is (at .who-is)) ∙ f)) in rw x
 
-  pub own-passes : natAbs (field bs p) ≡ v → leb (rowReach topReach (rowFields (dimension (headsOf bs) (natAbs (field bs p))) bs (p + 16))) limit ≡ declaredPasses v d
+  pub own-passes : natAbs (field bs p) ≡ v → leb (rowReach topReach (rowFields (dimension (headsOf bs) (natAbs (field bs p))) bs (p + 16))) limit
+      ≡ declaredPasses v d
   own-passes n =
       let who = counted-is (at .who-is) in
       let x : eqb (d .who) v ≡ true = eq-eqb (d .who) v (who ∙ n) in

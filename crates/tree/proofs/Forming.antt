@@ -65,7 +65,8 @@ module _ (bs tab : List ℕ) (a : Ruling) (sh : ShapesAll bs tab a) where
           let y : ruled a ≡ accepted tt = g ∙ ap only f in
           let w : ruled a ≡ refused (numberOf e) (placeOf e) = ap ruled is in
           let z : _≡_ {A = ℕ} 0 1 = cc in absurd (omega arith)
-      go (refused n q) f g = g ∙ ap only f ∙ ap (λ (x : Answer Sheet). next x (λ s. next (first TYPE (typed (headsOf bs)) 0 s) (λ _. first REACH reached 0 s))) (sym f)
+      go (refused n q) f g = g ∙ ap only f
+          ∙ ap (λ (x : Answer Sheet). next x (λ s. next (first TYPE (typed (headsOf bs)) 0 s) (λ _. first REACH reached 0 s))) (sym f)
 
   module _ (pass : a ≡ Passes) where
     pub placed : BodiesPlaced bs tab

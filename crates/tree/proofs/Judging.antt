@@ -44,7 +44,8 @@ flat-first bs p left some h = go (h .nodes) (h .many) (h .stand)
         }
 
 pub noded-few : (vars : ℕ) (bs : List ℕ) (p n : ℕ) (h : Noded vars bs p) → ((nd : Node) (q : ℕ) → node vars bs p ≡ got nd q → n ≡ arity nd) → n ≤ 64
-noded-few vars bs p n h many = omega (arith, many (h .what) (h .next) (h .read), arity-few vars bs p (h .what) (node-at vars bs p (h .what) (h .next) (h .read)))
+noded-few vars bs p n h many =
+    omega (arith, many (h .what) (h .next) (h .read), arity-few vars bs p (h .what) (node-at vars bs p (h .what) (h .next) (h .read)))
 
 -- ---- one tree
 
@@ -68,7 +69,8 @@ module _ (bs : List ℕ) (p left deep want : ℕ) where
   tree-no-depth l = let e : deep ≡ 0 = omega arith in rw e refl
 
   module _ (nodes : 1 ≤ left) (depth : 1 ≤ deep) (nd : Node) (q : ℕ) (read : node (varsOf bs) bs p ≡ got nd q) where
-    parts : exprAt deep (varsOf bs) bs p left ≡ then (branches (λ o n. exprAt (deep - 1) (varsOf bs) bs o n) (arity nd) q (left - 1)) (λ es o n. tree (build nd es) o n)
+    parts : exprAt deep (varsOf bs) bs p left ≡ then (branches (λ o n. exprAt (deep - 1) (varsOf bs) bs o n) (arity nd) q (left - 1))
+        (λ es o n. tree (build nd es) o n)
     parts = go deep left depth nodes
       where
         go : (d m : ℕ) → 1 ≤ d → 1 ≤ m →
@@ -81,7 +83,8 @@ module _ (bs : List ℕ) (p left deep want : ℕ) where
             rw (e, f) (exprAt-branches (varsOf bs) bs d p m q nd read)
 
     -- a tree of this node is judged by the node and then by the children
-    by-node : (b : Bool) → fitsHere nd (headsOf bs) want ≡ b → (t : Parsed Exprs) → branches (λ o n. exprAt (deep - 1) (varsOf bs) bs o n) (arity nd) q (left - 1) ≡ t →
+    by-node : (b : Bool) → fitsHere nd (headsOf bs) want ≡ b → (t : Parsed Exprs) →
+        branches (λ o n. exprAt (deep - 1) (varsOf bs) bs o n) (arity nd) q (left - 1) ≡ t →
         judged (λ e. fits e (headsOf bs) want) (then t (λ es o n. tree (build nd es) o n)) ≡ judged (λ es. b && allFit es (headsOf bs) (wanted nd want)) t
     by-node b e ill g = refl
     by-node b e (tree es o n) g =
@@ -89,8 +92,11 @@ module _ (bs : List ℕ) (p left deep want : ℕ) where
         rw (fits-build (headsOf bs) want nd es many, e)
 
     judged-by : (b : Bool) → fitsHere nd (headsOf bs) want ≡ b →
-        treeJudged bs p left deep want ≡ judged (λ es. b && allFit es (headsOf bs) (wanted nd want)) (branches (λ o n. exprAt (deep - 1) (varsOf bs) bs o n) (arity nd) q (left - 1))
-    judged-by b e = ap (judged (λ e. fits e (headsOf bs) want)) parts ∙ by-node b e (branches (λ o n. exprAt (deep - 1) (varsOf bs) bs o n) (arity nd) q (left - 1)) refl
+        treeJudged bs p left deep want ≡ judged (λ es. b && allFit es (headsOf bs) (wanted nd want))
+        (branches (λ o n. exprAt (deep - 1) (varsOf bs) bs o n) (arity nd) q (left - 1))
+    judged-by b e =
+        ap (judged (λ e. fits e (headsOf bs) want)) parts
+        ∙ by-node b e (branches (λ o n. exprAt (deep - 1) (varsOf bs) bs o n) (arity nd) q (left - 1)) refl
 
     pub tree-misfit : fitsHere nd (headsOf bs) want ≡ false → Bad ≡ treeJudged bs p left deep want
     tree-misfit e = all-bad (branches (λ o n. exprAt (deep - 1) (varsOf bs) bs o n) (arity nd) q (left - 1)) ∙ sym (judged-by false e)
@@ -115,7 +121,8 @@ module _ (bs : List ℕ) (p left deep want count : ℕ) where
     split = go count some
       where
         go : (k : ℕ) → 1 ≤ k → branches (λ o n. exprAt deep (varsOf bs) bs o n) k p left
-            ≡ then (exprAt deep (varsOf bs) bs p left) (λ e o n. then (branches (λ o n. exprAt deep (varsOf bs) bs o n) (k - 1) o n) (λ es o₂ n₂. tree (more e es) o₂ n₂))
+            ≡ then (exprAt deep (varsOf bs) bs p left)
+            (λ e o n. then (branches (λ o n. exprAt deep (varsOf bs) bs o n) (k - 1) o n) (λ es o₂ n₂. tree (more e es) o₂ n₂))
         go zero l = absurd (omega arith)
         go (suc k) l = let e : suc k - 1 ≡ k = omega arith in rw e refl
 

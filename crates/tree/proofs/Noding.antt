@@ -178,7 +178,8 @@ module _ (vars : ℕ) (bs : List ℕ) (p : ℕ) where
 
     pub length-other : (natAbs (field bs p) ≡ 5 → ⊥) → (natAbs (field bs p) ≡ 7 → ⊥) → (natAbs (field bs p) ≡ 8 → ⊥) → 16 ≡ nodeLen bs p
     length-other five seven eight =
-        sym (length-else (natAbs (field bs (p + 8))) (natAbs (field bs (p + 16))) (h .what) (λ e. five (coded ∙ e)) (λ e. seven (coded ∙ e)) (λ e. eight (coded ∙ e)))
+        sym (length-else (natAbs (field bs (p + 8))) (natAbs (field bs (p + 16))) (h .what) (λ e. five (coded ∙ e)) (λ e. seven (coded ∙ e))
+        (λ e. eight (coded ∙ e)))
         ∙ length-by (codeOf (h .what)) coded
 
     -- the second field is there, but for an if

@@ -56,7 +56,9 @@ module _ (code : ℕ) (test : Variable → Bool) (s : Sheet) where
       one-fails e = sym (one ∙ rw e) ∙ h .decides
 
       pub one-passes : test (variable s v) ≡ true → Reached (v + 1)
-      one-passes e = let n : suc v ≡ v + 1 = omega arith in record { decides = subst (λ w. first code test w (drop w s) ≡ first code test 0 s) n (sym (one ∙ rw e) ∙ h .decides) }
+      one-passes e =
+          let n : suc v ≡ v + 1 = omega arith in
+          record { decides = subst (λ w. first code test w (drop w s) ≡ first code test 0 s) n (sym (one ∙ rw e) ∙ h .decides) }
 
 -- ---- a variable of a sheet whose bodies are placed
 
@@ -117,15 +119,19 @@ module _ (bs tab : List ℕ) (h : BodiesPlaced bs tab) (v : ℕ) (lt : v < varsO
     typed-by o f = rw (i, f, h .head-is v lt)
 
     module _ (t : Typed) (says : TreeTyped bs p t) where
-      pub type-of-integer : (m : ℕ) → t ≡ Integer m → (k : ℕ) → getD (headsOf bs) v noHead .sort ≡ sortOf k → k ≤ 1 → eqb k 0 ≡ typed (headsOf bs) (variable (sheetOf bs) v)
+      pub type-of-integer : (m : ℕ) → t ≡ Integer m → (k : ℕ) → getD (headsOf bs) v noHead .sort ≡ sortOf k → k ≤ 1 →
+          eqb k 0 ≡ typed (headsOf bs) (variable (sheetOf bs) v)
       type-of-integer m is k s l =
           integer-sort k l ∙ ap (λ x. isSort x (some integer)) (sym s)
-          ∙ typed-by (some integer) (integer-ends m (typeOf (variable (sheetOf bs) v .body) (headsOf bs)) (variable (sheetOf bs) v .end) (sym is ∙ typed-is t says) .sort-is)
+          ∙ typed-by (some integer)
+          (integer-ends m (typeOf (variable (sheetOf bs) v .body) (headsOf bs)) (variable (sheetOf bs) v .end) (sym is ∙ typed-is t says) .sort-is)
 
-      pub type-of-boolean : (m : ℕ) → t ≡ Boolean m → (k : ℕ) → getD (headsOf bs) v noHead .sort ≡ sortOf k → k ≤ 1 → eqb k 1 ≡ typed (headsOf bs) (variable (sheetOf bs) v)
+      pub type-of-boolean : (m : ℕ) → t ≡ Boolean m → (k : ℕ) → getD (headsOf bs) v noHead .sort ≡ sortOf k → k ≤ 1 →
+          eqb k 1 ≡ typed (headsOf bs) (variable (sheetOf bs) v)
       type-of-boolean m is k s l =
           boolean-sort k l ∙ ap (λ x. isSort x (some boolean)) (sym s)
-          ∙ typed-by (some boolean) (boolean-ends m (typeOf (variable (sheetOf bs) v .body) (headsOf bs)) (variable (sheetOf bs) v .end) (sym is ∙ typed-is t says) .sort-is)
+          ∙ typed-by (some boolean)
+          (boolean-ends m (typeOf (variable (sheetOf bs) v .body) (headsOf bs)) (variable (sheetOf bs) v .end) (sym is ∙ typed-is t says) .sort-is)
 
       pub type-of-none : t ≡ Mistyped → false ≡ typed (headsOf bs) (variable (sheetOf bs) v)
       type-of-none is =

@@ -67,7 +67,8 @@ row-fields n bs p w h =
 
 module _ (r n : ℕ) (bs : List ℕ) where
   -- the first of them, and then the others
-  split-first : (k p : ℕ) → 0 < k → constraintsReach r n k bs p ≡ leb (rowReach r (rowFields n bs (p + 8))) limit && constraintsReach r n (k - 1) bs (p + (16 + 8 * n))
+  split-first : (k p : ℕ) → 0 < k → constraintsReach r n k bs p
+      ≡ leb (rowReach r (rowFields n bs (p + 8))) limit && constraintsReach r n (k - 1) bs (p + (16 + 8 * n))
   unfolding constraintsReach
   split-first zero p l = absurd (omega arith)
   split-first (suc k) p l = let e : suc k - 1 ≡ k = omega arith in rw e refl
@@ -84,7 +85,9 @@ module _ (r n : ℕ) (bs : List ℕ) where
 
     module _ (l : 0 < j) where
       room : (16 + 8 * n) + (j - 1) * (16 + 8 * n) ≡ j * (16 + 8 * n)
-      room = let e : suc (j - 1) ≡ j = omega arith in let m : suc (j - 1) * (16 + 8 * n) ≡ j * (16 + 8 * n) = ap (λ i. i * (16 + 8 * n)) e in omega (arith, suc-mul (j - 1) (16 + 8 * n))
+      room =
+          let e : suc (j - 1) ≡ j = omega arith in
+          let m : suc (j - 1) * (16 + 8 * n) ≡ j * (16 + 8 * n) = ap (λ i. i * (16 + 8 * n)) e in omega (arith, suc-mul (j - 1) (16 + 8 * n))
 
       pub first-there : p + (16 + 8 * n) ≤ length bs
       first-there = omega (arith, room, h .there)
@@ -200,7 +203,9 @@ module _ (bs : List ℕ) (p r : ℕ) (y : Reached) (says : NodeReached bs p r y)
 
   pub reach-past : y ≡ Past → TreeBounded bs p r Beyond
   reach-past is e q h =
-      let no-pass = reached-past (reachHere (nodeOf e) r) (reachBelow (nodeOf e) r) (sym is ∙ says (nodeOf e) (p + nodeLen bs p) (at-got (varsOf bs) bs e p q h)) in
+      let no-pass =
+      reached-past (reachHere (nodeOf e) r) (reachBelow (nodeOf e) r)
+      (sym is ∙ says (nodeOf e) (p + nodeLen bs p) (at-got (varsOf bs) bs e p q h)) in
       rw (reach-children e r, no-pass)
 
   pub reach-goes : (n : ℕ) → y ≡ Within n → (k c : ℕ) → k ≡ nodeLen bs p → ((nd : Node) (q : ℕ) → node (varsOf bs) bs p ≡ got nd q → c ≡ arity nd) →
@@ -254,5 +259,6 @@ module _ (bs : List ℕ) (p r n : ℕ) where
     trees-bounded m is u rest es q h c =
         let f = one-more (varsOf bs) bs es p q n enough h c in
         let x = bounded-next (reach (f .first) r) m (f .middle) (sym is ∙ says (f .first) (f .middle) (f .before)) in
-        let y : reachAll es r ≡ reachAll (f .rest) r = ap (λ l. reachAll l r) (f .is) ∙ all-more (f .first) (f .rest) ∙ ap (λ b. b && reachAll (f .rest) r) (x .passes) in
+        let y : reachAll es r ≡ reachAll (f .rest) r =
+        ap (λ l. reachAll l r) (f .is) ∙ all-more (f .first) (f .rest) ∙ ap (λ b. b && reachAll (f .rest) r) (x .passes) in
         rest (f .rest) q (rw (x .end-is) (f .after)) (f .many) ∙ ap (λ b. boundedAt b q) (sym y)

@@ -223,7 +223,8 @@ module _ (bs : List ℕ) (p k : ℕ) (long : k ≡ nodeLen bs p) (e : Expr) (q :
       allAt-none (varsOf bs) bs (childrenOf e) (p + k) q below
       (children-many e ∙ sym (arity-leaf-is (varsOf bs) bs p (nodeOf e) (p + nodeLen bs p) read l)) .end
 
-  pub type-variable : natAbs (field bs p) < 1 → typedAt (some (getD (headsOf bs) (natAbs (field bs (p + 8))) noHead .sort)) (p + k) ≡ typedAt (typeOf e (headsOf bs)) q
+  pub type-variable : natAbs (field bs p) < 1 → typedAt (some (getD (headsOf bs) (natAbs (field bs (p + 8))) noHead .sort)) (p + k)
+      ≡ typedAt (typeOf e (headsOf bs)) q
   unfolding typeOf
   type-variable l =
       let v = at-var (varsOf bs) bs e p q h (field-by 0 (omega arith)) in
@@ -262,7 +263,8 @@ module _ (bs : List ℕ) (p k : ℕ) (long : k ≡ nodeLen bs p) (e : Expr) (q :
 
 -- ---- so many trees
 
-types-split : (hs : List Head) (es : Exprs) (e : Expr) (rest : Exprs) → es ≡ more e rest → 1 ≤ branchCount rest → typesOf es hs ≡ agree (typeOf e hs) (typesOf rest hs)
+types-split : (hs : List Head) (es : Exprs) (e : Expr) (rest : Exprs) → es ≡ more e rest → 1 ≤ branchCount rest →
+    typesOf es hs ≡ agree (typeOf e hs) (typesOf rest hs)
 types-split hs es e none is l = absurd (omega arith)
 types-split hs es e (more f fs) is l = ap (λ x. typesOf x hs) is ∙ types-more hs e f fs
 
@@ -353,7 +355,8 @@ module _ (bs : List ℕ) (p : ℕ) (t : Typed) (says : TreeTyped bs p t) where
       y ∙ ap (λ o. typedAt o q) (sym (if-type a b c ∙ ap (λ o. ifSort o (typesOf (more b (more c none)) (headsOf bs))) (x .sort-is)))
 
   -- any other type of the first part is none of the whole
-  if-other : (a b c : Expr) (q : ℕ) (o : Option Sort) → typeOf a (headsOf bs) ≡ o → (o ≡ some boolean → ⊥) → Mistyped ≡ typedAt (typeOf (ite a b c) (headsOf bs)) q
+  if-other : (a b c : Expr) (q : ℕ) (o : Option Sort) → typeOf a (headsOf bs) ≡ o → (o ≡ some boolean → ⊥) →
+      Mistyped ≡ typedAt (typeOf (ite a b c) (headsOf bs)) q
   if-other a b c q (some integer) e other = rw (if-type a b c, e)
   if-other a b c q (some boolean) e other = absurd (other refl)
   if-other a b c q Option.none e other = rw (if-type a b c, e)

@@ -89,7 +89,8 @@ module _ (vars : ℕ) (bs : List ℕ) where
       children-few = omega (arith, counted, arity-few vars bs p (nodeOf (h .tree)) (at-node vars bs (h .tree) p (h .end) (h .at)))
 
   -- any tree at p has its children there, and as many
-  module _ (p k n : ℕ) (long : k ≡ nodeLen bs p) (many : (nd : Node) (q : ℕ) → node vars bs p ≡ got nd q → n ≡ arity nd) (e : Expr) (q : ℕ) (h : At e vars bs p q) where
+  module _ (p k n : ℕ) (long : k ≡ nodeLen bs p) (many : (nd : Node) (q : ℕ) → node vars bs p ≡ got nd q → n ≡ arity nd) (e : Expr) (q : ℕ)
+      (h : At e vars bs p q) where
     pub children-at : AllAt (childrenOf e) vars bs (p + k) q
     children-at = rw long (at-children vars bs e p q h)
 

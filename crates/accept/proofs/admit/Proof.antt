@@ -9,33 +9,26 @@ use Rattle.domain.proofs.domains.Reads as domains-reads
 use Rattle.sheet.proofs.read.Reads as read-reads
 use Rattle.tree.proofs.forms.Reads as forms-reads
 
--- src/lib.rt:16:9
 read-requires : tie.Need-read-requires
 read-requires c κs = search needs
 
--- src/lib.rt:17:27
 enum-known-r : tie.Need-enum-known-r
 enum-known-r c = search needs
 
--- src/lib.rt:18:9
 enum-told : tie.Need-enum-told
 enum-told c = search needs
 
--- src/lib.rt:18:9
 returns : tie.Need-returns
 returns c = read-admits _ _ _ _ _ (c .enum-told .given .1) (c .before .before .read .ensures .answer)
 
--- src/lib.rt:20:9
 forms-requires : tie.Need-forms-requires
 forms-requires c κs =
     let after-read = c .before .before .before .before in
     prepared-after _ _ _ _ (c .before .before .r .given .1) (after-read .read .ensures)
 
--- src/lib.rt:21:28
 enum-known-f : tie.Need-enum-known-f
 enum-known-f c = search needs
 
--- src/lib.rt:22:9
 returns-2 : tie.Need-returns-2
 returns-2 c =
     let after-forms = c .before .before .before in
@@ -47,7 +40,6 @@ returns-2 c =
 enum-told-2 : tie.Need-enum-told-2
 enum-told-2 c = search needs
 
--- src/lib.rt:24:9
 domains-requires : tie.Need-domains-requires
 domains-requires c κs =
     let after-forms = c .before .before .before .before in
@@ -55,11 +47,9 @@ domains-requires c κs =
     let formed = after-forms .forms .ensures .formed (c .before .before .enum-told2 .given .1) in
     (formed, s .pre)
 
--- src/lib.rt:25:28
 enum-known-g : tie.Need-enum-known-g
 enum-known-g c = search needs
 
--- src/lib.rt:26:9
 returns-3 : tie.Need-returns-3
 returns-3 c =
     let after-domains = c .before .before .before in
@@ -71,7 +61,6 @@ returns-3 c =
 enum-told-3 : tie.Need-enum-told-3
 enum-told-3 c = search needs
 
--- src/lib.rt:12:1
 returns-4 : tie.Need-returns-4
 returns-4 c =
     let after-enum-told2 = c .before .before .before .before .before in

@@ -11,27 +11,21 @@ use Rattle.accept.proofs.body.Reads as reads
 use Rattle.accept.proofs.body.Lts as lts
 use Rattle.accept.proofs.find_body.Reads as find-body-reads
 
--- src/lib.rt:97:9
 find-body-requires : tie.Need-find-body-requires
 find-body-requires c κs = search needs
 
--- src/lib.rt:99:15
 add-end : tie.Need-add-end
 add-end c = search needs
 
--- src/lib.rt:100:5
 sub-result : tie.Need-sub-result
 sub-result c = search needs
 
--- src/lib.rt:100:5
 part-result-start : tie.Need-part-result-start
 part-result-start c = search needs
 
--- src/lib.rt:100:5
 part-result-end : tie.Need-part-result-end
 part-result-end c = search needs
 
--- src/lib.rt:94:1
 returns : tie.Need-returns
 returns c =
     let s = c .before .before .before .before in

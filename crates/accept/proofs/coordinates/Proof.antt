@@ -18,45 +18,35 @@ Inv-loop point z₀ n i₀ z i = Copied point z i
 abbrev μ-loop : tie.MeasureT-loop
 μ-loop point z₀ n i₀ z i = n - i
 
--- src/lib.rt:117:18
 of-requires : tie.Need-of-requires Inv-loop μ-loop
 of-requires c κs = search needs
 
--- src/lib.rt:120:5
 loop-holds : tie.Need-loop-holds Inv-loop μ-loop
 loop-holds c = record { sized = refl; same = λ j h. absurd (omega arith) }
 
--- src/lib.rt:121:17
 mul-x : tie.Need-mul-x Inv-loop μ-loop
 mul-x c = search needs
 
--- src/lib.rt:121:17
 shared-slice-copy-out-x : tie.Need-shared-slice-copy-out-x Inv-loop μ-loop
 shared-slice-copy-out-x c = search needs
 
--- src/lib.rt:122:16
 of-requires-2 : tie.Need-of-requires-2 Inv-loop μ-loop
 of-requires-2 c κs = search needs
 
--- src/lib.rt:122:9
 mul-z : tie.Need-mul-z Inv-loop μ-loop
 mul-z c = search needs
 
--- src/lib.rt:122:9
 array-set-from-z : tie.Need-array-set-from-z Inv-loop μ-loop
 array-set-from-z c =
     let s = c .before .before .before .before .before in
     omega (arith, c .before .before .loop-test .taken, s .pre)
 
--- src/lib.rt:123:9
 add-i : tie.Need-add-i Inv-loop μ-loop
 add-i c = search needs
 
--- src/lib.rt:120:5
 loop-less : tie.Need-loop-less Inv-loop μ-loop
 loop-less c = search needs
 
--- src/lib.rt:120:5
 loop-again : tie.Need-loop-again Inv-loop μ-loop
 loop-again c =
     let at-loop = c .before .before .before in
@@ -64,7 +54,6 @@ loop-again c =
     copied-more _ _ _ _ (omega (arith, c .before .before .loop-test .taken, s .pre)) (at-loop .loop .inv)
     (c .of2 .ensures ∙ toZ-ofZ (sfits-of (c .before .x .given)))
 
--- src/lib.rt:113:1
 returns : tie.Need-returns Inv-loop μ-loop
 returns c = copied-all _ _ _ (omega (arith, c .loop-test .left)) (c .before .loop .inv)
 

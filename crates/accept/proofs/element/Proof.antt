@@ -9,28 +9,23 @@ use Rattle.accept.proofs.element.Lts as lts
 use Rattle.accept.proofs.admit.Reads as admit-reads
 use Rattle.accept.proofs.number_of.Reads as number-of-reads
 
--- src/lib.rt:156:9
 admit-requires : tie.Need-admit-requires
 admit-requires c κs = search needs
 
 enum-told : tie.Need-enum-told
 enum-told c = search needs
 
--- src/lib.rt:158:9
 enum-told-2 : tie.Need-enum-told-2
 enum-told-2 c = search needs
 
--- src/lib.rt:158:9
 returns : tie.Need-returns
 returns c = record { answer = refused-number _ _ _ _ _ (c .enum-told2 .given .1) (c .before .before .admit .ensures .answer) }
 
--- src/lib.rt:160:5
 number-of-requires : tie.Need-number-of-requires
 number-of-requires c κs =
     let after-admit = c .before .before .before in
     after-admit .admit .ensures .admitted _ (c .before .enum-told .given .1) .formed
 
--- src/lib.rt:151:1
 returns-2 : tie.Need-returns-2
 returns-2 c =
     let after-admit = c .before .before .before .before in

@@ -10,34 +10,28 @@ use Rattle.accept.proofs.admit.Reads as admit-reads
 use Rattle.accept.proofs.nothing.Reads as nothing-reads
 use Rattle.accept.proofs.part_of.Reads as part-of-reads
 
--- src/lib.rt:86:9
 admit-requires : tie.Need-admit-requires
 admit-requires c κs = search needs
 
 enum-told : tie.Need-enum-told
 enum-told c = search needs
 
--- src/lib.rt:88:9
 enum-told-2 : tie.Need-enum-told-2
 enum-told-2 c = search needs
 
--- src/lib.rt:88:9
 nothing-requires : tie.Need-nothing-requires
 nothing-requires c κs = search needs
 
--- src/lib.rt:88:9
 returns : tie.Need-returns
 returns c =
     let after-admit = c .before .before .before in
     no-part _ _ _ (refused-part _ _ _ _ (c .before .enum-told2 .given .1) (after-admit .admit .ensures .answer)) (c .nothing .ensures)
 
--- src/lib.rt:90:5
 part-of-requires : tie.Need-part-of-requires
 part-of-requires c κs =
     let after-admit = c .before .before .before in
     after-admit .admit .ensures .admitted _ (c .before .enum-told .given .1) .formed
 
--- src/lib.rt:81:1
 returns-2 : tie.Need-returns-2
 returns-2 c =
     let after-admit = c .before .before .before .before in

@@ -15,22 +15,18 @@ use Rattle.sheet.proofs.table.body_place.Reads as body-place-reads
 use Rattle.sheet.proofs.table.variable_count.Reads as variable-count-reads
 use Rattle.tree.proofs.variable.kind_of.Reads as kind-of-reads
 
--- src/lib.rt:64:9
 variable-count-requires : tie.Need-variable-count-requires
 variable-count-requires c κs = search needs
 
--- src/lib.rt:66:9
 nothing-requires : tie.Need-nothing-requires
 nothing-requires c κs = search needs
 
--- src/lib.rt:66:9
 returns : tie.Need-returns
 returns c =
     let start = c .before .before .before .before in
     let count = c .before .before .variable-count .ensures ∙ start .pre .placed .prepared .table .variables in
     no-part _ _ _ (unknown-part _ _ (start .pre) _ (omega (arith, c .before .if1 .taken, count))) (c .nothing .ensures)
 
--- src/lib.rt:69:8
 kind-of-requires : tie.Need-kind-of-requires
 kind-of-requires c κs =
     let start = c .before .before .before in
@@ -38,11 +34,9 @@ kind-of-requires c κs =
     let lt : start .args .variable < varsOf (start .args .s .now) = omega (arith, c .if1 .left, count) in
     (start .pre .placed .prepared, lt)
 
--- src/lib.rt:70:9
 nothing-requires-2 : tie.Need-nothing-requires-2
 nothing-requires-2 c κs = search needs
 
--- src/lib.rt:70:9
 returns-2 : tie.Need-returns-2
 returns-2 c =
     let else1 = c .before .before .before in
@@ -52,7 +46,6 @@ returns-2 c =
     let lt : start .args .variable < varsOf (start .args .s .now) = omega (arith, else1 .if1 .left, count) in
     no-part _ _ _ (input-part _ _ (start .pre) _ lt _ (c .before .before .kind-of .ensures .0) (c .before .if2 .taken)) (c .nothing2 .ensures)
 
--- src/lib.rt:72:9
 body-place-requires : tie.Need-body-place-requires
 body-place-requires c κs =
     let after-variable-count = c .before .before .before in
@@ -61,11 +54,9 @@ body-place-requires c κs =
     let lt : start .args .variable < varsOf (start .args .s .now) = omega (arith, c .before .before .if1 .left, count) in
     omega (arith, laid-variable _ _ (start .pre .placed) _ lt .low)
 
--- src/lib.rt:73:31
 add-body-place : tie.Need-add-body-place
 add-body-place c = search needs
 
--- src/lib.rt:73:9
 body-place-requires-2 : tie.Need-body-place-requires-2
 body-place-requires-2 c κs =
     let else1 = c .before .before .before in
@@ -75,7 +66,6 @@ body-place-requires-2 c κs =
     let lt : start .args .variable < varsOf (start .args .s .now) = omega (arith, else1 .if1 .left, count) in
     omega (arith, laid-variable _ _ (start .pre .placed) _ lt .low)
 
--- src/lib.rt:76:14
 sub-t10 : tie.Need-sub-t10
 sub-t10 c =
     let after-kind-of = c .before .before .before in
@@ -92,7 +82,6 @@ sub-t10 c =
       places-ordered _ _ (start .pre) _ lt _ (kind .0) (c .before .before .if2 .left) (kind .1),
     )
 
--- src/lib.rt:60:1
 returns-3 : tie.Need-returns-3
 returns-3 c =
     let after-kind-of = c .before .before .before in

@@ -14,19 +14,25 @@ array-copy-out-coordinate-2 : tie.Need-array-copy-out-coordinate-2
 array-copy-out-coordinate-2 c = search needs
 
 coordinate-requires-2 : tie.Need-coordinate-requires-2
-coordinate-requires-2 c κs = c .before .before .before .before .pre .1 1
+coordinate-requires-2 c κs =
+    let s = c .before .before .before .before in
+    s .pre .1 1
 
 array-copy-out-coordinate-3 : tie.Need-array-copy-out-coordinate-3
 array-copy-out-coordinate-3 c = search needs
 
 coordinate-requires-3 : tie.Need-coordinate-requires-3
-coordinate-requires-3 c κs = c .before .before .before .before .before .before .pre .1 2
+coordinate-requires-3 c κs =
+    let s = c .before .before .before .before .before .before in
+    s .pre .1 2
 
 array-copy-out-coordinate-4 : tie.Need-array-copy-out-coordinate-4
 array-copy-out-coordinate-4 c = search needs
 
 coordinate-requires-4 : tie.Need-coordinate-requires-4
-coordinate-requires-4 c κs = c .before .before .before .before .before .before .before .before .pre .1 3
+coordinate-requires-4 c κs =
+    let s = c .before .before .before .before .before .before .before .before in
+    s .pre .1 3
 
 returns : tie.Need-returns
 returns c =

@@ -74,7 +74,9 @@ apply-requires : tie.Need-apply-requires
 apply-requires c κs = fit (c .before .before) 0 (omega arith) _ (c .rows-read .ensures)
 
 returns : tie.Need-returns
-returns c = answer (c .before .before .before) 0 (omega arith) _ (c .before .rows-read .ensures) _ (c .apply .ensures)
+returns c =
+    let after-to-usize2 = c .before .before .before in
+    answer after-to-usize2 0 (omega arith) _ (c .before .rows-read .ensures) _ (c .apply .ensures)
 
 add-rows-read-2 : tie.Need-add-rows-read-2
 add-rows-read-2 c = search needs
@@ -83,34 +85,50 @@ rows-read-requires-2 : tie.Need-rows-read-requires-2
 rows-read-requires-2 c κs = there (c .before .before) 1 (omega arith)
 
 apply-requires-2 : tie.Need-apply-requires-2
-apply-requires-2 c κs = fit (c .before .before .before) 1 (omega arith) _ (c .rows-read2 .ensures)
+apply-requires-2 c κs =
+    let after-to-usize2 = c .before .before .before in
+    fit after-to-usize2 1 (omega arith) _ (c .rows-read2 .ensures)
 
 returns-2 : tie.Need-returns-2
-returns-2 c = answer (c .before .before .before .before) 1 (omega arith) _ (c .before .rows-read2 .ensures) _ (c .apply2 .ensures)
+returns-2 c =
+    let after-to-usize2 = c .before .before .before .before in
+    answer after-to-usize2 1 (omega arith) _ (c .before .rows-read2 .ensures) _ (c .apply2 .ensures)
 
 add-rows-read-3 : tie.Need-add-rows-read-3
 add-rows-read-3 c = search needs
 
 rows-read-requires-3 : tie.Need-rows-read-requires-3
-rows-read-requires-3 c κs = there (c .before .before .before) 2 (omega arith)
+rows-read-requires-3 c κs =
+    let after-to-usize2 = c .before .before .before in
+    there after-to-usize2 2 (omega arith)
 
 apply-requires-3 : tie.Need-apply-requires-3
-apply-requires-3 c κs = fit (c .before .before .before .before) 2 (omega arith) _ (c .rows-read3 .ensures)
+apply-requires-3 c κs =
+    let after-to-usize2 = c .before .before .before .before in
+    fit after-to-usize2 2 (omega arith) _ (c .rows-read3 .ensures)
 
 returns-3 : tie.Need-returns-3
-returns-3 c = answer (c .before .before .before .before .before) 2 (omega arith) _ (c .before .rows-read3 .ensures) _ (c .apply3 .ensures)
+returns-3 c =
+    let after-to-usize2 = c .before .before .before .before .before in
+    answer after-to-usize2 2 (omega arith) _ (c .before .rows-read3 .ensures) _ (c .apply3 .ensures)
 
 add-rows-read-4 : tie.Need-add-rows-read-4
 add-rows-read-4 c = search needs
 
 rows-read-requires-4 : tie.Need-rows-read-requires-4
-rows-read-requires-4 c κs = there (c .before .before .before) _ refl
+rows-read-requires-4 c κs =
+    let after-to-usize2 = c .before .before .before in
+    there after-to-usize2 _ refl
 
 apply-requires-4 : tie.Need-apply-requires-4
-apply-requires-4 c κs = fit (c .before .before .before .before) _ refl _ (c .rows-read4 .ensures)
+apply-requires-4 c κs =
+    let after-to-usize2 = c .before .before .before .before in
+    fit after-to-usize2 _ refl _ (c .rows-read4 .ensures)
 
 returns-4 : tie.Need-returns-4
-returns-4 c = answer (c .before .before .before .before .before) _ refl _ (c .before .rows-read4 .ensures) _ (c .apply4 .ensures)
+returns-4 c =
+    let after-to-usize2 = c .before .before .before .before .before in
+    answer after-to-usize2 _ refl _ (c .before .rows-read4 .ensures) _ (c .apply4 .ensures)
 
 pub image-at-spec : {M : Type 1} → statement M
 image-at-spec =

@@ -47,17 +47,20 @@ larger-requires-4 c κs = search needs
 returns : tie.Need-returns
 returns c =
     let c3 = c .before .before .before in
-    let c2 = c3 .before .before .before in
-    let c1 = c2 .before .before .before in
-    let s = c1 .before .before .before .before in
+    let after-row-reach3 = c3 .before in
+    let c2 = after-row-reach3 .before .before in
+    let after-row-reach2 = c2 .before in
+    let c1 = after-row-reach2 .before .before in
+    let after-row-reach = c1 .before in
+    let s = after-row-reach .before .before .before in
     let m = s .args .m in
     let n = m .width in
     let row = neat-line m (s .pre .0) in
     tells-equal (c .larger4 .result) (mapReach-neat (s .args .reach) m (s .pre .0))
     (c .larger4 .ensures _ _ (c .before .row-reach4 .ensures n (row 0))
-    (c3 .larger3 .ensures _ _ (c3 .before .row-reach3 .ensures n (row 1))
-    (c2 .larger2 .ensures _ _ (c2 .before .row-reach2 .ensures n (row 2))
-    (c1 .larger .ensures _ 1 (c1 .before .row-reach .ensures n (row 3)) (refl, lit≤ tt)))))
+    (c3 .larger3 .ensures _ _ (after-row-reach3 .row-reach3 .ensures n (row 1))
+    (c2 .larger2 .ensures _ _ (after-row-reach2 .row-reach2 .ensures n (row 2))
+    (c1 .larger .ensures _ 1 (after-row-reach .row-reach .ensures n (row 3)) (refl, lit≤ tt)))))
 
 pub map-reach-spec : {M : Type 1} → statement M
 map-reach-spec =

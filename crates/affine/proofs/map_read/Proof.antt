@@ -44,9 +44,10 @@ identity-requires-3 c κs = search needs
 returns-3 : tie.Need-returns-3
 returns-3 c =
     let first = c .before .before .before .before in
-    let s = first .before .before .before .before .before in
+    let after-number-at = first .before in
+    let s = after-number-at .before .before .before .before in
     no-map (s .args .b .now) (s .args .p) (c .identity3 .result) (c .identity3 .ensures .1)
-    (λ f q g. omega (arith, first .to-usize .ensures, ap natAbs (first .before .number-at .ensures)))
+    (λ f q g. omega (arith, first .to-usize .ensures, ap natAbs (after-number-at .number-at .ensures)))
 
 identity-requires-4 : tie.Need-identity-requires-4
 identity-requires-4 c κs = search needs
@@ -54,9 +55,10 @@ identity-requires-4 c κs = search needs
 returns-4 : tie.Need-returns-4
 returns-4 c =
     let second = c .before .before .before in
-    let s = second .before .before .before .before .before .before .before in
+    let after-number-at2 = second .before in
+    let s = after-number-at2 .before .before .before .before .before .before in
     no-map (s .args .b .now) (s .args .p) (c .identity4 .result) (c .identity4 .ensures .1)
-    (λ f q g. omega (arith, second .to-usize2 .ensures, ap natAbs (second .before .number-at2 .ensures)))
+    (λ f q g. omega (arith, second .to-usize2 .ensures, ap natAbs (after-number-at2 .number-at2 .ensures)))
 
 add-if5 : tie.Need-add-if5
 add-if5 c = search needs
@@ -82,10 +84,12 @@ identity-requires-5 c κs = search needs
 returns-5 : tie.Need-returns-5
 returns-5 c =
     let second = c .before .before .before .before in
-    let first = second .before .before in
-    let s = first .before .before .before .before .before in
-    let wide = first .to-usize .ensures ∙ ap natAbs (first .before .number-at .ensures) in
-    let high = second .to-usize2 .ensures ∙ ap natAbs (second .before .number-at2 .ensures) in
+    let after-number-at2 = second .before in
+    let first = after-number-at2 .before in
+    let after-number-at = first .before in
+    let s = after-number-at .before .before .before .before in
+    let wide = first .to-usize .ensures ∙ ap natAbs (after-number-at .number-at .ensures) in
+    let high = second .to-usize2 .ensures ∙ ap natAbs (after-number-at2 .number-at2 .ensures) in
     no-map (s .args .b .now) (s .args .p) (c .identity5 .result) (c .identity5 .ensures .1)
     (λ f q g. omega (arith, span-same wide high, g .next, g .inside, c .before .if5 .taken))
 
@@ -98,10 +102,12 @@ rows-read-requires c κs = search needs
 returns-6 : tie.Need-returns-6
 returns-6 c =
     let second = c .before .before .before .before in
-    let first = second .before .before in
-    let s = first .before .before .before .before .before in
-    let wide = first .to-usize .ensures ∙ ap natAbs (first .before .number-at .ensures) in
-    let high = second .to-usize2 .ensures ∙ ap natAbs (second .before .number-at2 .ensures) in
+    let after-number-at2 = second .before in
+    let first = after-number-at2 .before in
+    let after-number-at = first .before in
+    let s = after-number-at .before .before .before .before in
+    let wide = first .to-usize .ensures ∙ ap natAbs (after-number-at .number-at .ensures) in
+    let high = second .to-usize2 .ensures ∙ ap natAbs (after-number-at2 .number-at2 .ensures) in
     rows-map (s .args .b .now) (s .args .p) (first .to-usize .result) (second .to-usize2 .result) wide high (c .rows-read .result) (c .rows-read .ensures)
 
 pub map-read-spec : {M : Type 1} → statement M

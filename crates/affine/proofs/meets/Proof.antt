@@ -17,7 +17,6 @@ is-zero-requires c κs = search needs
 
 returns : tie.Need-returns
 returns c =
-    let s = c .before .before .before in
     λ n h. rw (c .before .if1 .taken) (c .not-negative .ensures ∙ ap nonNeg (c .before .before .row-at .ensures n h))
 
 returns-2 : tie.Need-returns-2

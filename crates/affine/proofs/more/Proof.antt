@@ -17,7 +17,9 @@ enum-told : tie.Need-enum-told
 enum-told c = search needs
 
 returns : tie.Need-returns
-returns c = λ t h. more-within (c .sum .result) (c .before .before .before .s .given .1) t h (c .before .size .ensures) (c .sum .ensures)
+returns c =
+    let after-s = c .before .before .before in
+    λ t h. more-within (c .sum .result) (after-s .s .given .1) t h (c .before .size .ensures) (c .sum .ensures)
 
 returns-2 : tie.Need-returns-2
 returns-2 c = λ t h. more-past (c .enum-told .given .1) t h _

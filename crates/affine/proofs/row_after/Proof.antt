@@ -20,16 +20,24 @@ row-at-requires c κs =
     subst (λ (z : Point). rowSize (rowOf 4 (s .args .w)) z < 2 ^ 63) (sym (c .constants-of .ensures)) (s .pre .2 .const)
 
 by-column-requires : tie.Need-by-column-requires
-by-column-requires c κs = (lit< tt, c .before .before .before .pre .2 .coefs 0)
+by-column-requires c κs =
+    let s = c .before .before .before in
+    (lit< tt, s .pre .2 .coefs 0)
 
 by-column-requires-2 : tie.Need-by-column-requires-2
-by-column-requires-2 c κs = (lit< tt, c .before .before .before .before .pre .2 .coefs 1)
+by-column-requires-2 c κs =
+    let s = c .before .before .before .before in
+    (lit< tt, s .pre .2 .coefs 1)
 
 by-column-requires-3 : tie.Need-by-column-requires-3
-by-column-requires-3 c κs = (lit< tt, c .before .before .before .before .before .pre .2 .coefs 2)
+by-column-requires-3 c κs =
+    let s = c .before .before .before .before .before in
+    (lit< tt, s .pre .2 .coefs 2)
 
 by-column-requires-4 : tie.Need-by-column-requires-4
-by-column-requires-4 c κs = (lit< tt, c .before .before .before .before .before .before .pre .2 .coefs 3)
+by-column-requires-4 c κs =
+    let s = c .before .before .before .before .before .before in
+    (lit< tt, s .pre .2 .coefs 3)
 
 returns : tie.Need-returns
 returns c =
@@ -37,13 +45,14 @@ returns c =
     let c2 = c3 .before in
     let c1 = c2 .before in
     let k = c1 .before in
-    let s = k .before .before .before in
+    let after-constants-of = k .before in
+    let s = after-constants-of .before .before in
     let w = s .args .w in
     after-is (s .args .f) w (s .pre .0) (s .pre .1)
     (c1 .by-column .result) (c2 .by-column2 .result) (c3 .by-column3 .result) (c .by-column4 .result) (k .row-at .result)
     (c1 .by-column .ensures) (c2 .by-column2 .ensures) (c3 .by-column3 .ensures) (c .by-column4 .ensures)
     (k .row-at .ensures 4 (neat-four w (s .pre .0 .rows-few) (s .pre .1))
-    ∙ ap (λ (z : Point). rowAt (rowOf 4 w) z) (k .before .constants-of .ensures))
+    ∙ ap (λ (z : Point). rowAt (rowOf 4 w) z) (after-constants-of .constants-of .ensures))
 
 pub row-after-spec : {M : Type 1} → statement M
 row-after-spec =

@@ -9,15 +9,12 @@ use Rattle.points.proofs.above.Lts as lts
 use Rattle.integer.proofs.sub.Reads as sub-reads
 use Rattle.integer.proofs.to_usize.Reads as to-usize-reads
 
--- src/lib.rt:33:23
 sub-requires : tie.Need-sub-requires
 sub-requires c κs = search needs
 
--- src/lib.rt:33:5
 to-usize-requires : tie.Need-to-usize-requires
 to-usize-requires c κs = search needs
 
--- src/lib.rt:29:1
 returns : tie.Need-returns
 returns c =
     let e = c .to-usize .ensures in

@@ -15,28 +15,24 @@ use Rattle.integer.proofs.number_at.Reads as number-at-reads
 use Rattle.integer.proofs.within.Reads as within-reads
 use Rattle.points.proofs.above.Reads as above-reads
 
--- src/lib.rt:51:9
 number-at-requires : tie.Need-number-at-requires
 number-at-requires c κs = search needs
 
--- src/lib.rt:52:36
 add-number-at : tie.Need-add-number-at
 add-number-at c = search needs
 
--- src/lib.rt:52:9
 number-at-requires-2 : tie.Need-number-at-requires-2
 number-at-requires-2 c κs = search needs
 
--- src/lib.rt:53:8
 within-requires : tie.Need-within-requires
 within-requires c κs = search needs
 
--- src/lib.rt:54:19
 above-requires : tie.Need-above-requires
 above-requires c κs =
-    let start = c .before .before .before .before .before in
+    let after-number-at = c .before .before .before in
+    let start = after-number-at .before .before in
     let hi = c .before .before .number-at2 .ensures in
-    let lo = c .before .before .before .number-at .ensures in
+    let lo = after-number-at .number-at .ensures in
     let isIn : within (field (start .args .s .now) (start .args .p)) (field (start .args .s .now) (start .args .p + 8)) (start .args .x .v) ≡ true =
     rw (← hi, ← lo) (sym (c .before .within .ensures) ∙ c .if1 .taken) in (
       within-small (start .args .s .now) (start .args .p) (start .pre) (start .args .x .v) isIn,
@@ -45,16 +41,18 @@ above-requires c κs =
 
 returns : tie.Need-returns
 returns c =
-    let start = c .before .before .before .before .before .before in
-    let hi = c .before .before .before .number-at2 .ensures in
-    let lo = c .before .before .before .before .number-at .ensures in
+    let after-number-at2 = c .before .before .before in
+    let after-number-at = after-number-at2 .before in
+    let hi = after-number-at2 .number-at2 .ensures in
+    let lo = after-number-at .number-at .ensures in
     let isIn = sym (c .before .before .within .ensures) ∙ c .before .if1 .taken in
     rw (c .above .ensures .0, ← hi, ← lo, isIn) refl
 
 returns-2 : tie.Need-returns-2
 returns-2 c =
+    let after-number-at = c .before .before .before in
     let hi = c .before .before .number-at2 .ensures in
-    let lo = c .before .before .before .number-at .ensures in
+    let lo = after-number-at .number-at .ensures in
     let isOut = sym (c .before .within .ensures) ∙ c .if1 .left in
     rw (← hi, ← lo, isOut) refl
 

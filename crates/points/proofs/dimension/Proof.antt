@@ -8,19 +8,15 @@ use Rattle.points.proofs.dimension.Lts as lts
 use Rattle.integer.proofs.number_at.Reads as number-at-reads
 use Rattle.integer.proofs.to_usize.Reads as to-usize-reads
 
--- src/lib.rt:25:45
 add-number-at : tie.Need-add-number-at
 add-number-at c = search needs
 
--- src/lib.rt:25:23
 number-at-requires : tie.Need-number-at-requires
 number-at-requires c κs = search needs
 
--- src/lib.rt:25:5
 to-usize-requires : tie.Need-to-usize-requires
 to-usize-requires c κs = search needs
 
--- src/lib.rt:21:1
 returns : tie.Need-returns
 returns c = c .to-usize .ensures ∙ ap natAbs (c .before .number-at .ensures)
 

@@ -23,15 +23,12 @@ Inv-loop s place z left₀ p₀ k₀ e₀ left p k e =
 abbrev μ-loop : tie.MeasureT-loop
 μ-loop s place z left₀ p₀ k₀ e₀ left p k e = left
 
--- src/lib.rt:65:9
 dimension-requires : tie.Need-dimension-requires Inv-loop μ-loop
 dimension-requires c κs = search needs
 
--- src/lib.rt:66:17
 add-p : tie.Need-add-p Inv-loop μ-loop
 add-p c = search needs
 
--- src/lib.rt:69:5
 loop-holds : tie.Need-loop-holds Inv-loop μ-loop
 loop-holds c =
     let start = c .before .before in
@@ -39,86 +36,83 @@ loop-holds c =
     let place = start .args .place in
     let n = c .dimension .ensures in
     record {
-      number = rw n (numberFrom-none (boxOf bs place) (pointFrom 0 (dimensionAt bs place) (start .args .t3)) ∙ ap (numberIn (boxOf bs place)) (pointFrom-zero (dimensionAt bs place) (start .args .t3)));
+      number =
+          rw n (numberFrom-none (boxOf bs place) (pointFrom 0 (dimensionAt bs place) (start .args .t3))
+          ∙ ap (numberIn (boxOf bs place)) (pointFrom-zero (dimensionAt bs place) (start .args .t3)));
       low = rw n (omega (arith, start .pre .1));
       ranges = rw n (start .pre .0 .ranges);
       few = omega (arith, n, start .pre .0 .small);
     }
 
--- src/lib.rt:70:29
 mul-digit : tie.Need-mul-digit Inv-loop μ-loop
 mul-digit c = search needs
 
--- src/lib.rt:70:29
 array-copy-out-digit : tie.Need-array-copy-out-digit Inv-loop μ-loop
 array-copy-out-digit c = omega (arith, c .before .loop .inv .few)
 
--- src/lib.rt:70:13
 digit-requires : tie.Need-digit-requires Inv-loop μ-loop
 digit-requires c κs = kept-head _ (c .before .loop-test .taken) (c .before .before .loop .inv)
 
--- src/lib.rt:71:23
 enum-known-d : tie.Need-enum-known-d Inv-loop μ-loop
 enum-known-d c = search needs
 
--- src/lib.rt:72:13
 enum-told : tie.Need-enum-told Inv-loop μ-loop
 enum-told c = search needs
 
--- src/lib.rt:72:13
 returns : tie.Need-returns Inv-loop μ-loop
 returns c =
+    let in-loop = c .before .before .before .before in
+    let loop = in-loop .before in
     let asked = c .before .before .digit .ensures in
-    let loop = c .before .before .before .before .before in
-    kept-off _ (c .before .before .before .before .loop-test .taken) (loop .loop .inv) (sym asked ∙ c .enum-told .given .1)
+    kept-off _ (in-loop .loop-test .taken) (loop .loop .inv) (sym asked ∙ c .enum-told .given .1)
 
--- src/lib.rt:74:17
 width-requires : tie.Need-width-requires Inv-loop μ-loop
 width-requires c κs =
     let inside = c .before .before .before .before .before in
-    kept-head _ (inside .loop-test .taken) (inside .before .loop .inv)
+    let at-loop = inside .before in
+    kept-head _ (inside .loop-test .taken) (at-loop .loop .inv)
 
--- src/lib.rt:74:13
 mul-e : tie.Need-mul-e Inv-loop μ-loop
 mul-e c =
-    let loop = c .before .before .before .before .before .before .before .loop in
+    let at-loop = c .before .before .before .before .before .before .before in
+    let loop = at-loop .loop in
     record { fits = omega (arith, mul-le-mul (kept-low _ (loop .inv)) (c .width .ensures .1)) }
 
--- src/lib.rt:74:13
 add-e : tie.Need-add-e Inv-loop μ-loop
 add-e c =
-    let loop = c .before .before .before .before .before .before .before .loop in
-    let asked = c .before .before .before .before .digit .ensures in
-    let start = c .before .before .before .before .before .before .before .before .before .before in
+    let after-digit = c .before .before .before .before in
+    let at-loop = after-digit .before .before .before in
+    let start = at-loop .before .before .before in
+    let loop = at-loop .loop in
+    let asked = after-digit .digit .ensures in
     let low = digit-low (rangeAt (start .args .s .now) (loop .p)) (at (start .args .t3) (loop .k)) _ (sym asked ∙ c .before .before .d .given .1) in
     record { fits = omega (arith, mul-le-mul (kept-low _ (loop .inv)) (c .width .ensures .1), low, c .width .ensures .0, c .width .ensures .1) }
 
--- src/lib.rt:75:9
 add-p-2 : tie.Need-add-p-2 Inv-loop μ-loop
 add-p-2 c =
     let inside = c .before .before .before .before .before .before in
-    omega (arith, kept-head _ (inside .loop-test .taken) (inside .before .loop .inv) .there)
+    let at-loop = inside .before in
+    omega (arith, kept-head _ (inside .loop-test .taken) (at-loop .loop .inv) .there)
 
--- src/lib.rt:76:9
 add-k : tie.Need-add-k Inv-loop μ-loop
-add-k c = omega (arith, c .before .before .before .before .before .before .before .loop .inv .few)
+add-k c =
+    let at-loop = c .before .before .before .before .before .before .before in
+    omega (arith, at-loop .loop .inv .few)
 
--- src/lib.rt:77:9
 sub-left : tie.Need-sub-left Inv-loop μ-loop
 sub-left c = search needs
 
--- src/lib.rt:69:5
 loop-less : tie.Need-loop-less Inv-loop μ-loop
 loop-less c = search needs
 
--- src/lib.rt:69:5
 loop-again : tie.Need-loop-again Inv-loop μ-loop
 loop-again c =
-    let inside = c .before .before .before .before .before .before in
-    let asked = c .before .before .before .before .digit .ensures in
-    rw (c .width .ensures .0) (kept-more _ _ (inside .loop-test .taken) (inside .before .loop .inv) (sym asked ∙ c .before .before .d .given .1))
+    let after-digit = c .before .before .before .before in
+    let inside = after-digit .before .before in
+    let at-loop = inside .before in
+    let asked = after-digit .digit .ensures in
+    rw (c .width .ensures .0) (kept-more _ _ (inside .loop-test .taken) (at-loop .loop .inv) (sym asked ∙ c .before .before .d .given .1))
 
--- src/lib.rt:61:1
 returns-2 : tie.Need-returns-2 Inv-loop μ-loop
 returns-2 c = kept-end _ (omega (arith, c .loop-test .left)) (c .before .loop .inv)
 

@@ -10,22 +10,18 @@ use Rattle.integer.proofs.add.Reads as add-reads
 use Rattle.integer.proofs.number_at.Reads as number-at-reads
 use Rattle.integer.proofs.of_usize.Reads as of-usize-reads
 
--- src/lib.rt:87:18
 number-at-requires : tie.Need-number-at-requires
 number-at-requires c κs = search needs
 
--- src/lib.rt:87:44
 of-usize-requires : tie.Need-of-usize-requires
 of-usize-requires c κs = search needs
 
--- src/lib.rt:87:5
 add-requires : tie.Need-add-requires
 add-requires c κs =
     let start = c .before .before .before in
     let low = low-small (start .args .s .now) (start .args .p) (start .pre .0) in
     rw (c .before .number-at .ensures, c .of-usize .ensures) (omega (arith, low, start .pre .1))
 
--- src/lib.rt:83:1
 returns : tie.Need-returns
 returns c = c .add .ensures .0 ∙ rw (c .before .before .number-at .ensures, c .before .of-usize .ensures) refl
 

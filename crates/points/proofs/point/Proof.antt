@@ -25,19 +25,15 @@ Inv-loop s place points i z₀ left₀ p₀ k₀ rest₀ j₀ z left p k rest j 
 abbrev μ-loop : tie.MeasureT-loop
 μ-loop s place points i z₀ left₀ p₀ k₀ rest₀ j₀ z left p k rest j = left
 
--- src/lib.rt:95:18
 of-requires : tie.Need-of-requires Inv-loop μ-loop
 of-requires c κs = search needs
 
--- src/lib.rt:96:9
 dimension-requires : tie.Need-dimension-requires Inv-loop μ-loop
 dimension-requires c κs = search needs
 
--- src/lib.rt:97:17
 add-p : tie.Need-add-p Inv-loop μ-loop
 add-p c = search needs
 
--- src/lib.rt:101:5
 loop-holds : tie.Need-loop-holds Inv-loop μ-loop
 loop-holds c =
     let start = c .before .before .before in
@@ -54,64 +50,60 @@ loop-holds c =
       four = start .pre .0 .small;
     }
 
--- src/lib.rt:102:23
 width-requires : tie.Need-width-requires Inv-loop μ-loop
 width-requires c κs = making-head _ (c .loop-test .taken) (c .before .loop .inv)
 
--- src/lib.rt:102:16
 div-rest : tie.Need-div-rest Inv-loop μ-loop
 div-rest c = omega (arith, c .width .ensures .0)
 
--- src/lib.rt:103:26
 div-nth : tie.Need-div-nth Inv-loop μ-loop
 div-nth c = rw (c .width .ensures .0) (rest-some _ (c .before .loop-test .taken) (c .before .before .loop .inv))
 
--- src/lib.rt:103:16
 nth-requires : tie.Need-nth-requires Inv-loop μ-loop
 nth-requires c κs =
-    let loop = c .before .before .loop in
-    (making-head _ (c .before .loop-test .taken) (loop .inv), omega (arith, div-le-self (loop .j) (loop .rest / c .width .result), loop .inv .low, loop .inv .few))
+    let loop = c .before .before .loop in (
+      making-head _ (c .before .loop-test .taken) (loop .inv),
+      omega (arith, div-le-self (loop .j) (loop .rest / c .width .result), loop .inv .low, loop .inv .few),
+    )
 
--- src/lib.rt:103:9
 mul-z : tie.Need-mul-z Inv-loop μ-loop
 mul-z c = search needs
 
--- src/lib.rt:103:9
 array-set-from-z : tie.Need-array-set-from-z Inv-loop μ-loop
 array-set-from-z c =
-    let inv = c .before .before .before .loop .inv in
+    let at-loop = c .before .before .before in
+    let inv = at-loop .loop .inv in
     omega (arith, inv .whole, inv .four, c .before .before .loop-test .taken)
 
--- src/lib.rt:104:13
 rem-j : tie.Need-rem-j Inv-loop μ-loop
-rem-j c = rw (c .before .width .ensures .0) (rest-some _ (c .before .before .loop-test .taken) (c .before .before .before .loop .inv))
+rem-j c =
+    let at-loop = c .before .before .before in
+    rw (c .before .width .ensures .0) (rest-some _ (c .before .before .loop-test .taken) (at-loop .loop .inv))
 
--- src/lib.rt:105:9
 add-p-2 : tie.Need-add-p-2 Inv-loop μ-loop
-add-p-2 c = omega (arith, making-head _ (c .before .before .loop-test .taken) (c .before .before .before .loop .inv) .there)
+add-p-2 c =
+    let at-loop = c .before .before .before in
+    omega (arith, making-head _ (c .before .before .loop-test .taken) (at-loop .loop .inv) .there)
 
--- src/lib.rt:106:9
 add-k : tie.Need-add-k Inv-loop μ-loop
 add-k c =
-    let inv = c .before .before .before .loop .inv in
+    let at-loop = c .before .before .before in
+    let inv = at-loop .loop .inv in
     omega (arith, inv .whole, inv .four)
 
--- src/lib.rt:107:9
 sub-left : tie.Need-sub-left Inv-loop μ-loop
 sub-left c = search needs
 
--- src/lib.rt:101:5
 loop-less : tie.Need-loop-less Inv-loop μ-loop
 loop-less c = search needs
 
--- src/lib.rt:101:5
 loop-again : tie.Need-loop-again Inv-loop μ-loop
 loop-again c =
+    let at-loop = c .before .before .before in
     let taken = c .before .before .loop-test .taken in
     let width = c .before .width .ensures .0 in
-    rw width (making-more _ taken (c .before .before .before .loop .inv) (c .nth .result) (rw width at (c .nth .ensures)))
+    rw width (making-more _ taken (at-loop .loop .inv) (c .nth .result) (rw width at (c .nth .ensures)))
 
--- src/lib.rt:91:1
 returns : tie.Need-returns Inv-loop μ-loop
 returns c =
     let done = making-end _ (omega (arith, c .loop-test .left)) (c .before .loop .inv) in

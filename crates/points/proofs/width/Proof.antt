@@ -10,19 +10,15 @@ use Rattle.points.proofs.width.Lts as lts
 use Rattle.integer.proofs.number_at.Reads as number-at-reads
 use Rattle.points.proofs.above.Reads as above-reads
 
--- src/lib.rt:41:9
 number-at-requires : tie.Need-number-at-requires
 number-at-requires c κs = search needs
 
--- src/lib.rt:42:36
 add-number-at : tie.Need-add-number-at
 add-number-at c = search needs
 
--- src/lib.rt:42:9
 number-at-requires-2 : tie.Need-number-at-requires-2
 number-at-requires-2 c κs = search needs
 
--- src/lib.rt:43:5
 above-requires : tie.Need-above-requires
 above-requires c κs =
     let start = c .before .before .before in
@@ -30,11 +26,9 @@ above-requires c κs =
     let lo = c .before .number-at .ensures in
     (rw hi (high-small (start .args .s .now) (start .args .p) (start .pre)), rw lo (low-small (start .args .s .now) (start .args .p) (start .pre)))
 
--- src/lib.rt:43:5
 add-result : tie.Need-add-result
 add-result c = search needs
 
--- src/lib.rt:37:1
 returns : tie.Need-returns
 returns c =
     let hi = c .before .number-at2 .ensures in

@@ -37,7 +37,9 @@ admits : (c : tie.After-judged) → let a = c .before .before in Admitted (start
 admits c = c .before .before .admit .ensures .admitted _ (c .judged .given .1)
 
 many : (c : tie.After-judged) → c .judged .given .0 .0 ≡ total (sheetOf (start c .args .s .now))
-many c = total-is _ (start c .args .ins .now) (start c .args .codes .now) (start c .args .values .now) _ (admits c .sheet-is) _ (sym (ap told (c .judged .given .1)) ∙ c .before .before .admit .ensures .answer)
+many c =
+    total-is _ (start c .args .ins .now) (start c .args .codes .now) (start c .args .values .now) _ (admits c .sheet-is) _
+    (sym (ap told (c .judged .given .1)) ∙ c .before .before .admit .ensures .answer)
 
 inputs-requires : tie.Need-inputs-requires
 inputs-requires c κs = admits (c .before .before) .formed
@@ -47,15 +49,18 @@ enum-known-r c = search needs
 
 returns-2 : tie.Need-returns-2
 returns-2 c =
-    let j = c .before .before .before .before .before .before in
+    let after-inputs = c .before .before .before in
+    let j = after-inputs .before .before .before in
     let s = start j in
-    inputs-runs _ _ (s .args .codes .now) (s .args .values .now) _ (admits j .sheet-is) _ (sym (ap ruled (c .before .r .given .1)) ∙ c .before .before .before .inputs .ensures)
+    inputs-runs _ _ (s .args .codes .now) (s .args .values .now) _ (admits j .sheet-is) _
+    (sym (ap ruled (c .before .r .given .1)) ∙ after-inputs .inputs .ensures)
 
 enum-told-2 : tie.Need-enum-told-2
 enum-told-2 c = search needs
 
 -- and so is the list
-taken : (c : tie.After-enum-told2) → let s = start (c .before .before .before .before .before) in accepted tt ≡ inputs (sheetOf (s .args .s .now)) (s .args .ins .now)
+taken : (c : tie.After-enum-told2) → let s = start (c .before .before .before .before .before) in accepted tt
+    ≡ inputs (sheetOf (s .args .s .now)) (s .args .ins .now)
 taken c = sym (ap ruled (c .enum-told2 .given .1)) ∙ c .before .before .inputs .ensures
 
 returns-3 : tie.Need-returns-3
@@ -71,19 +76,23 @@ returns-4 c =
 
 start-requires : tie.Need-start-requires
 start-requires c κs =
-    let j = c .before .before .before .before .before .before .before .before .before .before .before in
+    let after-enum-told2 = c .before .before .before .before .before .before in
+    let j = after-enum-told2 .before .before .before .before .before in
     let a = admits j in
-    (a .formed, a .filled, inputs-length _ _ (sym (taken (c .before .before .before .before .before .before))), started-none _ _)
+    (a .formed, a .filled, inputs-length _ _ (sym (taken after-enum-told2)), started-none _ _)
 
 fill-all-requires : tie.Need-fill-all-requires
 fill-all-requires c κs =
-    let j = c .before .before .before .before .before .before .before .before .before .before .before .before .before .before .before .before .before .before in
+    let after-start = c .before .before .before .before .before .before in
+    let else2 = after-start .before .before .before .before .before in
+    let else1 = else2 .before in
+    let j = else1 .before .before .before .before .before .before in
     let a = admits j in
-    let S = c .before .before .before .before .before .before .start .ensures in
+    let S = after-start .start .ensures in
     let few = laid-total _ _ (a .formed .placed) in
     let n = many j in
     let covered = accepted-covered _ (a .sheet-is) in
-    (a .formed, a .filled, started-ready _ _ _ few S covered, started-idle _ _ _ few S, omega (arith, n, c .before .before .before .before .before .before .before .before .before .before .before .before .if1 .left), omega (arith, n, c .before .before .before .before .before .before .before .before .before .before .before .if2 .left))
+    (a .formed, a .filled, started-ready _ _ _ few S covered, started-idle _ _ _ few S, omega (arith, n, else1 .if1 .left), omega (arith, n, else2 .if2 .left))
 
 same-length : tie.Need-same-length
 same-length c = search needs
@@ -93,11 +102,17 @@ same-length-2 c = search needs
 
 returns-5 : tie.Need-returns-5
 returns-5 c =
-    let j = c .before .before .before .before .before .before .before .before .before .before .before .before .before .before .before .before .before .before .before .before .before .before in
+    let after-fill-all = c .before .before .before in
+    let after-start = after-fill-all .before .before .before .before .before .before .before in
+    let else2 = after-start .before .before .before .before .before in
+    let else1 = else2 .before in
+    let after-enum-told2 = else1 .before in
+    let j = after-enum-told2 .before .before .before .before .before in
     let a = admits j in
-    let S = c .before .before .before .before .before .before .before .before .before .before .start .ensures in
+    let S = after-start .start .ensures in
     let few = laid-total _ _ (a .formed .placed) in
-    all-runs _ _ _ _ _ (a .sheet-is) (taken (c .before .before .before .before .before .before .before .before .before .before .before .before .before .before .before .before .before)) _ (many j) (c .before .before .before .before .before .before .before .before .before .before .before .before .before .before .before .before .if1 .left) (c .before .before .before .before .before .before .before .before .before .before .before .before .before .before .before .if2 .left) _ (started-right _ _ _ few S) _ _ (c .before .before .before .fill-all .ensures)
+    all-runs _ _ _ _ _ (a .sheet-is) (taken after-enum-told2) _ (many j) (else1 .if1 .left) (else2 .if2 .left) _ (started-right _ _ _ few S) _ _
+    (after-fill-all .fill-all .ensures)
 
 pub run-spec : {M : Type 1} → statement M
 run-spec =

@@ -18,7 +18,8 @@ use Rattle.sheet.specs.Table.{Table, noted}
 use Rattle.sheet.proofs.Places.{Passed, came-to, count-came, counted}
 use Rattle.sheet.proofs.Heads.{heads-length}
 use Rattle.sheet.proofs.Sections.{rawOf, fromSecond, fromThird}
-use Rattle.sheet.proofs.Sections.{read-long, read-sections, part-stops, first-goes, heads-go, second-goes, third-stops, third-goes, third-there, tail-refused, read-ends}
+use Rattle.sheet.proofs.Sections.{read-long, read-sections, part-stops, first-goes, heads-go, second-goes, third-stops, third-goes}
+use Rattle.sheet.proofs.Sections.{third-there, tail-refused, read-ends}
 use Rattle.sheet.proofs.Sections.{reads-refused, reads-stopped, reads-accepted, noted-table, table-total}
 use Rattle.sheet.proofs.read.Statement.{statement}
 use Rattle.sheet.proofs.read.Tie as tie
@@ -63,23 +64,29 @@ abbrev end : tie.After-known-told4 → ℕ
 end c = c .before .d .given .0 .0
 
 -- the count of variables was read
-counts : (c : tie.After-known-told) → Passed (within (pos 1) (pos 32)) (c .before .before .before .before .before .before .before .before .args .s .now) 0 (c .before .a .given .0 .0)
+counts : (c : tie.After-known-told) →
+    Passed (within (pos 1) (pos 32)) (c .before .before .before .before .before .before .before .before .args .s .now) 0 (c .before .a .given .0 .0)
 counts c =
-    let s = c .before .before .before .before .before .before .before .before .args .s .now in
-    count-came s 0 _ _ (c .before .a .given .1) 1 32 (c .before .before .before .count-field .ensures)
+    let after-count-field = c .before .before .before in
+    let start = after-count-field .before .before .before .before .before in
+    let s = start .args .s .now in
+    count-came s 0 _ _ (c .before .a .given .1) 1 32 (after-count-field .count-field .ensures)
 
 some : (c : tie.After-count-at) → (1 ≤ c .count-at .result) × (c .count-at .result ≤ 32)
 some c = let e = c .count-at .ensures in let h = counted 1 32 (counts (c .before)) in (omega arith, omega arith)
 
 opened : (c : tie.After-count-at) → read (sheet c) ≡ after (heads (c .count-at .result) [] 0 (sheet c) (start c)) (fromSecond (sheet c))
 opened c =
-    let came = came-to (count 1 32 (sheet c) 0) _ (c .before .before .before .before .count-field .ensures) (start c) (c .before .before .a .given .1) in
+    let after-count-field = c .before .before .before .before in
+    let came = came-to (count 1 32 (sheet c) 0) _ (after-count-field .count-field .ensures) (start c) (c .before .before .a .given .1) in
     first-goes (sheet c) (start c) (read-sections (sheet c) (search needs)) came
     ∙ ap (λ (n : ℕ). after (heads n [] 0 (sheet c) (start c)) (fromSecond (sheet c))) (sym (c .count-at .ensures))
 
 -- the records were read
 filled : (c : tie.After-known-told2) → Filled (bytes c) (start (opening c)) (many c) (filledTable c) (second c)
-filled c = c .before .before .before .heads .ensures .filled (second c) (c .before .b .given .1)
+filled c =
+    let after-heads = c .before .before .before in
+    after-heads .heads .ensures .filled (second c) (c .before .b .given .1)
 
 listed : (c : tie.After-known-told2) → read (bytes c) ≡ after (secondSection (records c) (bytes c) (second c)) (fromThird (bytes c) (records c) (second c))
 listed c = heads-go (bytes c) _ (records c) (second c) (opened (opening c)) (filled c .gives)
@@ -88,16 +95,18 @@ listed c = heads-go (bytes c) _ (records c) (second c) (opened (opening c)) (fil
 bound : (c : tie.After-known-told3) →
     let m = listing c in (ds : List Declared) × (read (bytes m) ≡ fromThird (bytes m) (records m) (second m) ds (third c))
 bound c =
+    let after-second-section = c .before .before .before in
     let m = listing c in
-    let came = came-to (secondSection (records m) (bytes m) (second m)) _ (c .before .before .before .second-section .ensures) (third c) (c .before .c .given .1) in
+    let came = came-to (secondSection (records m) (bytes m) (second m)) _ (after-second-section .second-section .ensures) (third c) (c .before .c .given .1) in
     second-goes (bytes m) (records m) (second m) (third c) (listed m) came
 
 -- the nodes were read
 came-third : (c : tie.After-known-told4) →
     let m = listing (binding c) in placeAfter (thirdSection (many m) (bytes m) (third (binding c))) ≡ accepted (end c)
 came-third c =
+    let after-third-section = c .before .before .before in
     let m = listing (binding c) in
-    came-to (thirdSection (many m) (bytes m) (third (binding c))) _ (c .before .before .before .third-section .ensures) (end c) (c .before .d .given .1)
+    came-to (thirdSection (many m) (bytes m) (third (binding c))) _ (after-third-section .third-section .ensures) (end c) (c .before .d .given .1)
 
 raw : tie.After-known-told4 → Raw
 raw c =
@@ -135,16 +144,20 @@ verdict-requires c κs = search needs
 
 returns-2 : tie.Need-returns-2
 returns-2 c =
-    let s = c .before .before .before .before .before .before .before .before .args .s .now in
+    let after-count-field = c .before .before .before in
+    let start = after-count-field .before .before .before .before .before in
+    let s = start .args .s .now in
     let refused = c .before .enum-told .given .1 in
-    let stops = part-stops s (count 1 32 s 0) _ (read-sections s (search needs)) _ (c .before .before .before .count-field .ensures) _ refused in
+    let stops = part-stops s (count 1 32 s 0) _ (read-sections s (search needs)) _ (after-count-field .count-field .ensures) _ refused in
     reads-stopped _ _ _ refused (c .verdict .ensures) stops
 
 count-at-requires : tie.Need-count-at-requires
 count-at-requires c κs = counts c .there
 
 heads-requires : tie.Need-heads-requires
-heads-requires c κs = (c .before .before .before .before .before .before .before .entries .ensures .1, some (c .before) .1)
+heads-requires c κs =
+    let after-entries = c .before .before .before .before .before .before .before in
+    (after-entries .entries .ensures .1, some (c .before) .1)
 
 enum-known-b : tie.Need-enum-known-b
 enum-known-b c = search needs
@@ -157,10 +170,11 @@ verdict-requires-2 c κs = search needs
 
 returns-3 : tie.Need-returns-3
 returns-3 c =
-    let o = c .before .before .before .before .before in
+    let after-heads = c .before .before .before in
+    let o = after-heads .before .before in
     let refused = c .before .enum-told2 .given .1 in
     let records = heads (o .count-at .result) [] 0 (sheet o) (start o) in
-    let stops = part-stops (sheet o) records (fromSecond (sheet o)) (opened o) _ (c .before .before .before .heads .ensures .answer) _ refused in
+    let stops = part-stops (sheet o) records (fromSecond (sheet o)) (opened o) _ (after-heads .heads .ensures .answer) _ refused in
     reads-stopped _ _ _ refused (c .verdict2 .ensures) stops
 
 second-section-requires : tie.Need-second-section-requires
@@ -177,9 +191,12 @@ verdict-requires-3 c κs = search needs
 
 returns-4 : tie.Need-returns-4
 returns-4 c =
-    let m = c .before .before .before .before .before in
+    let after-second-section = c .before .before .before in
+    let m = after-second-section .before .before in
     let refused = c .before .enum-told3 .given .1 in
-    let stops = part-stops (bytes m) (secondSection (records m) (bytes m) (second m)) _ (listed m) _ (c .before .before .before .second-section .ensures) _ refused in
+    let stops =
+    part-stops (bytes m) (secondSection (records m) (bytes m) (second m)) _ (listed m) _ (after-second-section .second-section .ensures) _
+    refused in
     reads-stopped _ _ _ refused (c .verdict3 .ensures) stops
 
 third-section-requires : tie.Need-third-section-requires
@@ -196,9 +213,10 @@ verdict-requires-4 c κs = search needs
 
 returns-5 : tie.Need-returns-5
 returns-5 c =
-    let t = c .before .before .before .before in
+    let after-third-section = c .before .before .before in
+    let t = after-third-section .before in
     let m = listing t in
-    let asked = c .before .before .before .third-section in
+    let asked = after-third-section .third-section in
     let refused = c .before .enum-told4 .given .1 in
     let many-heads = sym (heads-length (filled m .known)) in
     let says = subst (λ (n : ℕ). passed (asked .result) ≡ placeAfter (thirdSection n (bytes m) (third t))) many-heads (asked .ensures) in
@@ -215,21 +233,25 @@ note-requires : tie.Need-note-requires
 note-requires c κs = search needs
 
 first-element-requires : tie.Need-first-element-requires
-first-element-requires c κs = some (opening (listing (binding (c .before .before .before .before .before)))) .1
+first-element-requires c κs =
+    let after-known-told4 = c .before .before .before .before .before in
+    some (opening (listing (binding after-known-told4))) .1
 
 returns-7 : tie.Need-returns-7
 unfolding raw
 returns-7 c =
-    let d = c .before .before .before .before .before .before in
+    let after-count-at2 = c .before .before .before in
+    let else2 = after-count-at2 .before .before in
+    let d = else2 .before in
     let m = listing (binding d) in
     let t = third (binding d) in
     let after = c .before .before .note in
     let nodes = natAbs (field (bytes m) t) in
-    let stored = after .ensures ∙ ap (noted (filledTable m) (many m) (second m) t) (c .before .before .before .count-at2 .ensures) in
+    let stored = after .ensures ∙ ap (noted (filledTable m) (many m) (second m) t) (after-count-at2 .count-at2 .ensures) in
     let noted-so = noted-table (bound (binding d) .0) t nodes (filled m) in
     let table = subst (λ (tab : List ℕ). Table tab (raw d)) (sym stored) noted-so in
     let last = ap (λ (k : ℕ). getD (after .last .0) (32 + k) 0) (sym (heads-length (filled m .known))) in
-    reads-accepted (read-ends _ _ _ (read-all d) (c .before .before .before .before .before .if2 .left)) (c .first-element .ensures ∙ last ∙ table-total table) table
+    reads-accepted (read-ends _ _ _ (read-all d) (else2 .if2 .left)) (c .first-element .ensures ∙ last ∙ table-total table) table
 
 pub read-spec : {M : Type 1} → statement M
 read-spec =

@@ -20,7 +20,9 @@ returns : tie.Need-returns
 returns c = sym (second-place _ _ _ ∙ stops _ (c .before .before .count-field .ensures) _ _ (c .enum-told .given .1))
 
 count-at-requires : tie.Need-count-at-requires
-count-at-requires c κs = count-came _ _ _ _ (c .before .r .given .1) 0 256 (c .before .before .before .count-field .ensures) .there
+count-at-requires c κs =
+    let after-count-field = c .before .before .before in
+    count-came _ _ _ _ (c .before .r .given .1) 0 256 (after-count-field .count-field .ensures) .there
 
 declarations-requires : tie.Need-declarations-requires
 declarations-requires c κs = search needs
@@ -28,8 +30,9 @@ declarations-requires c κs = search needs
 returns-2 : tie.Need-returns-2
 returns-2 c =
     let r = c .before .before .before in
+    let after-count-field = r .before .before in
     rw (c .before .count-at .ensures) at (c .declarations .ensures)
-    ∙ sym (second-place _ _ _ ∙ goes-on _ (r .before .before .count-field .ensures) _ _ (r .r .given .1))
+    ∙ sym (second-place _ _ _ ∙ goes-on _ (after-count-field .count-field .ensures) _ _ (r .r .given .1))
 
 pub second-section-spec : {M : Type 1} → statement M
 second-section-spec =

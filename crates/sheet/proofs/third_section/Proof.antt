@@ -20,7 +20,9 @@ returns : tie.Need-returns
 returns c = sym (third-place _ _ _ ∙ stops _ (c .before .before .count-field .ensures) _ _ (c .enum-told .given .1))
 
 count-at-requires : tie.Need-count-at-requires
-count-at-requires c κs = count-came _ _ _ _ (c .before .r .given .1) 0 2048 (c .before .before .before .count-field .ensures) .there
+count-at-requires c κs =
+    let after-count-field = c .before .before .before in
+    count-came _ _ _ _ (c .before .r .given .1) 0 2048 (after-count-field .count-field .ensures) .there
 
 nodes-requires : tie.Need-nodes-requires
 nodes-requires c κs = search needs
@@ -28,8 +30,9 @@ nodes-requires c κs = search needs
 returns-2 : tie.Need-returns-2
 returns-2 c =
     let r = c .before .before .before in
+    let after-count-field = r .before .before in
     rw (c .before .count-at .ensures) at (c .nodes .ensures)
-    ∙ sym (third-place _ _ _ ∙ goes-on _ (r .before .before .count-field .ensures) _ _ (r .r .given .1))
+    ∙ sym (third-place _ _ _ ∙ goes-on _ (after-count-field .count-field .ensures) _ _ (r .r .given .1))
 
 pub third-section-spec : {M : Type 1} → statement M
 third-section-spec =

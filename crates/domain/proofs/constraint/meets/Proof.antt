@@ -20,14 +20,14 @@ row-read-requires c κs = search needs
 
 meets-requires : tie.Need-meets-requires
 meets-requires c κs =
-    let row = c .row-read .ensures in
     let s = c .before .before .before in
+    let row = c .row-read .ensures in
     (omega (arith, c .before .natural .ensures, s .pre .relation), neat-small (s .args .n) _ (s .args .z) (row .1) _ (row .0) (s .pre .small))
 
 returns : tie.Need-returns
 returns c =
-    let row = c .before .row-read .ensures in
     let s = c .before .before .before .before in
+    let row = c .before .row-read .ensures in
     c .meets .ensures (s .args .n) (row .1)
     ∙ ap (λ x. Affine.meets x (pointOf (s .args .n) (s .args .z))) (constraint-same (ap relationOf (c .before .before .natural .ensures)) (row .0))
 

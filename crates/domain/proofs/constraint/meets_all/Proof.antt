@@ -30,17 +30,24 @@ meets-requires c κs = testable-first _ _ _ _ _ (c .loop-test .taken) (c .before
 
 returns : tie.Need-returns Inv-loop μ-loop
 returns c =
+    let at-loop = c .before .before .before in
     sym (first-fails _ _ _ _ _ (c .before .before .loop-test .taken) (sym (c .before .meets .ensures) ∙ not-true _ (c .if1 .taken)))
-    ∙ c .before .before .before .loop .inv .1
+    ∙ at-loop .loop .inv .1
 
 mul-p : tie.Need-mul-p Inv-loop μ-loop
-mul-p c = omega (arith, c .before .before .before .before .before .pre .0)
+mul-p c =
+    let s = c .before .before .before .before .before in
+    omega (arith, s .pre .0)
 
 add-p : tie.Need-add-p Inv-loop μ-loop
-add-p c = omega (arith, c .before .before .before .before .before .pre .0)
+add-p c =
+    let s = c .before .before .before .before .before in
+    omega (arith, s .pre .0)
 
 add-p-2 : tie.Need-add-p-2 Inv-loop μ-loop
-add-p-2 c = omega (arith, testable-first _ _ _ _ _ (c .before .before .loop-test .taken) (c .before .before .before .loop .inv .0) .there)
+add-p-2 c =
+    let at-loop = c .before .before .before in
+    omega (arith, testable-first _ _ _ _ _ (c .before .before .loop-test .taken) (at-loop .loop .inv .0) .there)
 
 sub-left : tie.Need-sub-left Inv-loop μ-loop
 sub-left c = search needs
@@ -50,8 +57,9 @@ loop-less c = search needs
 
 loop-again : tie.Need-loop-again Inv-loop μ-loop
 loop-again c =
+    let at-loop = c .before .before .before in
     let some = c .before .before .loop-test .taken in
-    let inv = c .before .before .before .loop .inv in
+    let inv = at-loop .loop .inv in
     let held = sym (c .before .meets .ensures) ∙ not-false _ (c .if1 .left) in
     (testable-rest _ _ _ _ _ some (inv .0), first-holds _ _ _ _ _ some held ∙ inv .1)
 

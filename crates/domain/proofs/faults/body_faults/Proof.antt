@@ -26,13 +26,17 @@ laid : (c : tie.Start Inv-loop μ-loop) → VariableLaid (c .args .s .now) (c .a
 laid c = laid-variable _ _ (c .pre .0 .placed) _ (c .pre .2)
 
 -- its first element
-first-is : (c : tie.After-first-element Inv-loop μ-loop) → c .first-element .result ≡ before (sheetOf (c .before .before .args .s .now)) (c .before .before .args .v)
+first-is : (c : tie.After-first-element Inv-loop μ-loop) →
+    c .first-element .result ≡ before (sheetOf (c .before .before .args .s .now)) (c .before .before .args .v)
 first-is c = c .first-element .ensures ∙ laid (c .before .before) .first-is
 
 -- how many it has
 size-is : (c : tie.After-first-element2 Inv-loop μ-loop) →
-    c .first-element2 .result - c .before .first-element .result ≡ Box.size (variable (sheetOf (c .before .before .before .args .s .now)) (c .before .before .before .args .v) .head .box)
-size-is c = let l = laid (c .before .before .before) .last-is in omega (arith, first-is (c .before), c .first-element2 .ensures)
+    c .first-element2 .result - c .before .first-element .result
+    ≡ Box.size (variable (sheetOf (c .before .before .before .args .s .now)) (c .before .before .before .args .v) .head .box)
+size-is c =
+    let s = c .before .before .before in
+    let l = laid s .last-is in omega (arith, first-is (c .before), c .first-element2 .ensures)
 
 first-element-requires : tie.Need-first-element-requires Inv-loop μ-loop
 first-element-requires c κs = omega (arith, laid (c .before) .low)
@@ -44,14 +48,17 @@ first-element-requires-2 : tie.Need-first-element-requires-2 Inv-loop μ-loop
 first-element-requires-2 c κs = omega (arith, laid (c .before .before) .low)
 
 sub-size : tie.Need-sub-size Inv-loop μ-loop
-sub-size c = let l = laid (c .before .before .before) .last-is in omega (arith, first-is (c .before), c .first-element2 .ensures)
+sub-size c =
+    let s = c .before .before .before in
+    let l = laid s .last-is in omega (arith, first-is (c .before), c .first-element2 .ensures)
 
 loop-holds : tie.Need-loop-holds Inv-loop μ-loop
 loop-holds c = body-start _ _
 
 body-stands-requires : tie.Need-body-stands-requires Inv-loop μ-loop
 body-stands-requires c κs =
-    let p = c .before .before .before .before .before .pre in
+    let s = c .before .before .before .before .before in
+    let p = s .pre in
     (p .0, p .1, record { known = p .2; no-input = p .3; many = size-is (c .before .before); low = c .loop-test .taken })
 
 is-clear-requires : tie.Need-is-clear-requires Inv-loop μ-loop
@@ -59,26 +66,33 @@ is-clear-requires c κs = search needs
 
 -- the element is one of the variable's
 low : (c : tie.In-loop Inv-loop μ-loop) →
-    c .before .loop .i < Box.size (variable (sheetOf (c .before .before .before .before .before .args .s .now)) (c .before .before .before .before .before .args .v) .head .box)
+    c .before .loop .i < Box.size
+    (variable (sheetOf (c .before .before .before .before .before .args .s .now)) (c .before .before .before .before .before .args .v) .head .box)
 low c = omega (arith, size-is (c .before .before), c .loop-test .taken)
 
 add-fault : tie.Need-add-fault Inv-loop μ-loop
 add-fault c =
-    let s = c .before .before .before .before .before .before .before .before in
-    omega (arith, first-is (c .before .before .before .before .before .before), low (c .before .before .before), laid s .few)
+    let in-loop = c .before .before .before in
+    let after-first-element = in-loop .before .before .before in
+    let s = after-first-element .before .before in
+    omega (arith, first-is after-first-element, low in-loop, laid s .few)
 
 fault-requires : tie.Need-fault-requires Inv-loop μ-loop
 fault-requires c κs = search needs
 
 returns : tie.Need-returns Inv-loop μ-loop
 returns c =
-    let in-loop = c .before .before .before .before in
-    let p = in-loop .before .before .before .before .before .pre in
-    let how = c .before .before .before .body-stands in
+    let after-body-stands = c .before .before .before in
+    let in-loop = after-body-stands .before in
+    let at-loop = in-loop .before in
+    let after-first-element = at-loop .before .before in
+    let s = after-first-element .before .before in
+    let p = s .pre in
+    let how = after-body-stands .body-stands in
     let faulty = sym (c .before .before .is-clear .ensures) ∙ not-true _ (c .before .if1 .taken) in
     c .fault .ensures
-    ∙ ap (λ n. faultOf (how .result) (n + in-loop .before .loop .i)) (first-is (in-loop .before .before .before))
-    ∙ body-fails _ _ _ (in-loop .before .loop .inv) (low in-loop) (p .3) _ (how .ensures) faulty
+    ∙ ap (λ n. faultOf (how .result) (n + at-loop .loop .i)) (first-is after-first-element)
+    ∙ body-fails _ _ _ (at-loop .loop .inv) (low in-loop) (p .3) _ (how .ensures) faulty
 
 add-i : tie.Need-add-i Inv-loop μ-loop
 add-i c = search needs
@@ -89,9 +103,11 @@ loop-less c = search needs
 loop-again : tie.Need-loop-again Inv-loop μ-loop
 loop-again c =
     let in-loop = c .before .before .before in
-    let p = in-loop .before .before .before .before .before .pre in
+    let at-loop = in-loop .before in
+    let s = at-loop .before .before .before .before in
+    let p = s .pre in
     let clear = sym (c .before .is-clear .ensures) ∙ not-false _ (c .if1 .left) in
-    body-passes _ _ _ (in-loop .before .loop .inv) (low in-loop) (p .3) _ (c .before .before .body-stands .ensures) clear
+    body-passes _ _ _ (at-loop .loop .inv) (low in-loop) (p .3) _ (c .before .before .body-stands .ensures) clear
 
 returns-2 : tie.Need-returns-2 Inv-loop μ-loop
 returns-2 c = body-end _ _ _ (c .before .loop .inv) (omega (arith, size-is (c .before .before), c .loop-test .left))

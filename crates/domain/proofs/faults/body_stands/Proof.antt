@@ -30,7 +30,9 @@ element-copy-out-if1 : tie.Need-element-copy-out-if1
 element-copy-out-if1 c = let s = c .before .before in omega (arith, number-low _ _ _ _ (laid s) (low s), c .first-element .ensures)
 
 record-place-requires : tie.Need-record-place-requires
-record-place-requires c κs = laid (c .before .before .before .before) .low
+record-place-requires c κs =
+    let s = c .before .before .before .before in
+    laid s .low
 
 point-requires : tie.Need-point-requires
 point-requires c κs =
@@ -39,19 +41,28 @@ point-requires c κs =
     rw (c .record-place .ensures) (l .recorded, rw (l .box-is) (s .pre .2 .many), omega (arith, l .few, s .pre .2 .many), s .pre .2 .low)
 
 body-place-requires : tie.Need-body-place-requires
-body-place-requires c κs = omega (arith, laid (c .before .before .before .before .before .before) .low)
+body-place-requires c κs =
+    let s = c .before .before .before .before .before .before in
+    omega (arith, laid s .low)
 
 stand-requires : tie.Need-stand-requires
 stand-requires c κs =
     let s = c .before .before .before .before .before .before .before in
-    let at = rw (c .before .before .record-place .ensures) at (c .before .point .ensures) in
-    (s .pre .0 .placed, s .pre .1, body-walk _ _ _ _ (laid s) (low s) (s .pre .0) (s .pre .2 .known) (s .pre .2 .no-input) _ at _ (c .body-place .ensures), omega arith)
+    let at = rw (c .before .before .record-place .ensures) at (c .before .point .ensures) in (
+      s .pre .0 .placed,
+      s .pre .1,
+      body-walk _ _ _ _ (laid s) (low s) (s .pre .0) (s .pre .2 .known) (s .pre .2 .no-input) _ at _ (c .body-place .ensures),
+      omega arith,
+    )
 
 returns : tie.Need-returns
 returns c =
-    let s = c .before .before .before .before .before .before .before .before in
-    let at = rw (c .before .before .before .record-place .ensures) at (c .before .before .point .ensures) in
-    let one = rw (c .before .before .before .before .before .before .first-element .ensures) at (c .before .before .before .before .if1 .taken) in
+    let after-record-place = c .before .before .before in
+    let then1 = after-record-place .before in
+    let after-first-element = then1 .before .before in
+    let s = after-first-element .before .before in
+    let at = rw (after-record-place .record-place .ensures) at (c .before .before .point .ensures) in
+    let one = rw (after-first-element .first-element .ensures) at (then1 .if1 .taken) in
     body-way _ _ _ _ (laid s) (low s) (s .pre .0) (s .pre .2 .known) (s .pre .2 .no-input) _ at _ (c .before .body-place .ensures) _ (c .stand .ensures)
     ∙ byte-asks _ _ _ _ (laid s) (low s) _ (s .pre .1) one
 

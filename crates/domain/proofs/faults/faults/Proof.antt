@@ -29,7 +29,8 @@ loop-holds c = all-start _
 
 variable-faults-requires : tie.Need-variable-faults-requires Inv-loop μ-loop
 variable-faults-requires c κs =
-    let p = c .before .before .before .before .pre in
+    let s = c .before .before .before .before in
+    let p = s .pre in
     (p .0, p .1, omega (arith, count-is (c .before .before), c .loop-test .taken))
 
 enum-told : tie.Need-enum-told Inv-loop μ-loop
@@ -40,13 +41,16 @@ enum-told-2 c = search needs
 
 -- the variable is one of the sheet's
 low : (c : tie.In-loop Inv-loop μ-loop) → c .before .loop .v < length (sheetOf (c .before .before .before .before .args .s .now))
-low c = omega (arith, count-is (c .before .before), c .before .before .before .before .pre .0 .placed .many, c .loop-test .taken)
+low c =
+    let s = c .before .before .before .before in
+    omega (arith, count-is (c .before .before), s .pre .0 .placed .many, c .loop-test .taken)
 
 returns : tie.Need-returns Inv-loop μ-loop
 returns c =
     let in-loop = c .before .before .before in
+    let at-loop = in-loop .before in
     let is = ap ruled (c .enum-told2 .given .1) in
-    is ∙ all-fail _ _ (in-loop .before .loop .inv) (low in-loop) _ _ (sym is ∙ c .before .before .variable-faults .ensures)
+    is ∙ all-fail _ _ (at-loop .loop .inv) (low in-loop) _ _ (sym is ∙ c .before .before .variable-faults .ensures)
 
 add-v : tie.Need-add-v Inv-loop μ-loop
 add-v c = search needs
@@ -57,11 +61,13 @@ loop-less c = search needs
 loop-again : tie.Need-loop-again Inv-loop μ-loop
 loop-again c =
     let in-loop = c .before .before .before in
-    all-pass _ _ (in-loop .before .loop .inv) (low in-loop) (sym (ap ruled (c .enum-told .given .1)) ∙ c .before .before .variable-faults .ensures)
+    let at-loop = in-loop .before in
+    all-pass _ _ (at-loop .loop .inv) (low in-loop) (sym (ap ruled (c .enum-told .given .1)) ∙ c .before .before .variable-faults .ensures)
 
 returns-2 : tie.Need-returns-2 Inv-loop μ-loop
 returns-2 c =
-    let many = c .before .before .before .before .pre .0 .placed .many in
+    let s = c .before .before .before .before in
+    let many = s .pre .0 .placed .many in
     all-end _ _ (c .before .loop .inv) (omega (arith, count-is (c .before .before), c .loop-test .left))
 
 pub faults-spec : {M : Type 1} → statement M

@@ -11,12 +11,14 @@ kind-of-requires c κs = (c .before .pre .0 .placed .prepared, c .before .pre .2
 
 returns : tie.Need-returns
 returns c =
-    let p = c .before .before .before .pre in
+    let s = c .before .before .before in
+    let p = s .pre in
     input-clear _ _ (is-input _ _ (p .0 .placed) _ (p .2) _ (c .before .kind-of .ensures .0) (c .if1 .taken))
 
 body-faults-requires : tie.Need-body-faults-requires
 body-faults-requires c κs =
-    let p = c .before .before .before .pre in
+    let s = c .before .before .before in
+    let p = s .pre in
     let k = c .before .kind-of .ensures in
     (p .0, p .1, p .2, no-input _ _ (p .0 .placed) _ (p .2) _ (k .0) (k .1) (c .if1 .left))
 

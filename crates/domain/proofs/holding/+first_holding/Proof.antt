@@ -54,19 +54,21 @@ first-holding-returns-2 t c =
 
 first-holding-first-holding-requires : (t : ℕ) → first-holding-lts.Need-first-holding-requires (first-holding-uses t) (first-holding-at t) first-holding.Post
 first-holding-first-holding-requires t c κs =
-    let s = c .before .before .before .before .before in
+    let else1 = c .before .before .before in
+    let s = else1 .before .before in
     let p = s .pre .1 in
-    let more = c .before .before .before .if1 .left in
+    let more = else1 .if1 .left in
     let is = s .pre .0 in
     let first = c .before .before .stand .ensures in
     (omega arith, (p .0, p .1, walk-rest _ _ _ _ _ (p .4) (p .2) _ (λ e q d h f. first e q d h f .0), p .3, omega arith))
 
 first-holding-returns-3 : (t : ℕ) → first-holding-lts.Need-returns-3 (first-holding-uses t) (first-holding-at t) first-holding.Post
 first-holding-returns-3 t c =
-    let s = c .before .before .before .before .before .before in
+    let after-stand = c .before .before .before in
+    let s = after-stand .before .before .before in
     let p = s .pre .1 in
     let fails = sym (c .before .before .is-held .ensures) ∙ c .before .if2 .left in
-    takes-rest _ _ _ _ (s .args .z) (p .4) (p .2) _ (c .before .before .before .stand .ensures) _ fails (c .first-holding .ensures)
+    takes-rest _ _ _ _ (s .args .z) (p .4) (p .2) _ (after-stand .stand .ensures) _ fails (c .first-holding .ensures)
 
 pub +first-holding-spec : {M : Type 1} → statement M
 +first-holding-spec = close μ-first-holding λ t. first-holding-lts.spec (first-holding-uses t) (first-holding-at t)

@@ -36,7 +36,8 @@ first-holding-requires c κs =
 
 returns : tie.Need-returns
 returns c =
-    let p = c .before .before .before .pre in
+    let s = c .before .before .before in
+    let p = s .pre in
     chooses _ _ _ _ _ (p .2) (p .4) (c .before .natural .ensures) (p .5) _ (c .first-holding .ensures)
 
 pub holding-spec : {M : Type 1} → statement M

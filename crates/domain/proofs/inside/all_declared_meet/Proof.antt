@@ -32,7 +32,9 @@ natural-requires : tie.Need-natural-requires Inv-loop μ-loop
 natural-requires c κs = omega (arith, section-there _ _ (c .before .before .pre .0 .placed .prepared), second-is c)
 
 add-p : tie.Need-add-p Inv-loop μ-loop
-add-p c = omega (arith, section-there _ _ (c .before .before .before .pre .0 .placed .prepared), second-is (c .before))
+add-p c =
+    let s = c .before .before .before in
+    omega (arith, section-there _ _ (s .pre .0 .placed .prepared), second-is (c .before))
 
 loop-holds : tie.Need-loop-holds Inv-loop μ-loop
 loop-holds c =
@@ -43,20 +45,25 @@ loop-holds c =
 declared-meets-requires : tie.Need-declared-meets-requires Inv-loop μ-loop
 declared-meets-requires c κs =
     let s = c .before .before .before .before .before in
-    let p = s .pre in
-    (p .0 .placed .prepared, first-testable _ _ (s .args .z) _ _ (c .before .loop .inv) _ (laid-variable _ _ (p .0 .placed) _ (p .1)) (p .2) (c .loop-test .taken))
+    let p = s .pre in (
+      p .0 .placed .prepared,
+      first-testable _ _ (s .args .z) _ _ (c .before .loop .inv) _ (laid-variable _ _ (p .0 .placed) _ (p .1)) (p .2)
+          (c .loop-test .taken),
+    )
 
 returns : tie.Need-returns Inv-loop μ-loop
 returns c =
     let in-loop = c .before .before in
-    let s = in-loop .before .before .before .before .before in
-    one-fails-meets _ _ (s .args .z) _ _ (in-loop .before .loop .inv) (in-loop .loop-test .taken) _ (c .before .declared-meets .ensures) (not-true _ (c .if1 .taken))
+    let at-loop = in-loop .before in
+    let s = at-loop .before .before .before .before in
+    one-fails-meets _ _ (s .args .z) _ _ (at-loop .loop .inv) (in-loop .loop-test .taken) _ (c .before .declared-meets .ensures) (not-true _ (c .if1 .taken))
 
 next-declared-requires : tie.Need-next-declared-requires Inv-loop μ-loop
 next-declared-requires c κs =
     let in-loop = c .before .before in
-    let s = in-loop .before .before .before .before .before in
-    (s .pre .0 .placed .prepared, first-met _ _ (s .args .z) _ _ (in-loop .before .loop .inv) (in-loop .loop-test .taken) .read)
+    let at-loop = in-loop .before in
+    let s = at-loop .before .before .before .before in
+    (s .pre .0 .placed .prepared, first-met _ _ (s .args .z) _ _ (at-loop .loop .inv) (in-loop .loop-test .taken) .read)
 
 sub-left : tie.Need-sub-left Inv-loop μ-loop
 sub-left c = search needs
@@ -67,8 +74,10 @@ loop-less c = search needs
 loop-again : tie.Need-loop-again Inv-loop μ-loop
 loop-again c =
     let in-loop = c .before .before .before in
-    let s = in-loop .before .before .before .before .before in
-    one-meets _ _ (s .args .z) _ _ (in-loop .before .loop .inv) (in-loop .loop-test .taken) _ (c .before .before .declared-meets .ensures) (not-false _ (c .before .if1 .left))
+    let at-loop = in-loop .before in
+    let s = at-loop .before .before .before .before in
+    one-meets _ _ (s .args .z) _ _ (at-loop .loop .inv) (in-loop .loop-test .taken) _ (c .before .before .declared-meets .ensures)
+    (not-false _ (c .before .if1 .left))
     _ (c .next-declared .ensures)
 
 returns-2 : tie.Need-returns-2 Inv-loop μ-loop

@@ -21,21 +21,27 @@ returns c =
 
 dimension-of-requires : tie.Need-dimension-of-requires
 dimension-of-requires c κs =
-    let p = c .before .before .before .pre in
+    let s = c .before .before .before in
+    let p = s .pre in
     (p .0, omega (arith, who-known _ _ (p .0) _ (p .1 .read), c .before .natural .ensures, c .if1 .left))
 
 add-meets : tie.Need-add-meets
-add-meets c = let p = c .before .before .before .before .pre in omega (arith, who-there _ _ (p .0) _ (p .1 .read))
+add-meets c =
+    let s = c .before .before .before .before in
+    let p = s .pre in omega (arith, who-there _ _ (p .0) _ (p .1 .read))
 
 meets-requires : tie.Need-meets-requires
 meets-requires c κs =
-    let p = c .before .before .before .before .pre in
+    let s = c .before .before .before .before in
+    let p = s .pre in
     rw (c .dimension-of .ensures .0) (p .1 .test (sym (c .before .before .natural .ensures) ∙ c .before .if1 .left))
 
 returns-2 : tie.Need-returns-2
 returns-2 c =
-    let s = c .before .before .before .before .before .args in
-    let is = c .before .before .before .natural .ensures in
+    let after-natural = c .before .before .before in
+    let start = after-natural .before .before in
+    let s = start .args in
+    let is = after-natural .natural .ensures in
     λ d q e.
     c .meets .ensures
     ∙ ap (λ n. Affine.meets (constraintFields n (s .s .now) (s .at + 8)) (pointOf n (s .z))) (c .before .dimension-of .ensures .0)

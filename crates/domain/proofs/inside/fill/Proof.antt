@@ -28,8 +28,10 @@ loop-holds c = fill-start _ _ (c .before .before .pre .1)
 
 fill-variable-requires : tie.Need-fill-variable-requires Inv-loop μ-loop
 fill-variable-requires c κs =
-    let p = c .before .before .before .before .before .pre in
-    (p .0, omega (arith, count-is (c .before .before .before), c .before .loop-test .taken), c .before .before .loop .inv)
+    let after-variable-count = c .before .before .before in
+    let s = after-variable-count .before .before in
+    let p = s .pre in
+    (p .0, omega (arith, count-is after-variable-count, c .before .loop-test .taken), c .before .before .loop .inv)
 
 add-v : tie.Need-add-v Inv-loop μ-loop
 add-v c = omega (arith, c .before .before .loop-test .taken)
@@ -42,7 +44,8 @@ loop-again c = c .fill-variable .ensures
 
 returns : tie.Need-returns Inv-loop μ-loop
 returns c =
-    let many = c .before .before .before .before .pre .0 .placed .many in
+    let s = c .before .before .before .before in
+    let many = s .pre .0 .placed .many in
     fill-end _ _ _ (omega (arith, count-is (c .before .before), c .loop-test .left)) (c .before .loop .inv)
 
 pub fill-spec : {M : Type 1} → statement M

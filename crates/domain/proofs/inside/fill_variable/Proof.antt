@@ -26,23 +26,33 @@ laid : (c : tie.Start Inv-loop μ-loop) → VariableLaid (c .args .s .now) (c .a
 laid c = laid-variable _ _ (c .pre .0 .placed) _ (c .pre .1)
 
 -- its first element
-first-is : (c : tie.After-first-element Inv-loop μ-loop) → c .first-element .result ≡ before (sheetOf (c .before .before .args .s .now)) (c .before .before .args .v)
+first-is : (c : tie.After-first-element Inv-loop μ-loop) →
+    c .first-element .result ≡ before (sheetOf (c .before .before .args .s .now)) (c .before .before .args .v)
 first-is c = c .first-element .ensures ∙ laid (c .before .before) .first-is
 
 -- how many it has
 size-is : (c : tie.After-first-element2 Inv-loop μ-loop) →
-    c .first-element2 .result - c .before .first-element .result ≡ Box.size (variable (sheetOf (c .before .before .before .args .s .now)) (c .before .before .before .args .v) .head .box)
-size-is c = let l = laid (c .before .before .before) .last-is in omega (arith, first-is (c .before), c .first-element2 .ensures)
+    c .first-element2 .result - c .before .first-element .result
+    ≡ Box.size (variable (sheetOf (c .before .before .before .args .s .now)) (c .before .before .before .args .v) .head .box)
+size-is c =
+    let s = c .before .before .before in
+    let l = laid s .last-is in omega (arith, first-is (c .before), c .first-element2 .ensures)
 
 -- the element is one of them
 low : (c : tie.In-loop Inv-loop μ-loop) →
     c .before .loop .i
-    < Box.size (variable (sheetOf (c .before .before .before .before .before .before .args .s .now)) (c .before .before .before .before .before .before .args .v) .head .box)
-low c = omega (arith, size-is (c .before .before .before), c .loop-test .taken)
+    < Box.size (variable (sheetOf (c .before .before .before .before .before .before .args .s .now))
+    (c .before .before .before .before .before .before .args .v) .head .box)
+low c =
+    let after-first-element2 = c .before .before .before in
+    omega (arith, size-is after-first-element2, c .loop-test .taken)
 
 -- and its number has a byte
 number-low : (c : tie.In-loop Inv-loop μ-loop) → c .before .before .before .before .first-element .result + c .before .loop .i < 4096
-number-low c = omega (arith, first-is (c .before .before .before .before), low c, laid (c .before .before .before .before .before .before) .few)
+number-low c =
+    let after-first-element = c .before .before .before .before in
+    let s = after-first-element .before .before in
+    omega (arith, first-is after-first-element, low c, laid s .few)
 
 first-element-requires : tie.Need-first-element-requires Inv-loop μ-loop
 first-element-requires c κs = omega (arith, laid (c .before) .low)
@@ -54,18 +64,26 @@ first-element-requires-2 : tie.Need-first-element-requires-2 Inv-loop μ-loop
 first-element-requires-2 c κs = omega (arith, laid (c .before .before) .low)
 
 sub-size : tie.Need-sub-size Inv-loop μ-loop
-sub-size c = let l = laid (c .before .before .before) .last-is in omega (arith, first-is (c .before), c .first-element2 .ensures)
+sub-size c =
+    let s = c .before .before .before in
+    let l = laid s .last-is in omega (arith, first-is (c .before), c .first-element2 .ensures)
 
 record-place-requires : tie.Need-record-place-requires Inv-loop μ-loop
-record-place-requires c κs = laid (c .before .before .before) .low
+record-place-requires c κs =
+    let s = c .before .before .before in
+    laid s .low
 
 loop-holds : tie.Need-loop-holds Inv-loop μ-loop
-loop-holds c = fill-none _ _ _ (c .before .before .before .before .pre .2)
+loop-holds c =
+    let s = c .before .before .before .before in
+    fill-none _ _ _ (s .pre .2)
 
 point-requires : tie.Need-point-requires Inv-loop μ-loop
 point-requires c κs =
-    let l = laid (c .before .before .before .before .before .before) in
-    let many = size-is (c .before .before .before) in
+    let after-first-element2 = c .before .before .before in
+    let s = after-first-element2 .before .before .before in
+    let l = laid s in
+    let many = size-is after-first-element2 in
     rw (c .before .before .record-place .ensures) (l .recorded, rw (l .box-is) many, omega (arith, l .few), c .loop-test .taken)
 
 add-n : tie.Need-add-n Inv-loop μ-loop
@@ -73,31 +91,44 @@ add-n c = omega (arith, number-low (c .before))
 
 all-declared-meet-requires : tie.Need-all-declared-meet-requires Inv-loop μ-loop
 all-declared-meet-requires c κs =
-    let s = c .before .before .before .before .before .before .before in
-    let at = rw (c .before .before .before .record-place .ensures) at (c .point .ensures) in
+    let after-record-place = c .before .before .before in
+    let s = after-record-place .before .before .before .before in
+    let at = rw (after-record-place .record-place .ensures) at (c .point .ensures) in
     (s .pre .0, s .pre .1, point-inside _ _ _ _ (laid s) (low (c .before)) _ at)
 
 keep-requires : tie.Need-keep-requires Inv-loop μ-loop
-keep-requires c κs = number-low (c .before .before .before)
+keep-requires c κs =
+    let in-loop = c .before .before .before in
+    number-low in-loop
 
 add-i : tie.Need-add-i Inv-loop μ-loop
-add-i c = omega (arith, number-low (c .before .before .before .before))
+add-i c =
+    let in-loop = c .before .before .before .before in
+    omega (arith, number-low in-loop)
 
 loop-less : tie.Need-loop-less Inv-loop μ-loop
-loop-less c = omega (arith, c .before .before .before .before .loop-test .taken)
+loop-less c =
+    let in-loop = c .before .before .before .before in
+    omega (arith, in-loop .loop-test .taken)
 
 loop-again : tie.Need-loop-again Inv-loop μ-loop
 loop-again c =
-    let in-loop = c .before .before .before .before in
-    let s = in-loop .before .before .before .before .before .before in
-    let at = rw (in-loop .before .before .record-place .ensures) at (c .before .before .before .point .ensures) in
+    let after-point = c .before .before .before in
+    let in-loop = after-point .before in
+    let at-loop = in-loop .before in
+    let after-record-place = at-loop .before in
+    let after-first-element = after-record-place .before .before in
+    let s = after-first-element .before .before in
+    let at = rw (after-record-place .record-place .ensures) at (after-point .point .ensures) in
     let is = point-at _ _ _ _ (laid s) (low in-loop) _ at in
     let met = c .before .before .all-declared-meet .ensures ∙ ap (meetsAll (variable (sheetOf (s .args .s .now)) (s .args .v) .declared)) is in
-    let number = ap (λ n. n + in-loop .before .loop .i) (first-is (in-loop .before .before .before .before)) in
-    fill-one _ _ _ _ _ _ _ (laid s .known) (in-loop .before .loop .inv) number (number-low in-loop) met (c .keep .ensures)
+    let number = ap (λ n. n + at-loop .loop .i) (first-is after-first-element) in
+    fill-one _ _ _ _ _ _ _ (laid s .known) (at-loop .loop .inv) number (number-low in-loop) met (c .keep .ensures)
 
 returns : tie.Need-returns Inv-loop μ-loop
-returns c = fill-all _ _ _ _ (omega (arith, size-is (c .before .before .before), c .loop-test .left)) (c .before .loop .inv)
+returns c =
+    let after-first-element2 = c .before .before .before in
+    fill-all _ _ _ _ (omega (arith, size-is after-first-element2, c .loop-test .left)) (c .before .loop .inv)
 
 pub fill-variable-spec : {M : Type 1} → statement M
 fill-variable-spec =

@@ -13,7 +13,8 @@ natural-requires : tie.Need-natural-requires
 natural-requires c κs = who-there _ _ (c .before .pre .0) _ (c .before .pre .1)
 
 dimension-of-requires : tie.Need-dimension-of-requires
-dimension-of-requires c κs = (c .before .before .pre .0, omega (arith, who-known _ _ (c .before .before .pre .0) _ (c .before .before .pre .1), c .natural .ensures))
+dimension-of-requires c κs =
+    (c .before .before .pre .0, omega (arith, who-known _ _ (c .before .before .pre .0) _ (c .before .before .pre .1), c .natural .ensures))
 
 mul-result : tie.Need-mul-result
 mul-result c = search needs
@@ -27,7 +28,9 @@ returns c =
     ap (λ d. s .args .at + (24 + 8 * d)) (c .dimension-of .ensures .0 ∙ ap (dimension (headsOf (s .args .s .now))) (c .before .natural .ensures))
 
 add-result-2 : tie.Need-add-result-2
-add-result-2 c = let s = c .before .before .before in omega (arith, returns c, declared-there _ _ (s .pre .0) _ (s .pre .1))
+add-result-2 c =
+    let start = c .before .before .before in
+    let s = start in omega (arith, returns c, declared-there _ _ (s .pre .0) _ (s .pre .1))
 
 pub next-declared-spec : {M : Type 1} → statement M
 next-declared-spec =

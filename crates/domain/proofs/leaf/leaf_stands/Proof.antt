@@ -28,17 +28,23 @@ enum-told c = search needs
 
 returns : tie.Need-returns
 returns c =
-    let s = c .before .before .before .before .before in
-    off-stands _ _ _ (s .args .z) (laid s) (rw (c .before .before .before .record-place .ensures) at (sym (c .enum-told .given .1) ∙ c .before .before .index .ensures))
+    let after-record-place = c .before .before .before in
+    let s = after-record-place .before .before in
+    off-stands _ _ _ (s .args .z) (laid s)
+    (rw (after-record-place .record-place .ensures) at (sym (c .enum-told .given .1) ∙ c .before .before .index .ensures))
 
 first-element-requires : tie.Need-first-element-requires
-first-element-requires c κs = omega (arith, laid (c .before .before .before .before .before .before) .low)
+first-element-requires c κs =
+    let s = c .before .before .before .before .before .before in
+    omega (arith, laid s .low)
 
 -- the element's number
 number-low : (c : tie.After-first-element) → c .first-element .result + c .before .before .found .given .0 .0 < 4096
 number-low c =
-    let s = c .before .before .before .before .before .before .before in
-    let at = rw (c .before .before .before .before .before .record-place .ensures) at (sym (c .before .before .found .given .1) ∙ c .before .before .before .before .index .ensures) in
+    let after-index = c .before .before .before .before in
+    let after-record-place = after-index .before in
+    let s = after-record-place .before .before in
+    let at = rw (after-record-place .record-place .ensures) at (sym (c .before .before .found .given .1) ∙ after-index .index .ensures) in
     omega (arith, element-low _ _ _ (s .args .z) (laid s) _ at, c .first-element .ensures)
 
 add-n : tie.Need-add-n
@@ -50,15 +56,21 @@ element-copy-out-if1 c = number-low c
 returns-2 : tie.Need-returns-2
 returns-2 c =
     let n = c .before .before in
-    let s = n .before .before .before .before .before .before .before in
-    let at = rw (n .before .before .before .before .before .record-place .ensures) at (sym (n .before .before .found .given .1) ∙ n .before .before .before .before .index .ensures) in
+    let after-found = n .before .before in
+    let after-index = after-found .before .before in
+    let after-record-place = after-index .before in
+    let s = after-record-place .before .before in
+    let at = rw (after-record-place .record-place .ensures) at (sym (after-found .found .given .1) ∙ after-index .index .ensures) in
     byte-stands _ _ _ (s .args .z) (laid s) _ at _ (s .pre .1) (rw (n .first-element .ensures) at (c .if1 .taken))
 
 returns-3 : tie.Need-returns-3
 returns-3 c =
     let n = c .before .before in
-    let s = n .before .before .before .before .before .before .before in
-    let at = rw (n .before .before .before .before .before .record-place .ensures) at (sym (n .before .before .found .given .1) ∙ n .before .before .before .before .index .ensures) in
+    let after-found = n .before .before in
+    let after-index = after-found .before .before in
+    let after-record-place = after-index .before in
+    let s = after-record-place .before .before in
+    let at = rw (after-record-place .record-place .ensures) at (sym (after-found .found .given .1) ∙ after-index .index .ensures) in
     byte-not _ _ _ (s .args .z) (laid s) _ at _ (s .pre .1) (rw (n .first-element .ensures) at (c .if1 .left))
 
 pub leaf-stands-spec : {M : Type 1} → statement M

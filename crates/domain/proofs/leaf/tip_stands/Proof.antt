@@ -11,12 +11,15 @@ natural-requires : tie.Need-natural-requires
 natural-requires c κs = code-there _ _ _ (c .before .pre .2)
 
 add-natural : tie.Need-add-natural
-add-natural c = omega (arith, code-there _ _ _ (c .before .before .before .pre .2))
+add-natural c =
+    let s = c .before .before .before in
+    omega (arith, code-there _ _ _ (s .pre .2))
 
 natural-requires-2 : tie.Need-natural-requires-2
 natural-requires-2 c κs =
+    let s = c .before .before .before in
     let code = c .before .natural .ensures in
-    omega (arith, second-there _ _ _ (c .before .before .before .pre .2) (λ e. omega (arith, c .if1 .taken)))
+    omega (arith, second-there _ _ _ (s .pre .2) (λ e. omega (arith, c .if1 .taken)))
 
 leaf-stands-requires : tie.Need-leaf-stands-requires
 leaf-stands-requires c κs =
@@ -28,8 +31,9 @@ leaf-stands-requires c κs =
 
 returns : tie.Need-returns
 returns c =
-    let s = c .before .before .before .before .before in
-    let code = c .before .before .before .natural .ensures in
+    let after-natural = c .before .before .before in
+    let s = after-natural .before .before in
+    let code = after-natural .natural .ensures in
     let low = c .before .before .if1 .taken in
     variable-way _ _ _ (s .args .z) (tip-long _ _ (s .pre .3)) _ _ (omega arith) (c .before .natural2 .ensures) (c .leaf-stands .ensures)
 

@@ -154,7 +154,9 @@ stand-returns : (t : ℕ) → stand-lts.Need-returns (stand-uses t) (stand-at t)
 stand-returns t c = c .tip-stands .ensures
 
 stand-node-len-requires : (t : ℕ) → stand-lts.Need-node-len-requires (stand-uses t) (stand-at t) stand.Post
-stand-node-len-requires t c κs = noded t (c .before .before .before)
+stand-node-len-requires t c κs =
+    let s = c .before .before .before in
+    noded t s
 
 stand-add-next : (t : ℕ) → stand-lts.Need-add-next (stand-uses t) (stand-at t) stand.Post
 stand-add-next t c =
@@ -162,21 +164,27 @@ stand-add-next t c =
     omega (arith, standing-there _ _ _ _ (walk-standing _ _ _ _ (s .pre .1 .2)), c .node-len .ensures)
 
 stand-sub-stand-all : (t : ℕ) → stand-lts.Need-sub-stand-all (stand-uses t) (stand-at t) stand.Post
-stand-sub-stand-all t c = omega (arith, some t (c .before .before .before .before .before))
+stand-sub-stand-all t c =
+    let s = c .before .before .before .before .before in
+    omega (arith, some t s)
 
 stand-children-requires : (t : ℕ) → stand-lts.Need-children-requires (stand-uses t) (stand-at t) stand.Post
-stand-children-requires t c κs = noded t (c .before .before .before .before .before)
+stand-children-requires t c κs =
+    let s = c .before .before .before .before .before in
+    noded t s
 
 stand-alone-requires : (t : ℕ) → stand-lts.Need-alone-requires (stand-uses t) (stand-at t) stand.Post
 stand-alone-requires t c κs = search needs
 
 stand-stand-all-requires : (t : ℕ) → stand-lts.Need-stand-all-requires (stand-uses t) (stand-at t) stand.Post
 stand-stand-all-requires t c κs =
-    let s = c .before .before .before .before .before .before .before in
+    let after-node-len = c .before .before .before in
+    let after-natural = after-node-len .before .before in
+    let s = after-natural .before .before in
     let w = s .pre .1 .2 in
-    let long = c .before .before .before .node-len .ensures in
+    let long = after-node-len .node-len .ensures in
     let many = c .before .children .ensures in
-    let code = c .before .before .before .before .before .natural .ensures in
+    let code = after-natural .natural .ensures in
     let high = c .before .before .if2 .taken in
     let left = some t s in
     let is = s .pre .0 in
@@ -184,41 +192,54 @@ stand-stand-all-requires t c κs =
 
 stand-returns-2 : (t : ℕ) → stand-lts.Need-returns-2 (stand-uses t) (stand-at t) stand.Post
 stand-returns-2 t c =
-    let s = c .before .before .before .before .before .before .before .before in
-    let long = c .before .before .before .before .node-len .ensures in
+    let then2 = c .before .before .before in
+    let after-node-len = then2 .before in
+    let else1 = after-node-len .before in
+    let after-natural = else1 .before in
+    let s = after-natural .before .before in
+    let long = after-node-len .node-len .ensures in
     let many = c .before .before .children .ensures in
-    let code = c .before .before .before .before .before .before .natural .ensures in
-    let low = c .before .before .before .before .before .if1 .left in
-    children-way _ _ _ (s .args .z) long _ _ many code (omega arith) (c .before .before .before .if2 .taken) _ _ (c .before .alone .ensures) (c .stand-all .ensures)
+    let code = after-natural .natural .ensures in
+    let low = else1 .if1 .left in
+    children-way _ _ _ (s .args .z) long _ _ many code (omega arith) (then2 .if2 .taken) _ _ (c .before .alone .ensures) (c .stand-all .ensures)
 
 stand-add-image-at : (t : ℕ) → stand-lts.Need-add-image-at (stand-uses t) (stand-at t) stand.Post
-stand-add-image-at t c = omega (arith, code-there _ _ _ (noded t (c .before .before .before .before .before .before)))
+stand-add-image-at t c =
+    let s = c .before .before .before .before .before .before in
+    omega (arith, code-there _ _ _ (noded t s))
 
 stand-image-at-requires : (t : ℕ) → stand-lts.Need-image-at-requires (stand-uses t) (stand-at t) stand.Post
 stand-image-at-requires t c κs =
-    let s = c .before .before .before .before .before .before in
-    let code = sym (c .before .before .before .before .natural .ensures) ∙ c .if3 .taken in
+    let after-natural = c .before .before .before .before in
+    let s = after-natural .before .before in
+    let code = sym (after-natural .natural .ensures) ∙ c .if3 .taken in
     (map-stands _ _ _ _ (s .pre .1 .2) code, image-fits _ _ _ _ (s .pre .1 .2) code)
 
 stand-sub-child : (t : ℕ) → stand-lts.Need-sub-child (stand-uses t) (stand-at t) stand.Post
-stand-sub-child t c = omega (arith, some t (c .before .before .before .before .before .before .before))
+stand-sub-child t c =
+    let s = c .before .before .before .before .before .before .before in
+    omega (arith, some t s)
 
 stand-child-requires : (t : ℕ) → stand-lts.Need-child-requires (stand-uses t) (stand-at t) stand.Post
 stand-child-requires t c κs =
-    let s = c .before .before .before .before .before .before .before in
-    let code = sym (c .before .before .before .before .before .natural .ensures) ∙ c .before .if3 .taken in
+    let after-node-len = c .before .before .before in
+    let after-natural = after-node-len .before .before in
+    let s = after-natural .before .before in
+    let code = sym (after-natural .natural .ensures) ∙ c .before .if3 .taken in
     let left = some t s in
     let is = s .pre .0 in
     let y = c .image-at .ensures in
-    let long = c .before .before .before .node-len .ensures in
+    let long = after-node-len .node-len .ensures in
     let walk = walk-image _ _ _ _ (s .pre .1 .2) code _ (y .read) _ (y .is) (y .rest) in
     (omega arith, (s .pre .1 .0, s .pre .1 .1, rw long walk, omega (arith, s .pre .1 .3)))
 
 stand-returns-3 : (t : ℕ) → stand-lts.Need-returns-3 (stand-uses t) (stand-at t) stand.Post
 stand-returns-3 t c =
-    let s = c .before .before .before .before .before .before .before .before in
-    let code = sym (c .before .before .before .before .before .before .natural .ensures) ∙ c .before .before .if3 .taken in
-    let long = c .before .before .before .before .node-len .ensures in
+    let after-node-len = c .before .before .before .before in
+    let after-natural = after-node-len .before .before in
+    let s = after-natural .before .before in
+    let code = sym (after-natural .natural .ensures) ∙ c .before .before .if3 .taken in
+    let long = after-node-len .node-len .ensures in
     let y = c .before .image-at in
     image-way _ _ _ (s .args .z) long _ (y .result) _ code (y .ensures .read) (y .ensures .is) (c .child .ensures)
 
@@ -226,9 +247,11 @@ stand-returns-3 t c =
 seven : (t : ℕ) (c : stand-lts.Else3 (stand-uses t) (stand-at t) stand.Post) →
     natAbs (field (c .before .before .before .before .before .before .args .s .now) (c .before .before .before .before .before .before .args .at)) ≡ 7
 seven t c =
-    let code = c .before .before .before .before .natural .ensures in
+    let after-natural = c .before .before .before .before in
+    let s = after-natural .before .before in
+    let code = after-natural .natural .ensures in
     let low = c .before .if2 .left in
-    walk-seven _ _ _ _ (c .before .before .before .before .before .before .pre .1 .2) (omega arith) (λ e. c .if3 .left (code ∙ e))
+    walk-seven _ _ _ _ (s .pre .1 .2) (omega arith) (λ e. c .if3 .left (code ∙ e))
 
 stand-restriction-meets-requires : (t : ℕ) → stand-lts.Need-restriction-meets-requires (stand-uses t) (stand-at t) stand.Post
 stand-restriction-meets-requires t c κs =
@@ -237,14 +260,17 @@ stand-restriction-meets-requires t c κs =
     restriction-testable _ _ _ _ (s .pre .1 .2) code (wide-fields _ _ _ (noded t s) (omega arith))
 
 stand-sub-child-2 : (t : ℕ) → stand-lts.Need-sub-child-2 (stand-uses t) (stand-at t) stand.Post
-stand-sub-child-2 t c = omega (arith, some t (c .before .before .before .before .before .before .before .before))
+stand-sub-child-2 t c =
+    let s = c .before .before .before .before .before .before .before .before in
+    omega (arith, some t s)
 
 stand-child-requires-2 : (t : ℕ) → stand-lts.Need-child-requires-2 (stand-uses t) (stand-at t) stand.Post
 stand-child-requires-2 t c κs =
-    let s = c .before .before .before .before .before .before .before .before in
+    let after-node-len = c .before .before .before .before in
+    let s = after-node-len .before .before .before .before in
     let left = some t s in
     let is = s .pre .0 in
-    let long = c .before .before .before .before .node-len .ensures in
+    let long = after-node-len .node-len .ensures in
     let walk = restriction-walk _ _ _ _ (s .pre .1 .2) (seven t (c .before .before)) in
     (omega arith, (s .pre .1 .0, s .pre .1 .1, rw long walk, omega (arith, s .pre .1 .3)))
 
@@ -255,17 +281,21 @@ stand-skip-requires t c κs =
 
 stand-returns-4 : (t : ℕ) → stand-lts.Need-returns-4 (stand-uses t) (stand-at t) stand.Post
 stand-returns-4 t c =
-    let s = c .before .before .before .before .before .before .before .before .before in
-    let long = c .before .before .before .before .before .node-len .ensures in
+    let else3 = c .before .before .before in
+    let after-node-len = else3 .before .before in
+    let s = after-node-len .before .before .before .before in
+    let long = after-node-len .node-len .ensures in
     let met = c .before .before .restriction-meets .ensures in
-    restriction-way _ _ _ (s .args .z) long (seven t (c .before .before .before)) _ met _ (c .before .if4 .taken) (c .child2 .ensures)
+    restriction-way _ _ _ (s .args .z) long (seven t else3) _ met _ (c .before .if4 .taken) (c .child2 .ensures)
 
 stand-returns-5 : (t : ℕ) → stand-lts.Need-returns-5 (stand-uses t) (stand-at t) stand.Post
 stand-returns-5 t c =
-    let s = c .before .before .before .before .before .before .before .before .before in
-    let long = c .before .before .before .before .before .node-len .ensures in
+    let else3 = c .before .before .before in
+    let after-node-len = else3 .before .before in
+    let s = after-node-len .before .before .before .before in
+    let long = after-node-len .node-len .ensures in
     let met = c .before .before .restriction-meets .ensures in
-    restriction-off-way _ _ _ (s .args .z) long (seven t (c .before .before .before)) _ met _ (c .before .if4 .left) (c .skip .ensures)
+    restriction-off-way _ _ _ (s .args .z) long (seven t else3) _ met _ (c .before .if4 .left) (c .skip .ensures)
 
 -- what the trees from here on come to is what all of them do
 abbrev stand-all-Inv-loop : stand-all-lts.InvT-loop
@@ -296,18 +326,20 @@ stand-all-loop-less t c = omega (arith, c .before .before .loop-test .taken)
 stand-all-loop-again : (t : ℕ) → stand-all-lts.Need-loop-again (stand-all-uses t) (stand-all-at t) stand-all.Post stand-all-Inv-loop stand-all-μ-loop
 stand-all-loop-again t c =
     let here = c .before .before in
-    let loop = here .before .loop in
+    let at-loop = here .before in
+    let start = at-loop .before .before in
+    let loop = at-loop .loop in
     let more = here .loop-test .taken in
     let one = c .before .child in
-    let s = here .before .before .before in (
+    let s = start in (
       walk-rest _ _ _ _ _ more (loop .inv .0) _ (λ e q d h f. one .ensures e q d h f .0),
       λ r h. loop .inv .1 r (more-way _ _ _ (s .args .z) (s .args .branches) (loop .how) more _ _ (one .ensures) (rw (c .joined .ensures) at h)),
     )
 
 stand-all-returns : (t : ℕ) → stand-all-lts.Need-returns (stand-all-uses t) (stand-all-at t) stand-all.Post stand-all-Inv-loop stand-all-μ-loop
 stand-all-returns t c =
-    let loop = c .before .loop in
     let s = c .before .before .before in
+    let loop = c .before .loop in
     loop .inv .1 _ (none-way _ _ _ (s .args .z) (s .args .branches) (loop .how) (omega (arith, c .loop-test .left)))
 
 pub +child+stand+stand-all-spec : {M : Type 1} → statement M

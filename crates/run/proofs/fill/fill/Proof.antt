@@ -30,14 +30,22 @@ laid : (c : tie.Start Inv-loop μ-loop) → VariableLaid (c .args .s .now) (c .a
 laid c = laid-variable _ _ (c .pre .0 .placed) _ (c .pre .5)
 
 -- its first element
-first-is : (c : tie.After-first-element Inv-loop μ-loop) → c .first-element .result ≡ before (sheetOf (c .before .before .before .args .s .now)) (c .before .before .before .args .v)
-first-is c = c .first-element .ensures ∙ laid (c .before .before .before) .first-is
+first-is : (c : tie.After-first-element Inv-loop μ-loop) →
+    c .first-element .result ≡ before (sheetOf (c .before .before .before .args .s .now)) (c .before .before .before .args .v)
+first-is c =
+    let s = c .before .before .before in
+    c .first-element .ensures ∙ laid s .first-is
 
 -- the next is one of its elements
-many : (c : tie.In-loop Inv-loop μ-loop) → c .before .loop .i < size (variable (sheetOf (c .before .before .before .before .before .args .s .now)) (c .before .before .before .before .before .args .v) .head .box)
-many c = omega (arith, c .loop-test .taken, c .before .before .before .before .before .pre .6)
+many : (c : tie.In-loop Inv-loop μ-loop) →
+    c .before .loop .i < size
+    (variable (sheetOf (c .before .before .before .before .before .args .s .now)) (c .before .before .before .before .before .args .v) .head .box)
+many c =
+    let s = c .before .before .before .before .before in
+    omega (arith, c .loop-test .taken, s .pre .6)
 
-number-low : (c : tie.In-loop Inv-loop μ-loop) → c .before .before .first-element .result + c .before .loop .i < total (sheetOf (c .before .before .before .before .before .args .s .now))
+number-low : (c : tie.In-loop Inv-loop μ-loop) →
+    c .before .before .first-element .result + c .before .loop .i < total (sheetOf (c .before .before .before .before .before .args .s .now))
 number-low c =
     let s = c .before .before .before .before .before in
     omega (arith, first-is (c .before .before), many c, before-fits (sheetOf (s .args .s .now)) (s .args .v) (laid s .known))
@@ -47,7 +55,8 @@ first-element-requires c κs = omega (arith, laid (c .before .before) .low)
 
 loop-holds : tie.Need-loop-holds Inv-loop μ-loop
 loop-holds c =
-    let p = c .before .before .before .pre in
+    let s = c .before .before .before in
+    let p = s .pre in
     (fills-none _ _ _ _ _ (p .2) (p .3) (p .6) (p .7), p .4)
 
 add-e : tie.Need-add-e Inv-loop μ-loop
@@ -55,48 +64,69 @@ add-e c = let f = first-is (c .before .before) in omega (arith, number-low c)
 
 settle-requires : tie.Need-settle-requires Inv-loop μ-loop
 settle-requires c κs =
-    let a = c .before .before .before .before .before in
-    let p = a .before .before .before .pre in
-    let m = c .before .before .before .before .loop .inv in
-    (p .0, p .1, m .0 .advances .ready, m .0 .advances .idle, m .1, number-low (c .before .before .before))
+    let in-loop = c .before .before .before in
+    let at-loop = in-loop .before in
+    let s = at-loop .before .before .before .before in
+    let p = s .pre in
+    let m = at-loop .loop .inv in
+    (p .0, p .1, m .0 .advances .ready, m .0 .advances .idle, m .1, number-low in-loop)
 
 put-requires : tie.Need-put-requires Inv-loop μ-loop
 put-requires c κs =
-    let l = c .before .before .before .before .before .before .before .before in
-    let S = c .before .before .before .before .settle .ensures .0 in
+    let after-settle = c .before .before .before .before in
+    let l = after-settle .before .before .before .before in
+    let at-loop = l .before in
+    let S = after-settle .settle .ensures .0 in
     let i = l .loop-test .taken in
-    let m = c .before .before .before .before .before .before .before .before .before .loop .inv .0 in
-    (omega (arith, number-low l, S .ready .few), S .ready .codes-long, S .ready .values-long, omega (arith, many l, m .codes-long), omega (arith, many l, m .values-long))
+    let m = at-loop .loop .inv .0 in (
+      omega (arith, number-low l, S .ready .few),
+      S .ready .codes-long,
+      S .ready .values-long,
+      omega (arith, many l, m .codes-long),
+      omega (arith, many l, m .values-long),
+    )
 
 add-i : tie.Need-add-i Inv-loop μ-loop
-add-i c = let l = c .before .before .before .before .before .before .before .before .before .before .before .before in omega (arith, many l, laid (l .before .before .before .before .before) .few)
+add-i c =
+    let in-loop = c .before .before .before .before .before .before .before .before .before .before .before .before in
+    let l = in-loop in omega (arith, many l, laid (l .before .before .before .before .before) .few)
 
 loop-less : tie.Need-loop-less Inv-loop μ-loop
-loop-less c = omega (arith, c .before .before .before .before .before .before .before .before .before .before .before .before .loop-test .taken)
+loop-less c =
+    let in-loop = c .before .before .before .before .before .before .before .before .before .before .before .before in
+    omega (arith, in-loop .loop-test .taken)
 
 loop-again : tie.Need-loop-again Inv-loop μ-loop
 loop-again c =
-    let l = c .before .before .before .before .before .before .before .before .before .before .before .before in
-    let a = c .before .before .before .before .before .before .before .before .before .before .before .before .before .before in
-    let S = c .before .before .before .before .before .before .before .before .settle .ensures in
-    let w = c .before .before .before .put .ensures in
+    let after-put = c .before .before .before in
+    let after-settle = after-put .before .before .before .before .before in
+    let l = after-settle .before .before .before .before in
+    let at-loop = l .before in
+    let a = at-loop .before in
+    let S = after-settle .settle .ensures in
+    let w = after-put .put .ensures in
     let here = first-is a in
-    let next = fills-next _ _ _ _ _ _ _ _ (c .before .before .before .before .before .before .before .before .before .before .before .before .before .loop .inv .0) (many l) (rw here at (number-low l)) (rw here at (S .0)) _ _ (rw here at (w .0)) (rw here at (w .1)) in
+    let next =
+    fills-next _ _ _ _ _ _ _ _ (at-loop .loop .inv .0) (many l) (rw here at (number-low l)) (rw here at (S .0)) _ _ (rw here at (w .0))
+    (rw here at (w .1)) in
     (next, S .1)
 
 same-length : tie.Need-same-length Inv-loop μ-loop
 same-length c =
-    let p = c .before .before .before .before .before .pre in
+    let s = c .before .before .before .before .before in
+    let p = s .pre in
     omega (arith, c .before .loop .inv .0 .codes-long, p .6)
 
 same-length-2 : tie.Need-same-length-2 Inv-loop μ-loop
 same-length-2 c =
-    let p = c .before .before .before .before .before .pre in
+    let s = c .before .before .before .before .before in
+    let p = s .pre in
     omega (arith, c .before .loop .inv .0 .values-long, p .7)
 
 returns : tie.Need-returns Inv-loop μ-loop
 returns c =
-    let p = c .before .before .before .before .before .pre in
+    let s = c .before .before .before .before .before in
+    let p = s .pre in
     let m = c .before .loop .inv in
     (fills-whole _ _ _ _ _ _ _ (m .0) (omega (arith, c .loop-test .left, p .6)), m .1)
 

@@ -21,7 +21,8 @@ use Rattle.run.proofs.fill.fill_all.Tie as tie
 
 abbrev Inv-loop : tie.InvT-loop
 Inv-loop s tab inside known₀ found₀ codes₀ values₀ stack₀ n v₀ known found codes values stack v =
-    FillsAll (sheetOf s) (memoOf known₀ found₀) (before (sheetOf s) v) codes₀ codes values₀ values × Advances (sheetOf s) (memoOf known₀ found₀) (memoOf known found) × (length stack ≡ 4096) × (v ≤ varsOf s)
+    FillsAll (sheetOf s) (memoOf known₀ found₀) (before (sheetOf s) v) codes₀ codes values₀ values
+    × Advances (sheetOf s) (memoOf known₀ found₀) (memoOf known found) × (length stack ≡ 4096) × (v ≤ varsOf s)
 
 abbrev μ-loop : tie.MeasureT-loop
 μ-loop s tab inside known₀ found₀ codes₀ values₀ stack₀ n v₀ known found codes values stack v = n - v
@@ -31,7 +32,9 @@ start c = c .before .before .before .before .before
 
 -- the table says how many variables the sheet has
 count-is : (c : tie.After-variable-count Inv-loop μ-loop) → c .variable-count .result ≡ varsOf (c .before .before .before .args .s .now)
-count-is c = c .variable-count .ensures ∙ c .before .before .before .pre .0 .placed .prepared .table .variables
+count-is c =
+    let s = c .before .before .before in
+    c .variable-count .ensures ∙ s .pre .0 .placed .prepared .table .variables
 
 -- the next variable
 known : (c : tie.In-loop Inv-loop μ-loop) → c .before .loop .v < varsOf (start c .args .s .now)
@@ -41,12 +44,14 @@ laid : (c : tie.In-loop Inv-loop μ-loop) → VariableLaid (start c .args .s .no
 laid c = laid-variable _ _ (start c .pre .0 .placed) _ (known c)
 
 -- its stretch
-from-is : (c : tie.After-first-element Inv-loop μ-loop) → c .first-element .result ≡ before (sheetOf (start (c .before) .args .s .now)) (c .before .before .loop .v)
+from-is : (c : tie.After-first-element Inv-loop μ-loop) →
+    c .first-element .result ≡ before (sheetOf (start (c .before) .args .s .now)) (c .before .before .loop .v)
 from-is c = c .first-element .ensures ∙ laid (c .before) .first-is
 
 to-is : (c : tie.After-first-element2 Inv-loop μ-loop) →
     let l = c .before .before in
-    c .first-element2 .result ≡ before (sheetOf (start l .args .s .now)) (l .before .loop .v) + size (variable (sheetOf (start l .args .s .now)) (l .before .loop .v) .head .box)
+    c .first-element2 .result ≡ before (sheetOf (start l .args .s .now)) (l .before .loop .v)
+    + size (variable (sheetOf (start l .args .s .now)) (l .before .loop .v) .head .box)
 to-is c = c .first-element2 .ensures ∙ laid (c .before .before) .last-is
 
 variable-count-requires : tie.Need-variable-count-requires Inv-loop μ-loop
@@ -54,7 +59,8 @@ variable-count-requires c κs = search needs
 
 loop-holds : tie.Need-loop-holds Inv-loop μ-loop
 loop-holds c =
-    let p = c .before .before .before .pre in
+    let s = c .before .before .before in
+    let p = s .pre in
     (fills-start _ _ _ _, advances-none _ _ (p .2) (p .3), refl, omega arith)
 
 first-element-requires : tie.Need-first-element-requires Inv-loop μ-loop
@@ -72,15 +78,20 @@ room : (c : tie.After-first-element2 Inv-loop μ-loop) →
     (c .first-element2 .result ≤ length (s .args .codes .now)) × (c .first-element2 .result ≤ length (s .args .values .now))
 room c =
     let l = c .before .before in
+    let at-loop = l .before in
     let s = start l in
-    let fits = before-fits (sheetOf (s .args .s .now)) (l .before .loop .v) (laid l .known) in
+    let fits = before-fits (sheetOf (s .args .s .now)) (at-loop .loop .v) (laid l .known) in
     (omega (arith, to-is c, fits, s .pre .4), omega (arith, to-is c, fits, s .pre .5))
 
 in-codes : (c : tie.After-first-element2 Inv-loop μ-loop) → c .first-element2 .result ≤ length (c .before .before .before .loop .codes)
-in-codes c = omega (arith, room c .0, c .before .before .before .loop .inv .0 .codes-long)
+in-codes c =
+    let at-loop = c .before .before .before in
+    omega (arith, room c .0, at-loop .loop .inv .0 .codes-long)
 
 in-values : (c : tie.After-first-element2 Inv-loop μ-loop) → c .first-element2 .result ≤ length (c .before .before .before .loop .values)
-in-values c = omega (arith, room c .1, c .before .before .before .loop .inv .0 .values-long)
+in-values c =
+    let at-loop = c .before .before .before in
+    omega (arith, room c .1, at-loop .loop .inv .0 .values-long)
 
 order : (c : tie.After-first-element2 Inv-loop μ-loop) → c .before .first-element .result ≤ c .first-element2 .result
 order c = omega (arith, from-is (c .before), to-is c)
@@ -96,58 +107,91 @@ ends : (c : tie.After-first-element2 Inv-loop μ-loop) →
     c .first-element2 .result ≡ before (sheetOf (start l .args .s .now)) (l .before .loop .v + 1)
 ends c =
     let l = c .before .before in
-    let one : l .before .loop .v + 1 ≡ suc (l .before .loop .v) = omega arith in
-    rw one (omega (arith, to-is c, before-suc (sheetOf (start l .args .s .now)) (l .before .loop .v) (laid l .known)))
+    let at-loop = l .before in
+    let one : at-loop .loop .v + 1 ≡ suc (at-loop .loop .v) = omega arith in
+    rw one (omega (arith, to-is c, before-suc (sheetOf (start l .args .s .now)) (at-loop .loop .v) (laid l .known)))
 
 sub-fill : tie.Need-sub-fill Inv-loop μ-loop
-sub-fill c = let l = laid (c .before .before .before .before .before) in omega (arith, from-is (c .before .before .before .before), to-is (c .before .before .before))
+sub-fill c =
+    let after-first-element2 = c .before .before .before in
+    let after-first-element = after-first-element2 .before in
+    let in-loop = after-first-element .before in
+    let l = laid in-loop in omega (arith, from-is after-first-element, to-is after-first-element2)
 
 part-fill-start : tie.Need-part-fill-start Inv-loop μ-loop
-part-fill-start c = let l = laid (c .before .before .before .before .before) in omega (arith, from-is (c .before .before .before .before), to-is (c .before .before .before))
+part-fill-start c =
+    let after-first-element2 = c .before .before .before in
+    let after-first-element = after-first-element2 .before in
+    let in-loop = after-first-element .before in
+    let l = laid in-loop in omega (arith, from-is after-first-element, to-is after-first-element2)
 
 part-fill-end : tie.Need-part-fill-end Inv-loop μ-loop
-part-fill-end c = omega (arith, in-codes (c .before .before .before))
+part-fill-end c =
+    let after-first-element2 = c .before .before .before in
+    omega (arith, in-codes after-first-element2)
 
 mul-fill : tie.Need-mul-fill Inv-loop μ-loop
-mul-fill c = let small : c .before .before .before .before .before .first-element .result ≤ 4096 = omega (arith, from-is (c .before .before .before .before .before), laid (c .before .before .before .before .before .before) .few) in search needs
+mul-fill c =
+    let after-first-element = c .before .before .before .before .before in
+    let in-loop = after-first-element .before in
+    let small : after-first-element .first-element .result ≤ 4096 = omega (arith, from-is after-first-element, laid in-loop .few) in search needs
 
 sub-fill-2 : tie.Need-sub-fill-2 Inv-loop μ-loop
-sub-fill-2 c = let l = laid (c .before .before .before .before .before .before) in omega (arith, from-is (c .before .before .before .before .before), to-is (c .before .before .before .before))
+sub-fill-2 c =
+    let after-first-element2 = c .before .before .before .before in
+    let after-first-element = after-first-element2 .before in
+    let in-loop = after-first-element .before in
+    let l = laid in-loop in omega (arith, from-is after-first-element, to-is after-first-element2)
 
 part-fill-start-2 : tie.Need-part-fill-start-2 Inv-loop μ-loop
-part-fill-start-2 c = let l = laid (c .before .before .before .before .before .before) in omega (arith, from-is (c .before .before .before .before .before), to-is (c .before .before .before .before))
+part-fill-start-2 c =
+    let after-first-element2 = c .before .before .before .before in
+    let after-first-element = after-first-element2 .before in
+    let in-loop = after-first-element .before in
+    let l = laid in-loop in omega (arith, from-is after-first-element, to-is after-first-element2)
 
 part-fill-end-2 : tie.Need-part-fill-end-2 Inv-loop μ-loop
-part-fill-end-2 c = omega (arith, in-values (c .before .before .before .before))
+part-fill-end-2 c =
+    let after-first-element2 = c .before .before .before .before in
+    omega (arith, in-values after-first-element2)
 
 fill-requires : tie.Need-fill-requires Inv-loop μ-loop
 fill-requires c κs =
     let t = c .before .before .before .before .before in
     let l = t .before .before in
+    let at-loop = l .before in
     let p = start l .pre in
-    let m = l .before .loop .inv in
+    let m = at-loop .loop .inv in
     let wide = stretch-is t in
     (p .0, p .1, m .1 .ready, m .1 .idle, m .2, known l, part-long _ _ _ _ wide (in-codes t) (order t), part-long _ _ _ _ wide (in-values t) (order t))
 
 add-v : tie.Need-add-v Inv-loop μ-loop
 add-v c =
     let l = c .before .before .before .before .before .before .before .before .before .before .before in
+    let after-variable-count = l .before .before in
     let few = prepared-sections _ _ (start l .pre .0 .placed .prepared) .few in
-    omega (arith, few, count-is (l .before .before), l .loop-test .taken)
+    omega (arith, few, count-is after-variable-count, l .loop-test .taken)
 
 loop-less : tie.Need-loop-less Inv-loop μ-loop
-loop-less c = omega (arith, c .before .before .before .before .before .before .before .before .before .before .before .loop-test .taken)
+loop-less c =
+    let in-loop = c .before .before .before .before .before .before .before .before .before .before .before in
+    omega (arith, in-loop .loop-test .taken)
 
 loop-again : tie.Need-loop-again Inv-loop μ-loop
 loop-again c =
-    let t = c .before .before .before .before .before .before .before .before .before in
-    let l = t .before .before in
+    let after-fill = c .before .before .before in
+    let t = after-fill .before .before .before .before .before .before in
+    let after-first-element = t .before in
+    let l = after-first-element .before in
+    let at-loop = l .before in
     let s = start l in
     let sheet = sheetOf (s .args .s .now) in
-    let m = l .before .loop .inv in
-    let F = c .before .before .before .fill .ensures in
-    let next = fills-on sheet (l .before .loop .v) _ _ (from-is (t .before)) (to-is t) _ _ _ (m .1) _ _ _ _ _ _ (m .0) (F .0) (omega (arith, room t .0)) (omega (arith, room t .1)) in
-    let one : t .first-element2 .result ≡ before sheet (l .before .loop .v + 1) = ends t in
+    let m = at-loop .loop .inv in
+    let F = after-fill .fill .ensures in
+    let next =
+    fills-on sheet (at-loop .loop .v) _ _ (from-is after-first-element) (to-is t) _ _ _ (m .1) _ _ _ _ _ _ (m .0) (F .0)
+    (omega (arith, room t .0)) (omega (arith, room t .1)) in
+    let one : t .first-element2 .result ≡ before sheet (at-loop .loop .v + 1) = ends t in
     (fills-at _ _ _ _ _ _ _ _ one next, advances-on _ _ _ _ (m .1) (F .0 .advances), F .1, omega (arith, known l))
 
 same-length : tie.Need-same-length Inv-loop μ-loop
@@ -160,7 +204,8 @@ returns : tie.Need-returns Inv-loop μ-loop
 returns c =
     let s = c .before .before .before .before .before in
     let m = c .before .loop .inv in
-    let all : c .before .loop .v ≡ length (sheetOf (s .args .s .now)) = omega (arith, count-is (c .before .before), c .loop-test .left, m .3, laid-length _ _ (s .pre .0 .placed)) in
+    let all : c .before .loop .v ≡ length (sheetOf (s .args .s .now)) =
+    omega (arith, count-is (c .before .before), c .loop-test .left, m .3, laid-length _ _ (s .pre .0 .placed)) in
     fills-at _ _ _ _ _ _ _ _ (ap (before (sheetOf (s .args .s .now))) all ∙ before-all (sheetOf (s .args .s .now))) (m .0)
 
 pub fill-all-spec : {M : Type 1} → statement M

@@ -46,7 +46,12 @@ same-length-2 : tie.Need-same-length-2
 same-length-2 c = search needs
 
 returns : tie.Need-returns
-returns c = (refl, ap (set (c .before .before .before .args .values .now) (c .before .before .before .args .i)) (toZ-ofZ {w = w32} (sfits-of (c .values .given)) ∙ value-some (memo (c .before .before .before)) (c .before .before .before .args .e) (c .before .if1 .taken)))
+returns c =
+    let s = c .before .before .before in (
+      refl,
+      ap (set (s .args .values .now) (s .args .i))
+          (toZ-ofZ {w = w32} (sfits-of (c .values .given)) ∙ value-some (memo s) (s .args .e) (c .before .if1 .taken)),
+    )
 
 same-length-3 : tie.Need-same-length-3
 same-length-3 c = search needs
@@ -55,7 +60,11 @@ same-length-4 : tie.Need-same-length-4
 same-length-4 c = search needs
 
 returns-2 : tie.Need-returns-2
-returns-2 c = (refl, ap (set (c .before .before .args .values .now) (c .before .before .args .i)) (value-none (memo (c .before .before)) (c .before .before .args .e) (c .if1 .left)))
+returns-2 c = (
+  refl,
+  ap (set (c .before .before .args .values .now) (c .before .before .args .i))
+      (value-none (memo (c .before .before)) (c .before .before .args .e) (c .if1 .left)),
+)
 
 pub put-spec : {M : Type 1} → statement M
 put-spec =

@@ -43,17 +43,29 @@ within-requires c κs = search needs
 
 -- the test is the definition's, of the entry
 test-is : (c : tie.After-within Inv-loop μ-loop) →
-    c .within .result ≡ within (pos 0) (pos 1) (getD (c .before .before .before .before .before .before .before .args .part .now) (c .before .before .before .before .before .before .loop .i) (pos 0))
+    c .within .result ≡ within (pos 0) (pos 1)
+    (getD (c .before .before .before .before .before .before .before .args .part .now) (c .before .before .before .before .before .before .loop .i)
+    (pos 0))
 test-is c =
-    let l = c .before .before .before .before .before .before in
-    let x : c .before .before .before .of32 .result .v ≡ getD (l .before .args .part .now) (l .loop .i) (pos 0) = c .before .before .before .of32 .ensures .0 ∙ toZ-ofZ {w = w32} (sfits-of (c .before .before .before .before .x .given)) in
+    let after-of32 = c .before .before .before in
+    let after-x = after-of32 .before in
+    let l = after-x .before .before in
+    let s = l .before in
+    let x : after-of32 .of32 .result .v ≡ getD (s .args .part .now) (l .loop .i) (pos 0) =
+    after-of32 .of32 .ensures .0 ∙ toZ-ofZ {w = w32} (sfits-of (after-x .x .given)) in
     rw (c .before .before .of .ensures, c .before .of2 .ensures, x) at (c .within .ensures)
 
 add-t14 : tie.Need-add-t14 Inv-loop μ-loop
-add-t14 c = omega (arith, c .before .before .before .before .before .before .loop-test .taken, c .before .before .before .before .before .before .before .before .pre)
+add-t14 c =
+    let in-loop = c .before .before .before .before .before .before in
+    let s = in-loop .before .before in
+    omega (arith, in-loop .loop-test .taken, s .pre)
 
 returns : tie.Need-returns Inv-loop μ-loop
-returns c = bits-fail _ _ _ (c .before .before .before .before .before .before .loop-test .taken) (c .before .before .before .before .before .before .before .loop .inv) (sym (test-is (c .before)) ∙ not-true _ (c .if1 .taken))
+returns c =
+    let in-loop = c .before .before .before .before .before .before in
+    let at-loop = in-loop .before in
+    bits-fail _ _ _ (in-loop .loop-test .taken) (at-loop .loop .inv) (sym (test-is (c .before)) ∙ not-true _ (c .if1 .taken))
 
 add-i : tie.Need-add-i Inv-loop μ-loop
 add-i c = search needs
@@ -62,7 +74,10 @@ loop-less : tie.Need-loop-less Inv-loop μ-loop
 loop-less c = search needs
 
 loop-again : tie.Need-loop-again Inv-loop μ-loop
-loop-again c = bits-on _ _ _ (c .before .before .before .before .before .before .loop-test .taken) (c .before .before .before .before .before .before .before .loop .inv) (sym (test-is (c .before)) ∙ not-false _ (c .if1 .left))
+loop-again c =
+    let in-loop = c .before .before .before .before .before .before in
+    let at-loop = in-loop .before in
+    bits-on _ _ _ (in-loop .loop-test .taken) (at-loop .loop .inv) (sym (test-is (c .before)) ∙ not-false _ (c .if1 .left))
 
 returns-2 : tie.Need-returns-2 Inv-loop μ-loop
 returns-2 c = bits-end _ _ _ (c .loop-test .left) (c .before .loop .inv)

@@ -24,7 +24,9 @@ count-is c = c .variable-count .ensures ∙ c .before .before .pre .0 .placed .p
 
 -- the next variable
 known : (c : tie.In-loop Inv-loop μ-loop) → c .before .loop .v < length (sheetOf (c .before .before .before .before .args .s .now))
-known c = omega (arith, c .loop-test .taken, count-is (c .before .before), laid-length _ _ (c .before .before .before .before .pre .0 .placed))
+known c =
+    let s = c .before .before .before .before in
+    omega (arith, c .loop-test .taken, count-is (c .before .before), laid-length _ _ (s .pre .0 .placed))
 
 variable-count-requires : tie.Need-variable-count-requires Inv-loop μ-loop
 variable-count-requires c κs = search needs
@@ -33,7 +35,9 @@ loop-holds : tie.Need-loop-holds Inv-loop μ-loop
 loop-holds c = entries-start _ _
 
 entries-of-requires : tie.Need-entries-of-requires Inv-loop μ-loop
-entries-of-requires c κs = let p = c .before .before .before .before .pre in (p .0, omega (arith, count-is (c .before .before), c .loop-test .taken), p .1)
+entries-of-requires c κs =
+    let s = c .before .before .before .before in
+    let p = s .pre in (p .0, omega (arith, count-is (c .before .before), c .loop-test .taken), p .1)
 
 enum-told : tie.Need-enum-told Inv-loop μ-loop
 enum-told c = search needs
@@ -42,19 +46,32 @@ enum-told-2 : tie.Need-enum-told-2 Inv-loop μ-loop
 enum-told-2 c = search needs
 
 returns : tie.Need-returns Inv-loop μ-loop
-returns c = entries-fail _ _ _ (known (c .before .before .before)) (c .before .before .before .before .loop .inv) _ (c .enum-told2 .given .1) (c .before .before .entries-of .ensures)
+returns c =
+    let in-loop = c .before .before .before in
+    let at-loop = in-loop .before in
+    entries-fail _ _ _ (known in-loop) (at-loop .loop .inv) _ (c .enum-told2 .given .1) (c .before .before .entries-of .ensures)
 
 add-v : tie.Need-add-v Inv-loop μ-loop
-add-v c = omega (arith, c .before .before .before .loop-test .taken)
+add-v c =
+    let in-loop = c .before .before .before in
+    omega (arith, in-loop .loop-test .taken)
 
 loop-less : tie.Need-loop-less Inv-loop μ-loop
-loop-less c = omega (arith, c .before .before .before .loop-test .taken)
+loop-less c =
+    let in-loop = c .before .before .before in
+    omega (arith, in-loop .loop-test .taken)
 
 loop-again : tie.Need-loop-again Inv-loop μ-loop
-loop-again c = entries-on _ _ _ (known (c .before .before .before)) (c .before .before .before .before .loop .inv) (sym (c .before .before .entries-of .ensures) ∙ ap ruled (c .enum-told .given .1))
+loop-again c =
+    let in-loop = c .before .before .before in
+    let at-loop = in-loop .before in
+    entries-on _ _ _ (known in-loop) (at-loop .loop .inv) (sym (c .before .before .entries-of .ensures) ∙ ap ruled (c .enum-told .given .1))
 
 returns-2 : tie.Need-returns-2 Inv-loop μ-loop
-returns-2 c = entries-end _ _ (c .before .loop .v) (omega (arith, count-is (c .before .before), c .loop-test .left, laid-length _ _ (c .before .before .before .before .pre .0 .placed))) (c .before .loop .inv)
+returns-2 c =
+    let s = c .before .before .before .before in
+    entries-end _ _ (c .before .loop .v) (omega (arith, count-is (c .before .before), c .loop-test .left, laid-length _ _ (s .pre .0 .placed)))
+    (c .before .loop .inv)
 
 pub entries-spec : {M : Type 1} → statement M
 entries-spec =

@@ -13,7 +13,8 @@ use Rattle.alpha.specs.Outcome.{inputsBefore}
 use Rattle.alpha.specs.Run as Run
 use Rattle.laws.specs.Sheets.{sheetOf}
 use Rattle.domain.proofs.Records.{VariableLaid, laid-variable, laid-total}
-use Rattle.run.proofs.Listing.{input-kind, other-kind, size-input, before-step, before-count, count-total, entries-none, entries-integer, bits-entries, part-few, integer-sort, boolean-sort}
+use Rattle.run.proofs.Listing.{input-kind, other-kind, size-input, before-step, before-count, count-total, entries-none, entries-integer}
+use Rattle.run.proofs.Listing.{bits-entries, part-few, integer-sort, boolean-sort}
 use Rattle.run.proofs.inputs.entries_of.Statement.{statement}
 use Rattle.run.proofs.inputs.entries_of.Tie as tie
 
@@ -35,10 +36,14 @@ kind-of-requires : tie.Need-kind-of-requires
 kind-of-requires c κs = (c .before .pre .0 .placed .prepared, c .before .pre .1)
 
 returns : tie.Need-returns
-returns c = entries-none (sheetOf (start (c .before) .args .s .now)) (start (c .before) .args .v) (start (c .before) .args .ins .now) (input-is (c .before) ∙ other-kind _ (c .before .kind-of .ensures .1) (c .if1 .taken))
+returns c =
+    entries-none (sheetOf (start (c .before) .args .s .now)) (start (c .before) .args .v) (start (c .before) .args .ins .now)
+    (input-is (c .before) ∙ other-kind _ (c .before .kind-of .ensures .1) (c .if1 .taken))
 
 sort-of-requires : tie.Need-sort-of-requires
-sort-of-requires c κs = (c .before .before .before .pre .0 .placed .prepared, c .before .before .before .pre .1)
+sort-of-requires c κs =
+    let s = c .before .before .before in
+    (s .pre .0 .placed .prepared, s .pre .1)
 
 -- its type, by its number
 sort-is : (c : tie.After-sort-of) →
@@ -50,13 +55,16 @@ returns-2 : tie.Need-returns-2
 returns-2 c =
     let k = c .before .before .before in
     let s = start k in
-    entries-integer (sheetOf (s .args .s .now)) (s .args .v) (s .args .ins .now) (input k (c .before .before .if1 .left)) (sort-is (c .before) ∙ integer-sort _ (c .if2 .taken))
+    entries-integer (sheetOf (s .args .s .now)) (s .args .v) (s .args .ins .now) (input k (c .before .before .if1 .left))
+    (sort-is (c .before) ∙ integer-sort _ (c .if2 .taken))
 
 inputs-before-requires : tie.Need-inputs-before-requires
 inputs-before-requires c κs = search needs
 
 add-inputs-before : tie.Need-add-inputs-before
-add-inputs-before c = omega (arith, laid (c .before .before .before .before .before .before) .low)
+add-inputs-before c =
+    let s = c .before .before .before .before .before .before in
+    omega (arith, laid s .low)
 
 inputs-before-requires-2 : tie.Need-inputs-before-requires-2
 inputs-before-requires-2 c κs = search needs
@@ -69,18 +77,27 @@ step : (c : tie.After-inputs-before2) →
     let s = start (kind c) in
     c .inputs-before2 .result ≡ c .before .inputs-before .result + size (variable (sheetOf (s .args .s .now)) (s .args .v) .head .box)
 step c =
+    let else1 = c .before .before .before .before in
     let s = start (kind c) in
     let sheet = sheetOf (s .args .s .now) in
     let one : s .args .v + 1 ≡ suc (s .args .v) = omega arith in
     let after = rw one at (c .inputs-before2 .ensures) in
-    omega (arith, after, c .before .inputs-before .ensures, before-step sheet (s .args .v) (laid s .known), size-input sheet (s .args .v) (input (kind c) (c .before .before .before .before .if1 .left)))
+    omega (
+      arith,
+      after,
+      c .before .inputs-before .ensures,
+      before-step sheet (s .args .v) (laid s .known),
+      size-input sheet (s .args .v) (input (kind c) (else1 .if1 .left)),
+    )
 
 -- and within the list, which is short
 few : (c : tie.After-inputs-before2) → (c .inputs-before2 .result ≤ length (start (kind c) .args .ins .now)) × (length (start (kind c) .args .ins .now) ≤ 4096)
 few c =
     let s = start (kind c) in
-    let sheet = sheetOf (s .args .s .now) in
-    (omega (arith, c .inputs-before2 .ensures, before-count sheet (s .args .v + 1), s .pre .2), omega (arith, s .pre .2, count-total sheet, laid-total _ _ (s .pre .0 .placed)))
+    let sheet = sheetOf (s .args .s .now) in (
+      omega (arith, c .inputs-before2 .ensures, before-count sheet (s .args .v + 1), s .pre .2),
+      omega (arith, s .pre .2, count-total sheet, laid-total _ _ (s .pre .0 .placed)),
+    )
 
 mul-bits : tie.Need-mul-bits
 mul-bits c = let small : c .before .inputs-before .result ≤ 4096 = omega (arith, few c .0, few c .1, step c) in search needs
@@ -100,11 +117,15 @@ bits-requires c κs = let a = c .before in part-few _ _ _ _ (omega (arith, step 
 returns-3 : tie.Need-returns-3
 returns-3 c =
     let a = c .before .before in
+    let after-inputs-before = a .before in
+    let else2 = after-inputs-before .before in
+    let o = else2 .before in
+    let else1 = o .before in
     let s = start (kind a) in
     let sheet = sheetOf (s .args .s .now) in
-    let o = a .before .before .before in
-    let boolean = sort-is o ∙ boolean-sort _ (o .sort-of .ensures .1) (a .before .before .if2 .left) in
-    bits-entries sheet (s .args .v) (s .args .ins .now) (input (kind a) (a .before .before .before .before .if1 .left)) boolean _ _ (a .before .inputs-before .ensures) (step a) _ (c .bits .ensures)
+    let boolean = sort-is o ∙ boolean-sort _ (o .sort-of .ensures .1) (else2 .if2 .left) in
+    bits-entries sheet (s .args .v) (s .args .ins .now) (input (kind a) (else1 .if1 .left)) boolean _ _ (after-inputs-before .inputs-before .ensures)
+    (step a) _ (c .bits .ensures)
 
 pub entries-of-spec : {M : Type 1} → statement M
 entries-of-spec =

@@ -33,7 +33,9 @@ returns : tie.Need-returns
 returns c = inputs-short _ _ _ (needed-is (c .before)) (c .if1 .taken)
 
 entries-requires : tie.Need-entries-requires
-entries-requires c κs = (c .before .before .before .before .pre, c .if1 .left ∙ needed-is (c .before))
+entries-requires c κs =
+    let s = c .before .before .before .before in
+    (s .pre, c .if1 .left ∙ needed-is (c .before))
 
 returns-2 : tie.Need-returns-2
 returns-2 c = c .entries .ensures ∙ inputs-long _ _ (c .before .if1 .left ∙ needed-is (c .before .before))

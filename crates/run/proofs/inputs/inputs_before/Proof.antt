@@ -22,22 +22,36 @@ loop-holds : tie.Need-loop-holds Inv-loop μ-loop
 loop-holds c = (refl, omega arith)
 
 input-size-requires : tie.Need-input-size-requires Inv-loop μ-loop
-input-size-requires c κs = (c .before .before .before .pre .0, omega (arith, c .before .before .before .pre .1, c .loop-test .taken))
+input-size-requires c κs =
+    let s = c .before .before .before in
+    (s .pre .0, omega (arith, s .pre .1, c .loop-test .taken))
 
 -- the sum with one variable more
 step : (c : tie.After-input-size Inv-loop μ-loop) →
-    c .before .before .loop .n + c .input-size .result ≡ inputsBefore (sheetOf (c .before .before .before .before .args .s .now)) (c .before .before .loop .k + 1)
+    c .before .before .loop .n + c .input-size .result ≡ inputsBefore (sheetOf (c .before .before .before .before .args .s .now))
+    (c .before .before .loop .k + 1)
 step c =
     let s = c .before .before .before .before in
     let low = laid-length _ _ (s .pre .0 .placed) in
     let one : c .before .before .loop .k + 1 ≡ suc (c .before .before .loop .k) = omega arith in
-    rw one (omega (arith, c .before .before .loop .inv .0, c .input-size .ensures, before-step (sheetOf (s .args .s .now)) (c .before .before .loop .k) (omega (arith, s .pre .1, c .before .loop-test .taken))))
+    rw one (omega (
+      arith,
+      c .before .before .loop .inv .0,
+      c .input-size .ensures,
+      before-step (sheetOf (s .args .s .now)) (c .before .before .loop .k) (omega (arith, s .pre .1, c .before .loop-test .taken)),
+    ))
 
 -- it is small
-few : (c : tie.After-input-size Inv-loop μ-loop) → inputsBefore (sheetOf (c .before .before .before .before .args .s .now)) (c .before .before .loop .k + 1) ≤ 4096
+few : (c : tie.After-input-size Inv-loop μ-loop) →
+    inputsBefore (sheetOf (c .before .before .before .before .args .s .now)) (c .before .before .loop .k + 1) ≤ 4096
 few c =
     let s = c .before .before .before .before in
-    omega (arith, before-count (sheetOf (s .args .s .now)) (c .before .before .loop .k + 1), count-total (sheetOf (s .args .s .now)), laid-total _ _ (s .pre .0 .placed))
+    omega (
+      arith,
+      before-count (sheetOf (s .args .s .now)) (c .before .before .loop .k + 1),
+      count-total (sheetOf (s .args .s .now)),
+      laid-total _ _ (s .pre .0 .placed),
+    )
 
 add-n : tie.Need-add-n Inv-loop μ-loop
 add-n c = let t = few c in omega (arith, step c)
@@ -53,8 +67,9 @@ loop-again c = (step c, omega (arith, c .before .loop-test .taken))
 
 returns : tie.Need-returns Inv-loop μ-loop
 returns c =
+    let s = c .before .before .before in
     let l = c .before .loop .inv in
-    let e : c .before .loop .k ≡ c .before .before .before .args .v = omega (arith, l .1, c .loop-test .left) in
+    let e : c .before .loop .k ≡ s .args .v = omega (arith, l .1, c .loop-test .left) in
     l .0 ∙ ap (inputsBefore _) e
 
 pub inputs-before-spec : {M : Type 1} → statement M

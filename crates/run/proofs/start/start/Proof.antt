@@ -32,22 +32,33 @@ loop-holds : tie.Need-loop-holds Inv-loop μ-loop
 loop-holds c = (c .before .before .pre .3, omega arith)
 
 start-variable-requires : tie.Need-start-variable-requires Inv-loop μ-loop
-start-variable-requires c κs = let p = c .before .before .before .before .before .before .pre in (p .0, p .1, p .2, omega (arith, count-is (c .before .before .before .before), c .before .before .loop-test .taken), c .before .before .before .loop .inv .0)
+start-variable-requires c κs =
+    let at-loop = c .before .before .before in
+    let after-variable-count = at-loop .before in
+    let s = after-variable-count .before .before in
+    let p = s .pre in (p .0, p .1, p .2, omega (arith, count-is after-variable-count, c .before .before .loop-test .taken), at-loop .loop .inv .0)
 
 add-v : tie.Need-add-v Inv-loop μ-loop
-add-v c = omega (arith, c .before .before .before .loop-test .taken)
+add-v c =
+    let in-loop = c .before .before .before in
+    omega (arith, in-loop .loop-test .taken)
 
 loop-less : tie.Need-loop-less Inv-loop μ-loop
-loop-less c = omega (arith, c .before .before .before .loop-test .taken)
+loop-less c =
+    let in-loop = c .before .before .before in
+    omega (arith, in-loop .loop-test .taken)
 
 loop-again : tie.Need-loop-again Inv-loop μ-loop
-loop-again c = (c .start-variable .ensures, omega (arith, c .before .before .before .loop-test .taken))
+loop-again c =
+    let in-loop = c .before .before .before in
+    (c .start-variable .ensures, omega (arith, in-loop .loop-test .taken))
 
 returns : tie.Need-returns Inv-loop μ-loop
 returns c =
     let s = c .before .before .before .before in
     let m = c .before .loop .inv in
-    let all : c .before .loop .v ≡ length (sheetOf (s .args .s .now)) = omega (arith, count-is (c .before .before), c .loop-test .left, m .1, laid-length _ _ (s .pre .0 .placed)) in
+    let all : c .before .loop .v ≡ length (sheetOf (s .args .s .now)) =
+    omega (arith, count-is (c .before .before), c .loop-test .left, m .1, laid-length _ _ (s .pre .0 .placed)) in
     started-at _ _ _ _ _ (ap (before (sheetOf (s .args .s .now))) all ∙ before-all (sheetOf (s .args .s .now))) (m .0)
 
 pub start-spec : {M : Type 1} → statement M

@@ -24,7 +24,8 @@ use Rattle.run.proofs.start.start_variable.Statement.{statement}
 use Rattle.run.proofs.start.start_variable.Tie as tie
 
 abbrev Inv-loop : tie.InvT-loop
-Inv-loop s tab inside ins v known₀ found₀ input from first size i₀ known found i = Started (sheetOf s) ins (memoOf known found) (before (sheetOf s) v + i) × (i ≤ size)
+Inv-loop s tab inside ins v known₀ found₀ input from first size i₀ known found i =
+    Started (sheetOf s) ins (memoOf known found) (before (sheetOf s) v + i) × (i ≤ size)
 
 abbrev μ-loop : tie.MeasureT-loop
 μ-loop s tab inside ins v known₀ found₀ input from first size i₀ known found i = size - i
@@ -37,27 +38,41 @@ abbrev start : tie.In-loop Inv-loop μ-loop → tie.Start Inv-loop μ-loop
 start c = c .before .before .before .before .before .before .before
 
 -- whether it is an input
-input-is : (c : tie.After-kind-of Inv-loop μ-loop) → isInput (variable (sheetOf (c .before .before .args .s .now)) (c .before .before .args .v)) ≡ eqb (c .kind-of .result) 0
+input-is : (c : tie.After-kind-of Inv-loop μ-loop) → isInput (variable (sheetOf (c .before .before .args .s .now)) (c .before .before .args .v))
+    ≡ eqb (c .kind-of .result) 0
 input-is c =
     ap (λ h. isInputKind (h .kind)) (laid (c .before .before) .head-is) ∙ ap isInputKind (c .kind-of .ensures .0) ∙ kind-test _ (c .kind-of .ensures .1)
 
 -- its first element
-first-is : (c : tie.After-first-element Inv-loop μ-loop) → c .first-element .result ≡ before (sheetOf (c .before .before .before .before .args .s .now)) (c .before .before .before .before .args .v)
-first-is c = c .first-element .ensures ∙ laid (c .before .before .before .before) .first-is
+first-is : (c : tie.After-first-element Inv-loop μ-loop) →
+    c .first-element .result ≡ before (sheetOf (c .before .before .before .before .args .s .now)) (c .before .before .before .before .args .v)
+first-is c =
+    let s = c .before .before .before .before in
+    c .first-element .ensures ∙ laid s .first-is
 
 -- the next is one of its elements
 many : (c : tie.In-loop Inv-loop μ-loop) → c .before .loop .i < size (variable (sheetOf (start c .args .s .now)) (start c .args .v) .head .box)
 many c =
+    let after-first-element = c .before .before .before in
     let l = laid (start c) in
-    omega (arith, c .loop-test .taken, first-is (c .before .before .before), l .last-is, c .before .before .first-element2 .ensures)
+    omega (arith, c .loop-test .taken, first-is after-first-element, l .last-is, c .before .before .first-element2 .ensures)
 
 -- an input's element has an entry
 listed : (c : tie.In-loop Inv-loop μ-loop) → isInput (variable (sheetOf (start c .args .s .now)) (start c .args .v)) ≡ true →
     c .before .before .before .before .inputs-before .result + c .before .loop .i < length (start c .args .ins .now)
 listed c t =
+    let after-inputs-before = c .before .before .before .before in
     let s = start c in
     let sheet = sheetOf (s .args .s .now) in
-    omega (arith, c .before .before .before .before .inputs-before .ensures, before-step sheet (s .args .v) (laid s .known), before-count sheet (suc (s .args .v)), size-input sheet (s .args .v) t, many c, s .pre .2)
+    omega (
+      arith,
+      after-inputs-before .inputs-before .ensures,
+      before-step sheet (s .args .v) (laid s .known),
+      before-count sheet (suc (s .args .v)),
+      size-input sheet (s .args .v) t,
+      many c,
+      s .pre .2,
+    )
 
 -- the list is short
 short : (c : tie.Start Inv-loop μ-loop) → length (c .args .ins .now) ≤ 4096
@@ -70,16 +85,24 @@ inputs-before-requires : tie.Need-inputs-before-requires Inv-loop μ-loop
 inputs-before-requires c κs = (c .before .before .pre .0, omega (arith, c .before .before .pre .3))
 
 first-element-requires : tie.Need-first-element-requires Inv-loop μ-loop
-first-element-requires c κs = omega (arith, laid (c .before .before .before) .low)
+first-element-requires c κs =
+    let s = c .before .before .before in
+    omega (arith, laid s .low)
 
 add-first-element : tie.Need-add-first-element Inv-loop μ-loop
-add-first-element c = omega (arith, laid (c .before .before .before .before) .low)
+add-first-element c =
+    let s = c .before .before .before .before in
+    omega (arith, laid s .low)
 
 first-element-requires-2 : tie.Need-first-element-requires-2 Inv-loop μ-loop
-first-element-requires-2 c κs = omega (arith, laid (c .before .before .before .before) .low)
+first-element-requires-2 c κs =
+    let s = c .before .before .before .before in
+    omega (arith, laid s .low)
 
 sub-size : tie.Need-sub-size Inv-loop μ-loop
-sub-size c = let l = laid (c .before .before .before .before .before) in omega (arith, l .first-is, l .last-is, c .first-element2 .ensures, c .before .first-element .ensures)
+sub-size c =
+    let s = c .before .before .before .before .before in
+    let l = laid s in omega (arith, l .first-is, l .last-is, c .first-element2 .ensures, c .before .first-element .ensures)
 
 loop-holds : tie.Need-loop-holds Inv-loop μ-loop
 loop-holds c =
@@ -88,34 +111,54 @@ loop-holds c =
     (rw (← e) (s .pre .4), omega arith)
 
 add-start-element : tie.Need-add-start-element Inv-loop μ-loop
-add-start-element c = let l = laid (c .before .before .before .before .before .before .before) in omega (arith, first-is (c .before .before .before), many c, l .few)
+add-start-element c =
+    let after-first-element = c .before .before .before in
+    let s = after-first-element .before .before .before .before in
+    let l = laid s in omega (arith, first-is after-first-element, many c, l .few)
 
 add-start-element-2 : tie.Need-add-start-element-2 Inv-loop μ-loop
 add-start-element-2 c =
-    let s = c .before .before .before .before .before .before .before in
-    let n = c .before .before .before .before .inputs-before .ensures in
+    let after-inputs-before = c .before .before .before .before in
+    let s = after-inputs-before .before .before .before in
+    let n = after-inputs-before .inputs-before .ensures in
     omega (arith, n, before-count (sheetOf (s .args .s .now)) (s .args .v), s .pre .2, many c, laid s .few, short s)
 
 start-element-requires : tie.Need-start-element-requires Inv-loop μ-loop
 start-element-requires c κs =
     let l = c .before .before in
+    let at-loop = l .before in
+    let after-first-element = at-loop .before .before in
+    let after-kind-of = after-first-element .before .before in
     let s = start l in
-    let S = l .before .loop .inv .0 in
-    (omega (arith, first-is (c .before .before .before .before .before), many l, laid s .few), s .pre .1 .sized, S .codes-long, S .values-long, λ t. listed l (input-is (c .before .before .before .before .before .before .before) ∙ t))
+    let S = at-loop .loop .inv .0 in (
+      omega (arith, first-is after-first-element, many l, laid s .few),
+      s .pre .1 .sized,
+      S .codes-long,
+      S .values-long,
+      λ t. listed l (input-is after-kind-of ∙ t),
+    )
 
 add-i : tie.Need-add-i Inv-loop μ-loop
-add-i c = let l = c .before .before .before in omega (arith, many l, laid (start l) .few)
+add-i c =
+    let in-loop = c .before .before .before in
+    let l = in-loop in omega (arith, many l, laid (start l) .few)
 
 loop-less : tie.Need-loop-less Inv-loop μ-loop
-loop-less c = omega (arith, c .before .before .before .loop-test .taken)
+loop-less c =
+    let in-loop = c .before .before .before in
+    omega (arith, in-loop .loop-test .taken)
 
 loop-again : tie.Need-loop-again Inv-loop μ-loop
 loop-again c =
     let l = c .before .before .before in
+    let at-loop = l .before in
+    let after-first-element = at-loop .before .before in
+    let after-inputs-before = after-first-element .before in
+    let after-kind-of = after-inputs-before .before in
     let s = start l in
-    let here = first-is (c .before .before .before .before .before .before) in
-    let from = c .before .before .before .before .before .before .before .inputs-before .ensures in
-    let next = started-next _ _ _ _ (laid s) (many l) _ (s .pre .1) _ _ (l .before .loop .inv .0) _ (sym (input-is (c .before .before .before .before .before .before .before .before))) in
+    let here = first-is after-first-element in
+    let from = after-inputs-before .inputs-before .ensures in
+    let next = started-next _ _ _ _ (laid s) (many l) _ (s .pre .1) _ _ (at-loop .loop .inv .0) _ (sym (input-is after-kind-of)) in
     (rw (c .start-element .ensures, here, from) next, omega (arith, l .loop-test .taken))
 
 -- after its last element
@@ -123,12 +166,21 @@ whole : (c : tie.After-loop Inv-loop μ-loop) →
     let s = c .before .before .before .before .before .before .before in
     before (sheetOf (s .args .s .now)) (s .args .v) + c .before .loop .i ≡ before (sheetOf (s .args .s .now)) (s .args .v + 1)
 whole c =
-    let s = c .before .before .before .before .before .before .before in
+    let after-first-element = c .before .before .before in
+    let s = after-first-element .before .before .before .before in
     let sheet = sheetOf (s .args .s .now) in
     let l = laid s in
     let one : s .args .v + 1 ≡ suc (s .args .v) = omega arith in
     let all = c .before .loop .inv .1 in
-    rw one (omega (arith, before-suc sheet (s .args .v) (l .known), c .loop-test .left, all, first-is (c .before .before .before), l .last-is, c .before .before .first-element2 .ensures))
+    rw one (omega (
+      arith,
+      before-suc sheet (s .args .v) (l .known),
+      c .loop-test .left,
+      all,
+      first-is after-first-element,
+      l .last-is,
+      c .before .before .first-element2 .ensures,
+    ))
 
 returns : tie.Need-returns Inv-loop μ-loop
 returns c =

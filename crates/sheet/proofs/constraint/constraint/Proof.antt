@@ -23,7 +23,8 @@ row-requires c κs = search needs
 returns-2 : tie.Need-returns-2
 returns-2 c =
     let r = c .before .before in
-    c .row .ensures ∙ sym (constraint-place _ _ _ ∙ goes-on _ (r .before .before .choice-field .ensures) _ _ (r .r .given .1))
+    let after-choice-field = r .before .before in
+    c .row .ensures ∙ sym (constraint-place _ _ _ ∙ goes-on _ (after-choice-field .choice-field .ensures) _ _ (r .r .given .1))
 
 pub constraint-spec : {M : Type 1} → statement M
 constraint-spec =

@@ -20,8 +20,9 @@ chosen : (c : tie.After-known-told) →
     let s = c .before .before .before .before .before in
     Passed (within (pos 0) (pos (s .args .n - 1))) (s .args .s .now) (s .args .at) (c .before .r .given .0 .0)
 chosen c =
-    let s = c .before .before .before .before .before in
-    choice-came (s .args .s .now) (s .args .at) _ _ (c .before .r .given .1) (s .args .n - 1) (c .before .before .before .choice-field .ensures)
+    let after-choice-field = c .before .before .before in
+    let s = after-choice-field .before .before in
+    choice-came (s .args .s .now) (s .args .at) _ _ (c .before .r .given .1) (s .args .n - 1) (after-choice-field .choice-field .ensures)
 
 number : (c : tie.After-count-at) → c .count-at .result < c .before .before .before .before .before .before .args .n
 number c =
@@ -34,7 +35,9 @@ number c =
 -- its record stands where the table says
 recorded : (c : tie.After-count-at) →
     let s = c .before .before .before .before .before .before in getD (s .args .tab .now) (c .count-at .result) 0 + 32 ≤ length (s .args .s .now)
-recorded c = c .before .before .before .before .before .before .pre .1 .recorded _ (number c) .fields
+recorded c =
+    let s = c .before .before .before .before .before .before in
+    s .pre .1 .recorded _ (number c) .fields
 
 sub-choice-field : tie.Need-sub-choice-field
 sub-choice-field c = search needs
@@ -57,10 +60,14 @@ count-at-requires : tie.Need-count-at-requires
 count-at-requires c κs = chosen c .there
 
 mul-record : tie.Need-mul-record
-mul-record c = let v = number c in let f = c .before .before .before .before .before .before .pre .1 .few in record { fits = omega arith }
+mul-record c =
+    let s = c .before .before .before .before .before .before in
+    let v = number c in let f = s .pre .1 .few in record { fits = omega arith }
 
 element-copy-out-record : tie.Need-element-copy-out-record
-element-copy-out-record c = let v = number c in let f = c .before .before .before .before .before .before .pre .1 .few in omega arith
+element-copy-out-record c =
+    let s = c .before .before .before .before .before .before in
+    let v = number c in let f = s .pre .1 .few in omega arith
 
 add-count-at : tie.Need-add-count-at
 add-count-at c = let r = recorded (c .before) in record { fits = omega arith }
@@ -73,14 +80,15 @@ constraint-requires c κs = search needs
 
 returns-2 : tie.Need-returns-2
 returns-2 c =
-    let s = c .before .before .before .before .before .before .before .before .before in
-    let hs = headsAt (s .args .s .now) (take (s .args .n) (s .args .tab .now)) in
     let v = c .before .before .before in
+    let r = v .before .before in
+    let after-choice-field = r .before .before in
+    let s = after-choice-field .before .before in
+    let hs = headsAt (s .args .s .now) (take (s .args .n) (s .args .tab .now)) in
     let same = c .before .count-at2 .ensures ∙ sym (heads-dimension (s .pre .1) _ (number v)) ∙ ap (dimension hs) (v .count-at .ensures) in
-    let r = c .before .before .before .before .before in
     c .constraint .ensures
     ∙ ap (λ (d : ℕ). placeAfter (constraint d (s .args .s .now) (r .r .given .0 .0))) same
-    ∙ sym (declared-known (s .pre .1) (s .args .at) ∙ goes-on _ (r .before .before .choice-field .ensures) _ _ (r .r .given .1))
+    ∙ sym (declared-known (s .pre .1) (s .args .at) ∙ goes-on _ (after-choice-field .choice-field .ensures) _ _ (r .r .given .1))
 
 pub declared-spec : {M : Type 1} → statement M
 declared-spec =

@@ -23,7 +23,8 @@ free-field-requires c κs = search needs
 returns-2 : tie.Need-returns-2
 returns-2 c =
     let r = c .before .before in
-    c .free-field .ensures ∙ sym (row-place _ _ _ ∙ goes-on _ (r .before .before .numbers .ensures) _ _ (r .r .given .1))
+    let after-numbers = r .before .before in
+    c .free-field .ensures ∙ sym (row-place _ _ _ ∙ goes-on _ (after-numbers .numbers .ensures) _ _ (r .r .given .1))
 
 pub row-spec : {M : Type 1} → statement M
 row-spec =

@@ -25,7 +25,8 @@ enum-told c = search needs
 
 returns : tie.Need-returns Inv-loop μ-loop
 returns c =
-    let l = c .before .before .before .before .loop in
+    let at-loop = c .before .before .before .before in
+    let l = at-loop .loop in
     repeat-stops (l .inv) (search needs) _ (c .before .before .row .ensures) _ (c .enum-told .given .1)
 
 sub-left : tie.Need-sub-left Inv-loop μ-loop
@@ -36,8 +37,10 @@ loop-less c = search needs
 
 loop-again : tie.Need-loop-again Inv-loop μ-loop
 loop-again c =
-    let l = c .before .before .before .before .before .loop in
-    repeat-goes (l .inv) (search needs) _ (c .before .before .before .row .ensures) _ (c .before .r .given .1)
+    let after-row = c .before .before .before in
+    let at-loop = after-row .before .before in
+    let l = at-loop .loop in
+    repeat-goes (l .inv) (search needs) _ (after-row .row .ensures) _ (c .before .r .given .1)
 
 returns-2 : tie.Need-returns-2 Inv-loop μ-loop
 returns-2 c = repeat-done (c .before .loop .inv) (search needs)

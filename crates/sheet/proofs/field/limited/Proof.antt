@@ -29,7 +29,8 @@ add-t14 c = search needs
 
 returns-3 : tie.Need-returns-3
 returns-3 c =
-    let a = c .before .before .before .before .before .before .args in
+    let s = c .before .before .before .before .before .before in
+    let a = s .args in
     let w = sym (c .before .within .ensures) ∙ c .if3 .taken in
     let fine = sym (ap (within (a .lo .v) (a .hi .v)) (c .before .before .number-at .ensures)) ∙ w in
     sym (passing-to _ _ _ _ (search needs) fine)

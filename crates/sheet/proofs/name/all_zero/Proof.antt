@@ -23,7 +23,8 @@ shared-slice-read-if1 c = search needs
 
 returns : tie.Need-returns Inv-loop μ-loop
 returns c =
-    let l = c .before .before .before .loop in
+    let at-loop = c .before .before .before in
+    let l = at-loop .loop in
     sym (l .inv .1 ∙ zeros-stop _ (l .p) (l .left) (search needs) (c .if1 .taken))
 
 add-p : tie.Need-add-p Inv-loop μ-loop
@@ -37,7 +38,8 @@ loop-less c = search needs
 
 loop-again : tie.Need-loop-again Inv-loop μ-loop
 loop-again c =
-    let l = c .before .before .before .loop in
+    let at-loop = c .before .before .before in
+    let l = at-loop .loop in
     (search needs, l .inv .1 ∙ zeros-more _ (l .p) (l .left) (search needs) (c .if1 .left))
 
 returns-2 : tie.Need-returns-2 Inv-loop μ-loop

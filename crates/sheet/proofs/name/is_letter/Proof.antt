@@ -14,10 +14,14 @@ between-requires-2 : tie.Need-between-requires-2
 between-requires-2 c κs = search needs
 
 returns-2 : tie.Need-returns-2
-returns-2 c = rw (sym (c .before .before .before .between .ensures) ∙ c .before .before .if1 .left, sym (c .before .between2 .ensures) ∙ c .if2 .taken)
+returns-2 c =
+    let after-between = c .before .before .before in
+    rw (sym (after-between .between .ensures) ∙ c .before .before .if1 .left, sym (c .before .between2 .ensures) ∙ c .if2 .taken)
 
 returns-3 : tie.Need-returns-3
-returns-3 c = rw (sym (c .before .before .before .between .ensures) ∙ c .before .before .if1 .left, sym (c .before .between2 .ensures) ∙ c .if2 .left)
+returns-3 c =
+    let after-between = c .before .before .before in
+    rw (sym (after-between .between .ensures) ∙ c .before .before .if1 .left, sym (c .before .between2 .ensures) ∙ c .if2 .left)
 
 pub is-letter-spec : {M : Type 1} → statement M
 is-letter-spec =

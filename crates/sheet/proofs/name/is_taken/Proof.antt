@@ -22,20 +22,27 @@ sub-earlier : tie.Need-sub-earlier Inv-loop μ-loop
 sub-earlier c = search needs
 
 mul-earlier : tie.Need-mul-earlier Inv-loop μ-loop
-mul-earlier c = let n = c .before .before .before .pre .1 .few in record { fits = omega arith }
+mul-earlier c =
+    let s = c .before .before .before in
+    let n = s .pre .1 .few in record { fits = omega arith }
 
 element-copy-out-earlier : tie.Need-element-copy-out-earlier Inv-loop μ-loop
-element-copy-out-earlier c = let n = c .before .before .before .pre .1 .few in omega arith
+element-copy-out-earlier c =
+    let s = c .before .before .before in
+    let n = s .pre .1 .few in omega arith
 
 same-bytes-requires : tie.Need-same-bytes-requires Inv-loop μ-loop
 same-bytes-requires c κs =
-    let k = c .before .before .before .before .pre in
+    let s = c .before .before .before .before in
+    let k = s .pre in
     (let a = k .0 in omega arith, let r = k .1 .recorded (c .before .before .loop .left - 1) (search needs) .fields in omega arith)
 
 returns : tie.Need-returns Inv-loop μ-loop
 returns c =
-    let l = c .before .before .before .before .loop in
-    let k = c .before .before .before .before .before .before .pre .1 in
+    let at-loop = c .before .before .before .before in
+    let s = at-loop .before .before in
+    let l = at-loop .loop in
+    let k = s .pre .1 in
     let t = sym (c .before .same-bytes .ensures) ∙ c .if1 .taken in
     sym (l .inv .1 ∙ taken-found _ _ _ (l .left) (search needs) (let z = k .sized in let f = k .few in omega arith) t)
 
@@ -47,8 +54,10 @@ loop-less c = search needs
 
 loop-again : tie.Need-loop-again Inv-loop μ-loop
 loop-again c =
-    let l = c .before .before .before .before .loop in
-    let k = c .before .before .before .before .before .before .pre .1 in
+    let at-loop = c .before .before .before .before in
+    let s = at-loop .before .before in
+    let l = at-loop .loop in
+    let k = s .pre .1 in
     let f = sym (c .before .same-bytes .ensures) ∙ c .if1 .left in
     (search needs, l .inv .1 ∙ taken-more _ _ _ (l .left) (search needs) (let z = k .sized in let w = k .few in omega arith) f)
 

@@ -30,7 +30,8 @@ all-zero-requires c κs = search needs
 
 returns : tie.Need-returns Inv-loop μ-loop
 returns c =
-    let l = c .before .before .before .before .before .loop in
+    let at-loop = c .before .before .before .before .before in
+    let l = at-loop .loop in
     let f = sym (c .before .before .in-name .ensures) ∙ not-true _ (c .before .if1 .taken) in
     c .all-zero .ensures ∙ sym (l .inv .1 ∙ tail-ends _ (l .p) (l .left) (search needs) f)
 
@@ -45,7 +46,8 @@ loop-less c = search needs
 
 loop-again : tie.Need-loop-again Inv-loop μ-loop
 loop-again c =
-    let l = c .before .before .before .before .loop in
+    let at-loop = c .before .before .before .before in
+    let l = at-loop .loop in
     let t = sym (c .before .in-name .ensures) ∙ not-false _ (c .if1 .left) in
     (search needs, l .inv .1 ∙ tail-more _ (l .p) (l .left) (search needs) t)
 

@@ -27,7 +27,8 @@ shared-slice-read-if1-2 c = search needs
 
 returns : tie.Need-returns Inv-loop μ-loop
 returns c =
-    let l = c .before .before .before .before .loop in
+    let at-loop = c .before .before .before .before in
+    let l = at-loop .loop in
     sym (l .inv .2 ∙ same-stop _ (l .i) (l .j) (l .left) (search needs) (c .if1 .taken))
 
 add-i : tie.Need-add-i Inv-loop μ-loop
@@ -44,7 +45,8 @@ loop-less c = search needs
 
 loop-again : tie.Need-loop-again Inv-loop μ-loop
 loop-again c =
-    let l = c .before .before .before .before .loop in
+    let at-loop = c .before .before .before .before in
+    let l = at-loop .loop in
     (search needs, search needs, l .inv .2 ∙ same-more _ (l .i) (l .j) (l .left) (search needs) (c .if1 .left))
 
 returns-2 : tie.Need-returns-2 Inv-loop μ-loop

@@ -14,7 +14,8 @@ is-letter-requires c κs = search needs
 
 returns : tie.Need-returns
 returns c =
-    let a = c .before .before .before .before .args in
+    let s = c .before .before .before .before in
+    let a = s .args in
     sym (name-no-letter (a .s .now) (a .at) (sym (c .before .is-letter .ensures) ∙ not-true _ (c .if1 .taken)))
 
 add-name-tail : tie.Need-add-name-tail

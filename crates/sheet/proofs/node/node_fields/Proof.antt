@@ -75,7 +75,8 @@ returns-8 c = c .restriction .ensures ∙ sym (restriction-fields _ _ _ _ (c .be
 
 returns-9 : tie.Need-returns-9
 returns-9 c =
-    let few = c .before .before .before .pre .0 in
+    let s = c .before .before .before in
+    let few = s .pre .0 in
     c .dependence .ensures ∙ sym (dependence-fields _ _ _ _ (last few (c .before .match .rest)))
 
 pub node-fields-spec : {M : Type 1} → statement M

@@ -30,17 +30,21 @@ enum-told-2 c = search needs
 returns-2 : tie.Need-returns-2
 returns-2 c =
     let a = c .before .before .before .before in
+    let after-count-field = a .before .before in
     sym (restriction-place _ _
-    ∙ goes-on _ (a .before .before .count-field .ensures) _ _ (a .a .given .1)
+    ∙ goes-on _ (after-count-field .count-field .ensures) _ _ (a .a .given .1)
     ∙ stops _ (c .before .before .count-field2 .ensures) _ _ (c .enum-told2 .given .1))
 
 count-at-requires : tie.Need-count-at-requires
-count-at-requires c κs = count-came _ _ _ _ (c .before .b .given .1) 0 64 (c .before .before .before .count-field2 .ensures) .there
+count-at-requires c κs =
+    let after-count-field2 = c .before .before .before in
+    count-came _ _ _ _ (c .before .b .given .1) 0 64 (after-count-field2 .count-field2 .ensures) .there
 
 count-at-requires-2 : tie.Need-count-at-requires-2
 count-at-requires-2 c κs =
     let a = c .before .before .before .before .before .before in
-    count-came _ _ _ _ (a .a .given .1) 0 4 (a .before .before .count-field .ensures) .there
+    let after-count-field = a .before .before in
+    count-came _ _ _ _ (a .a .given .1) 0 4 (after-count-field .count-field .ensures) .there
 
 constraints-requires : tie.Need-constraints-requires
 constraints-requires c κs = search needs
@@ -48,11 +52,13 @@ constraints-requires c κs = search needs
 returns-3 : tie.Need-returns-3
 returns-3 c =
     let b = c .before .before .before .before in
-    let a = c .before .before .before .before .before .before .before .before in
+    let after-count-field2 = b .before .before in
+    let a = after-count-field2 .before .before in
+    let after-count-field = a .before .before in
     rw (c .before .before .count-at .ensures, c .before .count-at2 .ensures) at (c .constraints .ensures)
     ∙ sym (restriction-place _ _
-    ∙ goes-on _ (a .before .before .count-field .ensures) _ _ (a .a .given .1)
-    ∙ goes-on _ (b .before .before .count-field2 .ensures) _ _ (b .b .given .1))
+    ∙ goes-on _ (after-count-field .count-field .ensures) _ _ (a .a .given .1)
+    ∙ goes-on _ (after-count-field2 .count-field2 .ensures) _ _ (b .b .given .1))
 
 pub restriction-spec : {M : Type 1} → statement M
 restriction-spec =

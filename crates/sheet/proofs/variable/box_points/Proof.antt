@@ -22,10 +22,14 @@ mul-product : tie.Need-mul-product Inv-loop μ-loop
 mul-product c = let n = mul-le-mul (c .before .before .loop .inv .small) (c .side .ensures .small) in record { fits = omega arith }
 
 returns : tie.Need-returns Inv-loop μ-loop
-returns c = product-over (c .before .before .before .loop .inv) (search needs) (c .before .side .ensures .is) (search needs)
+returns c =
+    let at-loop = c .before .before .before in
+    product-over (at-loop .loop .inv) (search needs) (c .before .side .ensures .is) (search needs)
 
 add-p : tie.Need-add-p Inv-loop μ-loop
-add-p c = let r = c .before .before .before .loop .inv .ranges .there in search needs
+add-p c =
+    let at-loop = c .before .before .before in
+    let r = at-loop .loop .inv .ranges .there in search needs
 
 sub-left : tie.Need-sub-left Inv-loop μ-loop
 sub-left c = search needs
@@ -34,7 +38,9 @@ loop-less : tie.Need-loop-less Inv-loop μ-loop
 loop-less c = search needs
 
 loop-again : tie.Need-loop-again Inv-loop μ-loop
-loop-again c = product-more (c .before .before .before .loop .inv) (search needs) (c .before .side .ensures .is) (search needs)
+loop-again c =
+    let at-loop = c .before .before .before in
+    product-more (at-loop .loop .inv) (search needs) (c .before .side .ensures .is) (search needs)
 
 returns-2 : tie.Need-returns-2 Inv-loop μ-loop
 returns-2 c = product-done (c .before .loop .inv) (search needs)

@@ -30,8 +30,9 @@ enum-told-2 c = search needs
 returns-2 : tie.Need-returns-2
 returns-2 c =
     let a = c .before .before .before .before in
+    let after-name-field = a .before .before in
     sym (head-place _ _ _
-    ∙ goes-on _ (a .before .before .name-field .ensures) _ _ (a .a .given .1)
+    ∙ goes-on _ (after-name-field .name-field .ensures) _ _ (a .a .given .1)
     ∙ stops _ (c .before .before .choice-field .ensures) _ _ (c .enum-told2 .given .1))
 
 choice-field-requires-2 : tie.Need-choice-field-requires-2
@@ -46,10 +47,12 @@ enum-told-3 c = search needs
 returns-3 : tie.Need-returns-3
 returns-3 c =
     let b = c .before .before .before .before in
-    let a = b .before .before .before .before in
+    let after-choice-field = b .before .before in
+    let a = after-choice-field .before .before in
+    let after-name-field = a .before .before in
     sym (head-place _ _ _
-    ∙ goes-on _ (a .before .before .name-field .ensures) _ _ (a .a .given .1)
-    ∙ goes-on _ (b .before .before .choice-field .ensures) _ _ (b .b .given .1)
+    ∙ goes-on _ (after-name-field .name-field .ensures) _ _ (a .a .given .1)
+    ∙ goes-on _ (after-choice-field .choice-field .ensures) _ _ (b .b .given .1)
     ∙ stops _ (c .before .before .choice-field2 .ensures) _ _ (c .enum-told3 .given .1))
 
 count-field-requires : tie.Need-count-field-requires
@@ -64,16 +67,21 @@ enum-told-4 c = search needs
 returns-4 : tie.Need-returns-4
 returns-4 c =
     let t = c .before .before .before .before in
-    let b = t .before .before .before .before in
-    let a = b .before .before .before .before in
+    let after-choice-field2 = t .before .before in
+    let b = after-choice-field2 .before .before in
+    let after-choice-field = b .before .before in
+    let a = after-choice-field .before .before in
+    let after-name-field = a .before .before in
     sym (head-place _ _ _
-    ∙ goes-on _ (a .before .before .name-field .ensures) _ _ (a .a .given .1)
-    ∙ goes-on _ (b .before .before .choice-field .ensures) _ _ (b .b .given .1)
-    ∙ goes-on _ (t .before .before .choice-field2 .ensures) _ _ (t .c .given .1)
+    ∙ goes-on _ (after-name-field .name-field .ensures) _ _ (a .a .given .1)
+    ∙ goes-on _ (after-choice-field .choice-field .ensures) _ _ (b .b .given .1)
+    ∙ goes-on _ (after-choice-field2 .choice-field2 .ensures) _ _ (t .c .given .1)
     ∙ stops _ (c .before .before .count-field .ensures) _ _ (c .enum-told4 .given .1))
 
 count-at-requires : tie.Need-count-at-requires
-count-at-requires c κs = count-came _ _ _ _ (c .before .d .given .1) 0 4 (c .before .before .before .count-field .ensures) .there
+count-at-requires c κs =
+    let after-count-field = c .before .before .before in
+    count-came _ _ _ _ (c .before .d .given .1) 0 4 (after-count-field .count-field .ensures) .there
 
 ranges-requires : tie.Need-ranges-requires
 ranges-requires c κs = search needs
@@ -81,15 +89,19 @@ ranges-requires c κs = search needs
 returns-5 : tie.Need-returns-5
 returns-5 c =
     let d = c .before .before .before in
-    let t = d .before .before .before .before in
-    let b = t .before .before .before .before in
-    let a = b .before .before .before .before in
+    let after-count-field = d .before .before in
+    let t = after-count-field .before .before in
+    let after-choice-field2 = t .before .before in
+    let b = after-choice-field2 .before .before in
+    let after-choice-field = b .before .before in
+    let a = after-choice-field .before .before in
+    let after-name-field = a .before .before in
     rw (c .before .count-at .ensures) at (c .ranges .ensures)
     ∙ sym (head-place _ _ _
-    ∙ goes-on _ (a .before .before .name-field .ensures) _ _ (a .a .given .1)
-    ∙ goes-on _ (b .before .before .choice-field .ensures) _ _ (b .b .given .1)
-    ∙ goes-on _ (t .before .before .choice-field2 .ensures) _ _ (t .c .given .1)
-    ∙ goes-on _ (d .before .before .count-field .ensures) _ _ (d .d .given .1))
+    ∙ goes-on _ (after-name-field .name-field .ensures) _ _ (a .a .given .1)
+    ∙ goes-on _ (after-choice-field .choice-field .ensures) _ _ (b .b .given .1)
+    ∙ goes-on _ (after-choice-field2 .choice-field2 .ensures) _ _ (t .c .given .1)
+    ∙ goes-on _ (after-count-field .count-field .ensures) _ _ (d .d .given .1))
 
 pub head-spec : {M : Type 1} → statement M
 head-spec =

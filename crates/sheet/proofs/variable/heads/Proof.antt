@@ -28,7 +28,9 @@ enum-told : tie.Need-enum-told Inv-loop μ-loop
 enum-told c = search needs
 
 returns : tie.Need-returns Inv-loop μ-loop
-returns c = reading-stops (c .before .before .before .before .before .loop .inv) (search needs) _ _ (c .enum-told .given .1) (c .before .before .head .ensures)
+returns c =
+    let at-loop = c .before .before .before .before .before in
+    reading-stops (at-loop .loop .inv) (search needs) _ _ (c .enum-told .given .1) (c .before .before .head .ensures)
 
 -- the record after the first k was read
 read : (c : tie.After-known-told Inv-loop μ-loop) →
@@ -36,9 +38,12 @@ read : (c : tie.After-known-told Inv-loop μ-loop) →
     let l = c .before .before .before .before .before .before .loop in
     HeadRead (headsAt s (take (l .k) (l .tab))) s (l .p) (c .before .r .given .0 .0)
 read c =
-    let s = c .before .before .before .before .before .before .before .before .args .s .now in
-    let l = c .before .before .before .before .before .before .loop in
-    head-passed (headsAt s (take (l .k) (l .tab))) s (l .p) _ (c .before .before .before .head .ensures) _ (c .before .r .given .1)
+    let after-head = c .before .before .before in
+    let at-loop = after-head .before .before .before in
+    let start = at-loop .before .before in
+    let s = start .args .s .now in
+    let l = at-loop .loop in
+    head-passed (headsAt s (take (l .k) (l .tab))) s (l .p) _ (after-head .head .ensures) _ (c .before .r .given .1)
 
 add-count-at : tie.Need-add-count-at Inv-loop μ-loop
 add-count-at c = let r = read c .recorded .fields in record { fits = omega arith }
@@ -54,45 +59,62 @@ box-points-requires c κs = rw (c .count-at .ensures) (read (c .before) .recorde
 
 add-if1 : tie.Need-add-if1 Inv-loop μ-loop
 add-if1 c =
-    let few = c .before .before .before .before .before .before .before .before .loop .inv .few in
+    let at-loop = c .before .before .before .before .before .before .before .before in
+    let few = at-loop .loop .inv .few in
     let most = capped-small _ (c .box-points .ensures) in
     record { fits = omega arith }
 
 returns-2 : tie.Need-returns-2 Inv-loop μ-loop
 returns-2 c =
-    let l = c .before .before .before .before .before .before .before .before .before .loop in
+    let after-known-told = c .before .before .before in
+    let at-loop = after-known-told .before .before .before .before .before .before in
+    let l = at-loop .loop in
     let counts = rw (c .before .before .count-at .ensures) at (c .before .box-points .ensures) in
-    reading-over (l .inv) (search needs) (read (c .before .before .before)) counts (search needs)
+    reading-over (l .inv) (search needs) (read after-known-told) counts (search needs)
 
 mul-tab : tie.Need-mul-tab Inv-loop μ-loop
-mul-tab c = let small = c .before .before .before .before .before .before .before .before .before .loop .inv .all in record { fits = omega arith }
+mul-tab c =
+    let at-loop = c .before .before .before .before .before .before .before .before .before in
+    let small = at-loop .loop .inv .all in record { fits = omega arith }
 
 element-write-tab : tie.Need-element-write-tab Inv-loop μ-loop
-element-write-tab c = let small = c .before .before .before .before .before .before .before .before .before .loop .inv .all in omega arith
+element-write-tab c =
+    let at-loop = c .before .before .before .before .before .before .before .before .before in
+    let small = at-loop .loop .inv .all in omega arith
 
 add-tab : tie.Need-add-tab Inv-loop μ-loop
-add-tab c = let small = c .before .before .before .before .before .before .before .before .before .loop .inv .all in record { fits = omega arith }
+add-tab c =
+    let at-loop = c .before .before .before .before .before .before .before .before .before in
+    let small = at-loop .loop .inv .all in record { fits = omega arith }
 
 mul-tab-2 : tie.Need-mul-tab-2 Inv-loop μ-loop
-mul-tab-2 c = let small = c .before .before .before .before .before .before .before .before .before .loop .inv .all in record { fits = omega arith }
+mul-tab-2 c =
+    let at-loop = c .before .before .before .before .before .before .before .before .before in
+    let small = at-loop .loop .inv .all in record { fits = omega arith }
 
 element-write-tab-2 : tie.Need-element-write-tab-2 Inv-loop μ-loop
-element-write-tab-2 c = let small = c .before .before .before .before .before .before .before .before .before .loop .inv .all in omega arith
+element-write-tab-2 c =
+    let at-loop = c .before .before .before .before .before .before .before .before .before in
+    let small = at-loop .loop .inv .all in omega arith
 
 add-total : tie.Need-add-total Inv-loop μ-loop
 add-total c = record { fits = omega arith }
 
 add-k : tie.Need-add-k Inv-loop μ-loop
-add-k c = let small = c .before .before .before .before .before .before .before .before .before .loop .inv .all in record { fits = omega arith }
+add-k c =
+    let at-loop = c .before .before .before .before .before .before .before .before .before in
+    let small = at-loop .loop .inv .all in record { fits = omega arith }
 
 loop-less : tie.Need-loop-less Inv-loop μ-loop
 loop-less c = search needs
 
 loop-again : tie.Need-loop-again Inv-loop μ-loop
 loop-again c =
-    let l = c .before .before .before .before .before .before .before .before .before .loop in
+    let after-known-told = c .before .before .before in
+    let at-loop = after-known-told .before .before .before .before .before .before in
+    let l = at-loop .loop in
     let counts = rw (c .before .before .count-at .ensures) at (c .before .box-points .ensures) in
-    reading-more (l .inv) (search needs) (read (c .before .before .before)) counts (search needs)
+    reading-more (l .inv) (search needs) (read after-known-told) counts (search needs)
 
 add-tab-2 : tie.Need-add-tab-2 Inv-loop μ-loop
 add-tab-2 c = let small = c .before .loop .inv .all in record { fits = omega arith }

@@ -18,7 +18,8 @@ sub-if2 c = search needs
 
 returns-2 : tie.Need-returns-2
 returns-2 c =
-    let a = c .before .before .before .args in
+    let s = c .before .before .before in
+    let a = s .args in
     sym (name-cut (a .s .now) (take (a .k) (a .tab .now)) (a .at) (omega arith))
 
 well-formed-requires : tie.Need-well-formed-requires
@@ -26,16 +27,21 @@ well-formed-requires c κs = search needs
 
 returns-3 : tie.Need-returns-3
 returns-3 c =
-    let a = c .before .before .before .before .before .args in
+    let s = c .before .before .before .before .before in
+    let a = s .args in
     sym (name-ill (a .s .now) (take (a .k) (a .tab .now)) (a .at) (omega arith) (sym (c .before .well-formed .ensures) ∙ not-true _ (c .if3 .taken)))
 
 is-taken-requires : tie.Need-is-taken-requires
-is-taken-requires c κs = (omega arith, c .before .before .before .before .before .pre)
+is-taken-requires c κs =
+    let s = c .before .before .before .before .before in
+    (omega arith, s .pre)
 
 returns-4 : tie.Need-returns-4
 returns-4 c =
-    let a = c .before .before .before .before .before .before .before .args in
-    let formed = sym (c .before .before .before .well-formed .ensures) ∙ not-false _ (c .before .before .if3 .left) in
+    let after-well-formed = c .before .before .before in
+    let s = after-well-formed .before .before .before .before in
+    let a = s .args in
+    let formed = sym (after-well-formed .well-formed .ensures) ∙ not-false _ (c .before .before .if3 .left) in
     sym (name-taken (a .s .now) (take (a .k) (a .tab .now)) (a .at) (omega arith) formed (sym (c .before .is-taken .ensures) ∙ c .if4 .taken))
 
 add-t5 : tie.Need-add-t5
@@ -43,8 +49,10 @@ add-t5 c = search needs
 
 returns-5 : tie.Need-returns-5
 returns-5 c =
-    let a = c .before .before .before .before .before .before .before .args in
-    let formed = sym (c .before .before .before .well-formed .ensures) ∙ not-false _ (c .before .before .if3 .left) in
+    let after-well-formed = c .before .before .before in
+    let s = after-well-formed .before .before .before .before in
+    let a = s .args in
+    let formed = sym (after-well-formed .well-formed .ensures) ∙ not-false _ (c .before .before .if3 .left) in
     sym (name-fine (a .s .now) (take (a .k) (a .tab .now)) (a .at) (omega arith) formed (sym (c .before .is-taken .ensures) ∙ c .if4 .left))
 
 pub name-field-spec : {M : Type 1} → statement M

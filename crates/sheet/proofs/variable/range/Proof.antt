@@ -27,12 +27,15 @@ enum-told c = search needs
 returns : tie.Need-returns
 returns c =
     let ends = c .before .before .before in
-    sym (range-place _ _ ∙ stops _ (rw (ends .before .of .ensures, ends .of2 .ensures) at (c .before .before .number-field .ensures)) _ _ (c .enum-told .given .1))
+    let after-of = ends .before in
+    sym (range-place _ _ ∙ stops _ (rw (after-of .of .ensures, ends .of2 .ensures) at (c .before .before .number-field .ensures)) _ _ (c .enum-told .given .1))
 
 number-at-requires : tie.Need-number-at-requires
 number-at-requires c κs =
-    let ends = c .before .before .before .before in
-    let first = rw (ends .before .of .ensures, ends .of2 .ensures) at (c .before .before .before .number-field .ensures) in
+    let after-number-field = c .before .before .before in
+    let ends = after-number-field .before in
+    let after-of = ends .before in
+    let first = rw (after-of .of .ensures, ends .of2 .ensures) at (after-number-field .number-field .ensures) in
     number-came _ _ _ _ (c .before .r .given .1) (negℤ (pos 32768)) (pos 32767) first .there
 
 number-field-requires-2 : tie.Need-number-field-requires-2
@@ -40,10 +43,13 @@ number-field-requires-2 c κs = search needs
 
 returns-2 : tie.Need-returns-2
 returns-2 c =
-    let ends = c .before .before .before .before .before .before in
-    let first = rw (ends .before .of .ensures, ends .of2 .ensures) at (c .before .before .before .before .before .number-field .ensures) in
     let r = c .before .before .before in
-    let s = r .before .before .before .before .before .before .args .s .now in
+    let after-number-field = r .before .before in
+    let ends = after-number-field .before in
+    let after-of = ends .before in
+    let start = after-of .before .before in
+    let first = rw (after-of .of .ensures, ends .of2 .ensures) at (after-number-field .number-field .ensures) in
+    let s = start .args .s .now in
     rw (ends .of2 .ensures) at (c .number-field2 .ensures)
     ∙ ap (λ (x : ℤ). placeAfter (number x (pos 32767) s (r .r .given .0 .0))) (c .before .number-at .ensures)
     ∙ sym (range-place _ _ ∙ goes-on _ first _ _ (r .r .given .1))

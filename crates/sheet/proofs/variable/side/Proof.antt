@@ -44,11 +44,12 @@ add-result c =
 
 returns : tie.Need-returns
 returns c =
+    let after-number-at = c .before .before .before in
     let few = sizes (c .before .before) .0 in
     let at-most = c .before .sub .ensures .1 in
     let e = c .to-usize .ensures in
     record {
-      is = rw (e, c .before .sub .ensures .0, c .before .before .before .number-at .ensures, c .before .before .number-at2 .ensures);
+      is = rw (e, c .before .sub .ensures .0, after-number-at .number-at .ensures, c .before .before .number-at2 .ensures);
       small = omega arith;
     }
 

@@ -13,8 +13,9 @@ natural-requires c κs = code-there _ _ _ (c .before .pre)
 -- a case has a second field
 case-there : (c : tie.At-match-keys3) → c .before .before .before .args .at + 16 ≤ length (c .before .before .before .args .s .now)
 case-there c =
+    let s = c .before .before .before in
     let code = sym (c .before .natural .ensures) ∙ c .match .keys3 in
-    second-there _ _ _ (c .before .before .before .pre) (λ e. let z : _≡_ {A = ℕ} 6 5 = sym code ∙ e in absurd (omega arith))
+    second-there _ _ _ (s .pre) (λ e. let z : _≡_ {A = ℕ} 6 5 = sym code ∙ e in absurd (omega arith))
 
 add-natural : tie.Need-add-natural
 add-natural c = omega (arith, case-there c)

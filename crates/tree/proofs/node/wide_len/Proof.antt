@@ -29,17 +29,19 @@ small n k h l = mul-le-mul h l
 
 mul-result-2 : tie.Need-mul-result-2
 mul-result-2 c =
-    let w = c .before .before .before .pre .0 in
+    let s = c .before .before .before in
+    let w = s .pre .0 in
     let d = c .before .natural .ensures in
     let m = c .natural2 .ensures in
-    omega (arith, small (c .natural2 .result) (c .before .before .before .args .fixed + 8 * c .before .natural .result) (omega arith) (omega arith))
+    omega (arith, small (c .natural2 .result) (s .args .fixed + 8 * c .before .natural .result) (omega arith) (omega arith))
 
 add-result-2 : tie.Need-add-result-2
 add-result-2 c =
-    let w = c .before .before .before .pre .0 in
+    let s = c .before .before .before in
+    let w = s .pre .0 in
     let d = c .before .natural .ensures in
     let m = c .natural2 .ensures in
-    omega (arith, small (c .natural2 .result) (c .before .before .before .args .fixed + 8 * c .before .natural .result) (omega arith) (omega arith))
+    omega (arith, small (c .natural2 .result) (s .args .fixed + 8 * c .before .natural .result) (omega arith) (omega arith))
 
 returns : tie.Need-returns
 returns c = rw (c .natural2 .ensures, c .before .natural .ensures)

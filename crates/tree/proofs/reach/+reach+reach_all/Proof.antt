@@ -65,35 +65,47 @@ reach-returns : (t : ℕ) → reach-lts.Need-returns (reach-uses t) (reach-at t)
 reach-returns t c = reach-past _ _ _ _ (c .before .before .reach-below .ensures) (c .enum-told .given .1)
 
 reach-node-len-requires : (t : ℕ) → reach-lts.Need-node-len-requires (reach-uses t) (reach-at t) reach.Post
-reach-node-len-requires t c κs = standing-noded _ _ _ _ (c .before .before .before .before .before .pre .1 .0)
+reach-node-len-requires t c κs =
+    let s = c .before .before .before .before .before in
+    standing-noded _ _ _ _ (s .pre .1 .0)
 
 reach-add-reach-all : (t : ℕ) → reach-lts.Need-add-reach-all (reach-uses t) (reach-at t) reach.Post
-reach-add-reach-all t c = omega (arith, standing-there _ _ _ _ (c .before .before .before .before .before .before .pre .1 .0), c .node-len .ensures)
+reach-add-reach-all t c =
+    let s = c .before .before .before .before .before .before in
+    omega (arith, standing-there _ _ _ _ (s .pre .1 .0), c .node-len .ensures)
 
 reach-sub-reach-all : (t : ℕ) → reach-lts.Need-sub-reach-all (reach-uses t) (reach-at t) reach.Post
-reach-sub-reach-all t c = omega (arith, standing-some _ _ _ _ (c .before .before .before .before .before .before .pre .1 .0))
+reach-sub-reach-all t c =
+    let s = c .before .before .before .before .before .before in
+    omega (arith, standing-some _ _ _ _ (s .pre .1 .0))
 
 reach-children-requires : (t : ℕ) → reach-lts.Need-children-requires (reach-uses t) (reach-at t) reach.Post
-reach-children-requires t c κs = standing-noded _ _ _ _ (c .before .before .before .before .before .before .pre .1 .0)
+reach-children-requires t c κs =
+    let s = c .before .before .before .before .before .before in
+    standing-noded _ _ _ _ (s .pre .1 .0)
 
 reach-reach-all-requires : (t : ℕ) → reach-lts.Need-reach-all-requires (reach-uses t) (reach-at t) reach.Post
 reach-reach-all-requires t c κs =
-    let s = c .before .before .before .before .before .before .before in
+    let after-r = c .before .before .before in
+    let after-reach-below = after-r .before .before in
+    let s = after-reach-below .before .before in
     let is = s .pre .0 in
     let h = s .pre .1 in
     let least = standing-some _ _ _ _ (h .0) in
     let long = c .before .node-len .ensures in
     let many = c .children .ensures in
     let few = children-few _ _ _ _ (h .0) _ _ long many in
-    let says = c .before .before .before .before .before .reach-below .ensures in
-    let below = reach-some _ _ _ _ says (h .2) (standing-noded _ _ _ _ (h .0)) _ (c .before .before .before .r .given .1) in
+    let says = after-reach-below .reach-below .ensures in
+    let below = reach-some _ _ _ _ says (h .2) (standing-noded _ _ _ _ (h .0)) _ (after-r .r .given .1) in
     (omega arith, (standing-children _ _ _ _ (h .0) _ _ long many, omega arith, few, below))
 
 reach-returns-2 : (t : ℕ) → reach-lts.Need-returns-2 (reach-uses t) (reach-at t) reach.Post
 reach-returns-2 t c =
-    let says = c .before .before .before .before .before .before .reach-below .ensures in
+    let after-r = c .before .before .before .before in
+    let after-reach-below = after-r .before .before in
+    let says = after-reach-below .reach-below .ensures in
     let long = c .before .before .node-len .ensures in
-    reach-goes _ _ _ _ says _ (c .before .before .before .before .r .given .1) _ _ long (c .before .children .ensures) _ (c .reach-all .ensures)
+    reach-goes _ _ _ _ says _ (after-r .r .given .1) _ _ long (c .before .children .ensures) _ (c .reach-all .ensures)
 
 reach-all-returns : (t : ℕ) → reach-all-lts.Need-returns (reach-all-uses t) (reach-all-at t) reach-all.Post
 reach-all-returns t c = trees-none-bounded _ _ _ _ (c .if1 .taken)
@@ -112,21 +124,27 @@ reach-all-enum-told : (t : ℕ) → reach-all-lts.Need-enum-told (reach-all-uses
 reach-all-enum-told t c = search needs
 
 reach-all-returns-2 : (t : ℕ) → reach-all-lts.Need-returns-2 (reach-all-uses t) (reach-all-at t) reach-all.Post
-reach-all-returns-2 t c = trees-beyond _ _ _ _ (c .before .before .before .if1 .left) _ (c .before .before .reach .ensures) (c .enum-told .given .1)
+reach-all-returns-2 t c =
+    let else1 = c .before .before .before in
+    trees-beyond _ _ _ _ (else1 .if1 .left) _ (c .before .before .reach .ensures) (c .enum-told .given .1)
 
 reach-all-reach-all-requires : (t : ℕ) → reach-all-lts.Need-reach-all-requires (reach-all-uses t) (reach-all-at t) reach-all.Post
 reach-all-reach-all-requires t c κs =
-    let s = c .before .before .before .before .before .before in
+    let after-reach = c .before .before .before in
+    let else1 = after-reach .before in
+    let s = else1 .before .before in
     let is = s .pre .0 in
     let h = s .pre .1 in
-    let enough = c .before .before .before .before .if1 .left in
-    let ends = first-ends _ _ _ _ enough _ (c .before .before .before .reach .ensures) _ (c .before .r .given .1) in
+    let enough = else1 .if1 .left in
+    let ends = first-ends _ _ _ _ enough _ (after-reach .reach .ensures) _ (c .before .r .given .1) in
     (omega arith, (rest-standing _ _ _ _ _ enough (h .0) _ ends, h .1, omega (arith, h .2), h .3))
 
 reach-all-returns-3 : (t : ℕ) → reach-all-lts.Need-returns-3 (reach-all-uses t) (reach-all-at t) reach-all.Post
 reach-all-returns-3 t c =
-    let enough = c .before .before .before .before .before .if1 .left in
-    let first = c .before .before .before .before .reach .ensures in
+    let after-reach = c .before .before .before .before in
+    let else1 = after-reach .before in
+    let enough = else1 .if1 .left in
+    let first = after-reach .reach .ensures in
     trees-bounded _ _ _ _ enough _ first _ (c .before .before .r .given .1) _ (c .reach-all .ensures)
 
 pub +reach+reach-all-spec : {M : Type 1} → statement M

@@ -28,14 +28,19 @@ add-row-within c = omega (arith, first-there _ _ _ _ _ _ _ (c .before .loop .inv
 
 row-within-requires : tie.Need-row-within-requires Inv-loop μ-loop
 row-within-requires c κs =
-    let h = c .before .before .before .pre in
+    let s = c .before .before .before in
+    let h = s .pre in
     (h .0, omega (arith, first-there _ _ _ _ _ _ _ (c .before .loop .inv) (c .loop-test .taken)), h .2)
 
 returns : tie.Need-returns Inv-loop μ-loop
-returns c = first-fails _ _ _ _ _ _ _ (c .before .before .before .loop .inv) (c .before .before .loop-test .taken) (sym (c .before .row-within .ensures) ∙ not-true _ (c .if1 .taken))
+returns c =
+    let at-loop = c .before .before .before in
+    first-fails _ _ _ _ _ _ _ (at-loop .loop .inv) (c .before .before .loop-test .taken) (sym (c .before .row-within .ensures) ∙ not-true _ (c .if1 .taken))
 
 add-p : tie.Need-add-p Inv-loop μ-loop
-add-p c = omega (arith, first-there _ _ _ _ _ _ _ (c .before .before .before .loop .inv) (c .before .before .loop-test .taken))
+add-p c =
+    let at-loop = c .before .before .before in
+    omega (arith, first-there _ _ _ _ _ _ _ (at-loop .loop .inv) (c .before .before .loop-test .taken))
 
 sub-left : tie.Need-sub-left Inv-loop μ-loop
 sub-left c = search needs
@@ -44,7 +49,9 @@ loop-less : tie.Need-loop-less Inv-loop μ-loop
 loop-less c = search needs
 
 loop-again : tie.Need-loop-again Inv-loop μ-loop
-loop-again c = first-passes _ _ _ _ _ _ _ (c .before .before .before .loop .inv) (c .before .before .loop-test .taken) (sym (c .before .row-within .ensures) ∙ not-false _ (c .if1 .left))
+loop-again c =
+    let at-loop = c .before .before .before in
+    first-passes _ _ _ _ _ _ _ (at-loop .loop .inv) (c .before .before .loop-test .taken) (sym (c .before .row-within .ensures) ∙ not-false _ (c .if1 .left))
 
 returns-2 : tie.Need-returns-2 Inv-loop μ-loop
 returns-2 c = none-left-pass _ _ _ _ _ _ _ (c .before .loop .inv) (c .loop-test .left)

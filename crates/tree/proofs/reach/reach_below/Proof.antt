@@ -18,31 +18,38 @@ natural-requires c κs = code-there _ _ _ (c .before .pre .0)
 
 add-map-read : tie.Need-add-map-read
 add-map-read c =
+    let s = c .before .before .before in
     let code = sym (c .before .natural .ensures) ∙ c .if1 .taken in
-    omega (arith, wide-fields _ _ _ (c .before .before .before .pre .0) (omega arith) .there)
+    omega (arith, wide-fields _ _ _ (s .pre .0) (omega arith) .there)
 
 map-read-requires : tie.Need-map-read-requires
 map-read-requires c κs = search needs
 
 map-reach-requires : tie.Need-map-reach-requires
-map-reach-requires c κs = (c .map-read .ensures .neat, c .before .before .before .before .pre .1)
+map-reach-requires c κs =
+    let s = c .before .before .before .before in
+    (c .map-read .ensures .neat, s .pre .1)
 
 returns : tie.Need-returns
 returns c =
-    let code = sym (c .before .before .before .natural .ensures) ∙ c .before .before .if1 .taken in
+    let after-natural = c .before .before .before in
+    let code = sym (after-natural .natural .ensures) ∙ c .before .before .if1 .taken in
     λ nd q read. below-dependence _ _ _ _ nd q read code _ (c .before .map-read .ensures) _ (c .map-reach .ensures)
 
 -- a restriction's fields are there
 wide-there : (c : tie.Then2) → Wide (c .before .before .before .before .args .s .now) (c .before .before .before .before .args .at)
 wide-there c =
+    let s = c .before .before .before .before in
     let code = sym (c .before .before .natural .ensures) ∙ c .if2 .taken in
-    wide-fields _ _ _ (c .before .before .before .before .pre .0) (omega arith)
+    wide-fields _ _ _ (s .pre .0) (omega arith)
 
 -- what was found of the constraints, by their fields
 found : (c : tie.After-constraints-within) →
     constraintsReach (c .before .before .before .before .before .before .before .args .around)
-    (natAbs (field (c .before .before .before .before .before .before .before .args .s .now) (c .before .before .before .before .before .before .before .args .at + 8)))
-    (natAbs (field (c .before .before .before .before .before .before .before .args .s .now) (c .before .before .before .before .before .before .before .args .at + 16)))
+    (natAbs (field (c .before .before .before .before .before .before .before .args .s .now)
+    (c .before .before .before .before .before .before .before .args .at + 8)))
+    (natAbs (field (c .before .before .before .before .before .before .before .args .s .now)
+    (c .before .before .before .before .before .before .before .args .at + 16)))
     (c .before .before .before .before .before .before .before .args .s .now) (c .before .before .before .before .before .before .before .args .at + 24)
     ≡ c .constraints-within .result
 found c =
@@ -67,20 +74,26 @@ natural-requires-3 c κs = omega (arith, wide-there (c .before) .there)
 
 constraints-within-requires : tie.Need-constraints-within-requires
 constraints-within-requires c κs =
-    let code = sym (c .before .before .before .before .natural .ensures) ∙ c .before .before .if2 .taken in
+    let after-natural = c .before .before .before .before in
+    let s = after-natural .before .before in
+    let code = sym (after-natural .natural .ensures) ∙ c .before .before .if2 .taken in
     let many = c .before .natural2 .ensures in
     let dim = c .natural3 .ensures in
-    let there = constraints-there _ _ _ (c .before .before .before .before .before .before .pre .0) code in
-    (omega (arith, wide-there (c .before .before) .dim), rw (many, dim) there, c .before .before .before .before .before .before .pre .1)
+    let there = constraints-there _ _ _ (s .pre .0) code in
+    (omega (arith, wide-there (c .before .before) .dim), rw (many, dim) there, s .pre .1)
 
 returns-2 : tie.Need-returns-2
 returns-2 c =
-    let code = sym (c .before .before .before .before .before .before .natural .ensures) ∙ c .before .before .before .before .if2 .taken in
+    let then2 = c .before .before .before .before in
+    let after-natural = then2 .before .before in
+    let code = sym (after-natural .natural .ensures) ∙ then2 .if2 .taken in
     λ nd q read. below-restriction _ _ _ _ nd q read code true (found (c .before) ∙ c .if3 .taken)
 
 returns-3 : tie.Need-returns-3
 returns-3 c =
-    let code = sym (c .before .before .before .before .before .before .natural .ensures) ∙ c .before .before .before .before .if2 .taken in
+    let then2 = c .before .before .before .before in
+    let after-natural = then2 .before .before in
+    let code = sym (after-natural .natural .ensures) ∙ then2 .if2 .taken in
     λ nd q read. below-restriction _ _ _ _ nd q read code false (found (c .before) ∙ c .if3 .left)
 
 returns-4 : tie.Need-returns-4

@@ -24,10 +24,12 @@ enum-told-2 c = search needs
 -- what was told, of the row that the fields say
 told : (c : tie.After-row-reach) →
     Tells (c .row-reach .result)
-    (rowReach (c .before .before .before .args .around) (rowFields (c .before .before .before .args .n) (c .before .before .before .args .s .now) (c .before .before .before .args .at)))
+    (rowReach (c .before .before .before .args .around)
+    (rowFields (c .before .before .before .args .n) (c .before .before .before .args .s .now) (c .before .before .before .args .at)))
 told c =
+    let s = c .before .before .before in
     let row = c .before .row-read .ensures in
-    subst (λ (w : Row). Tells (c .row-reach .result) (rowReach (c .before .before .before .args .around) w)) (row .0) (c .row-reach .ensures (c .before .before .before .args .n) (row .1))
+    subst (λ (w : Row). Tells (c .row-reach .result) (rowReach (s .args .around) w)) (row .0) (c .row-reach .ensures (s .args .n) (row .1))
 
 returns : tie.Need-returns
 returns c = within-true _ _ (rw (c .enum-told .given .1) at (told (c .before .before)))

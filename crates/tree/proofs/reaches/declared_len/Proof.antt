@@ -13,7 +13,8 @@ natural-requires : tie.Need-natural-requires
 natural-requires c κs = who-there _ _ (c .before .pre .0) _ (c .before .pre .1)
 
 dimension-of-requires : tie.Need-dimension-of-requires
-dimension-of-requires c κs = (c .before .before .pre .0, omega (arith, who-known _ _ (c .before .before .pre .0) _ (c .before .before .pre .1), c .natural .ensures))
+dimension-of-requires c κs =
+    (c .before .before .pre .0, omega (arith, who-known _ _ (c .before .before .pre .0) _ (c .before .before .pre .1), c .natural .ensures))
 
 mul-result : tie.Need-mul-result
 mul-result c = search needs
@@ -22,7 +23,9 @@ add-result : tie.Need-add-result
 add-result c = search needs
 
 returns : tie.Need-returns
-returns c = ap (λ d. 24 + 8 * d) (c .dimension-of .ensures .0 ∙ ap (dimension (headsOf (c .before .before .before .args .s .now))) (c .before .natural .ensures))
+returns c =
+    let s = c .before .before .before in
+    ap (λ d. 24 + 8 * d) (c .dimension-of .ensures .0 ∙ ap (dimension (headsOf (s .args .s .now))) (c .before .natural .ensures))
 
 pub declared-len-spec : {M : Type 1} → statement M
 declared-len-spec =

@@ -22,28 +22,37 @@ returns c =
     λ d q e. other-passes _ _ _ d q e (λ x. c .if1 .taken (is ∙ x))
 
 add-row-within : tie.Need-add-row-within
-add-row-within c = omega (arith, declared-there _ _ (c .before .before .before .pre .0) _ (c .before .before .before .pre .1))
+add-row-within c =
+    let s = c .before .before .before in
+    omega (arith, declared-there _ _ (s .pre .0) _ (s .pre .1))
 
 dimension-of-requires : tie.Need-dimension-of-requires
-dimension-of-requires c κs = (c .before .before .before .pre .0, omega (arith, who-known _ _ (c .before .before .before .pre .0) _ (c .before .before .before .pre .1), c .before .natural .ensures))
+dimension-of-requires c κs =
+    let s = c .before .before .before in
+    (s .pre .0, omega (arith, who-known _ _ (s .pre .0) _ (s .pre .1), c .before .natural .ensures))
 
 -- the dimension of the constraint's variable
 dimension-is : (c : tie.After-dimension-of) →
     c .dimension-of .result
-    ≡ dimension (headsOf (c .before .before .before .before .args .s .now)) (natAbs (field (c .before .before .before .before .args .s .now) (c .before .before .before .before .args .at)))
+    ≡ dimension (headsOf (c .before .before .before .before .args .s .now))
+    (natAbs (field (c .before .before .before .before .args .s .now) (c .before .before .before .before .args .at)))
 dimension-is c =
-    let bs = c .before .before .before .before .args .s .now in
+    let s = c .before .before .before .before in
+    let bs = s .args .s .now in
     c .dimension-of .ensures .0 ∙ ap (dimension (headsOf bs)) (c .before .before .natural .ensures)
 
 row-within-requires : tie.Need-row-within-requires
 row-within-requires c κs =
-    let there = declared-there _ _ (c .before .before .before .before .pre .0) _ (c .before .before .before .before .pre .1) in
+    let s = c .before .before .before .before in
+    let there = declared-there _ _ (s .pre .0) _ (s .pre .1) in
     (c .dimension-of .ensures .1, omega (arith, dimension-is c), omega arith)
 
 returns-2 : tie.Need-returns-2
 returns-2 c =
-    let s = c .before .before .before .before .before .args in
-    let is = c .before .before .before .natural .ensures in
+    let after-natural = c .before .before .before in
+    let start = after-natural .before .before in
+    let s = start .args in
+    let is = after-natural .natural .ensures in
     λ d q e.
     c .row-within .ensures ∙ ap (λ n. leb (rowReach topReach (rowFields n (s .s .now) (s .at + 16))) limit) (dimension-is (c .before))
     ∙ own-passes _ _ _ d q e (sym is ∙ c .before .before .if1 .left)

@@ -14,25 +14,35 @@ declared-within-requires : tie.Need-declared-within-requires
 declared-within-requires c κs = c .before .pre .0 .prepared
 
 returns : tie.Need-returns
-returns c = reach-undeclared _ _ (c .before .before .before .pre .0) _ (c .before .before .before .pre .1) _ (c .before .declared-within .ensures) (not-true _ (c .if1 .taken))
+returns c =
+    let s = c .before .before .before in
+    reach-undeclared _ _ (s .pre .0) _ (s .pre .1) _ (c .before .declared-within .ensures) (not-true _ (c .if1 .taken))
 
 kind-of-requires : tie.Need-kind-of-requires
-kind-of-requires c κs = (c .before .before .before .pre .0 .prepared, c .before .before .before .pre .1)
+kind-of-requires c κs =
+    let s = c .before .before .before in
+    (s .pre .0 .prepared, s .pre .1)
 
 returns-2 : tie.Need-returns-2
 returns-2 c =
-    let s = c .before .before .before .before .before in
+    let after-declared-within = c .before .before .before in
+    let s = after-declared-within .before .before in
     let i = is-input _ _ (s .pre .0) _ (s .pre .1) _ (c .before .kind-of .ensures .0) (c .if2 .taken) in
-    reach-of-input _ _ (s .pre .0) _ (s .pre .1) _ (c .before .before .before .declared-within .ensures) (not-false _ (c .before .before .if1 .left)) i
+    reach-of-input _ _ (s .pre .0) _ (s .pre .1) _ (after-declared-within .declared-within .ensures) (not-false _ (c .before .before .if1 .left)) i
 
 -- it is no input
-no-input-here : (c : tie.Else2) → isInput (variable (sheetOf (c .before .before .before .before .before .args .s .now)) (c .before .before .before .before .before .args .v)) ≡ false
+no-input-here : (c : tie.Else2) →
+    isInput (variable (sheetOf (c .before .before .before .before .before .args .s .now)) (c .before .before .before .before .before .args .v))
+    ≡ false
 no-input-here c =
+    let s = c .before .before .before .before .before in
     let k = c .before .kind-of .ensures in
-    no-input _ _ (c .before .before .before .before .before .pre .0) _ (c .before .before .before .before .before .pre .1) _ (k .0) (k .1) (c .if2 .left)
+    no-input _ _ (s .pre .0) _ (s .pre .1) _ (k .0) (k .1) (c .if2 .left)
 
 body-place-requires : tie.Need-body-place-requires
-body-place-requires c κs = few _ _ (c .before .before .before .before .before .pre .0) _ (c .before .before .before .before .before .pre .1)
+body-place-requires c κs =
+    let s = c .before .before .before .before .before in
+    few _ _ (s .pre .0) _ (s .pre .1)
 
 reach-requires : tie.Need-reach-requires
 reach-requires c κs =
@@ -47,21 +57,29 @@ enum-told-2 c = search needs
 
 returns-3 : tie.Need-returns-3
 returns-3 c =
-    let s = c .before .before .before .before .before .before .before .before .before in
-    let declared = c .before .before .before .before .before .before .before .declared-within .ensures in
-    let place = c .before .before .before .body-place .ensures in
+    let after-body-place = c .before .before .before in
+    let else2 = after-body-place .before in
+    let else1 = else2 .before .before in
+    let after-declared-within = else1 .before in
+    let s = after-declared-within .before .before in
+    let declared = after-declared-within .declared-within .ensures in
+    let place = after-body-place .body-place .ensures in
     let says = c .before .before .reach .ensures in
-    let passed = not-false _ (c .before .before .before .before .before .before .if1 .left) in
-    reach-of-next _ _ (s .pre .0) _ (s .pre .1) _ declared passed (no-input-here (c .before .before .before .before)) _ place _ says _ (c .enum-told .given .1)
+    let passed = not-false _ (else1 .if1 .left) in
+    reach-of-next _ _ (s .pre .0) _ (s .pre .1) _ declared passed (no-input-here else2) _ place _ says _ (c .enum-told .given .1)
 
 returns-4 : tie.Need-returns-4
 returns-4 c =
-    let s = c .before .before .before .before .before .before .before .before .before in
-    let declared = c .before .before .before .before .before .before .before .declared-within .ensures in
-    let place = c .before .before .before .body-place .ensures in
+    let after-body-place = c .before .before .before in
+    let else2 = after-body-place .before in
+    let else1 = else2 .before .before in
+    let after-declared-within = else1 .before in
+    let s = after-declared-within .before .before in
+    let declared = after-declared-within .declared-within .ensures in
+    let place = after-body-place .body-place .ensures in
     let says = c .before .before .reach .ensures in
-    let passed = not-false _ (c .before .before .before .before .before .before .if1 .left) in
-    reach-of-beyond _ _ (s .pre .0) _ (s .pre .1) _ declared passed (no-input-here (c .before .before .before .before)) _ place _ says (c .enum-told2 .given .1)
+    let passed = not-false _ (else1 .if1 .left) in
+    reach-of-beyond _ _ (s .pre .0) _ (s .pre .1) _ declared passed (no-input-here else2) _ place _ says (c .enum-told2 .given .1)
 
 pub reach-right-spec : {M : Type 1} → statement M
 reach-right-spec =

@@ -29,13 +29,19 @@ loop-holds : tie.Need-loop-holds Inv-loop μ-loop
 loop-holds c = none-tested _ _ _
 
 reach-right-requires : tie.Need-reach-right-requires Inv-loop μ-loop
-reach-right-requires c κs = (c .before .before .before .before .pre, omega (arith, count-is (c .before .before), c .loop-test .taken))
+reach-right-requires c κs =
+    let s = c .before .before .before .before in
+    (s .pre, omega (arith, count-is (c .before .before), c .loop-test .taken))
 
 returns : tie.Need-returns Inv-loop μ-loop
 returns c =
-    let n = count-is (c .before .before .before .before) in
-    let h = c .before .before .before .before .before .before .pre in
-    one-fails _ _ _ _ (c .before .before .before .loop .inv) (omega (arith, h .many, c .before .before .loop-test .taken)) (sym (c .before .reach-right .ensures) ∙ not-true _ (c .if1 .taken))
+    let at-loop = c .before .before .before in
+    let after-variable-count = at-loop .before in
+    let s = after-variable-count .before .before in
+    let n = count-is after-variable-count in
+    let h = s .pre in
+    one-fails _ _ _ _ (at-loop .loop .inv) (omega (arith, h .many, c .before .before .loop-test .taken))
+    (sym (c .before .reach-right .ensures) ∙ not-true _ (c .if1 .taken))
 
 add-v : tie.Need-add-v Inv-loop μ-loop
 add-v c = search needs
@@ -45,14 +51,19 @@ loop-less c = search needs
 
 loop-again : tie.Need-loop-again Inv-loop μ-loop
 loop-again c =
-    let n = count-is (c .before .before .before .before) in
-    let h = c .before .before .before .before .before .before .pre in
-    one-passes _ _ _ _ (c .before .before .before .loop .inv) (omega (arith, h .many, c .before .before .loop-test .taken)) (sym (c .before .reach-right .ensures) ∙ not-false _ (c .if1 .left))
+    let at-loop = c .before .before .before in
+    let after-variable-count = at-loop .before in
+    let s = after-variable-count .before .before in
+    let n = count-is after-variable-count in
+    let h = s .pre in
+    one-passes _ _ _ _ (at-loop .loop .inv) (omega (arith, h .many, c .before .before .loop-test .taken))
+    (sym (c .before .reach-right .ensures) ∙ not-false _ (c .if1 .left))
 
 returns-2 : tie.Need-returns-2 Inv-loop μ-loop
 returns-2 c =
+    let s = c .before .before .before .before in
     let n = count-is (c .before .before) in
-    let h = c .before .before .before .before .pre in
+    let h = s .pre in
     all-pass _ _ _ _ (c .before .loop .inv) (omega (arith, h .many, c .loop-test .left))
 
 pub reaches-spec : {M : Type 1} → statement M

@@ -67,17 +67,22 @@ shape-returns-2 t c = bad-judges _ _ (tree-no-depth _ _ _ _ _ (c .if2 .taken))
 -- the first node, and the others after it
 the-first : (t : ℕ) (c : shape-lts.Else2 (shape-uses t) (shape-at t) shape.Post) →
     FirstOf (c .before .before .before .args .s .now) (c .before .before .before .args .at) (c .before .before .before .args .left)
-the-first t c = flat-first _ _ _ (c .before .if1 .left) (c .before .before .before .pre .1 .1)
+the-first t c =
+    let s = c .before .before .before in
+    flat-first _ _ _ (c .before .if1 .left) (s .pre .1 .1)
 
 shape-fits-here-requires : (t : ℕ) → shape-lts.Need-fits-here-requires (shape-uses t) (shape-at t) shape.Post
-shape-fits-here-requires t c κs = (c .before .before .before .pre .1 .0, the-first t c .noded)
+shape-fits-here-requires t c κs =
+    let s = c .before .before .before in
+    (s .pre .1 .0, the-first t c .noded)
 
 shape-returns-3 : (t : ℕ) → shape-lts.Need-returns-3 (shape-uses t) (shape-at t) shape.Post
 shape-returns-3 t c =
+    let else1 = c .before .before .before in
     let first = the-first t (c .before .before) in
     let n = first .noded in
     let here = c .before .fits-here .ensures (n .what) (n .next) (n .read) in
-    let nodes = c .before .before .before .if1 .left in
+    let nodes = else1 .if1 .left in
     let depth = c .before .before .if2 .left in
     bad-judges _ _ (tree-misfit _ _ _ _ _ nodes depth (n .what) (n .next) (n .read) (sym here ∙ not-true _ (c .if3 .taken)))
 
@@ -85,33 +90,46 @@ shape-node-len-requires : (t : ℕ) → shape-lts.Need-node-len-requires (shape-
 shape-node-len-requires t c κs = the-first t (c .before .before) .noded
 
 shape-add-next : (t : ℕ) → shape-lts.Need-add-next (shape-uses t) (shape-at t) shape.Post
-shape-add-next t c = omega (arith, the-first t (c .before .before .before) .there, c .node-len .ensures)
+shape-add-next t c =
+    let else2 = c .before .before .before in
+    omega (arith, the-first t else2 .there, c .node-len .ensures)
 
 shape-wanted-below-requires : (t : ℕ) → shape-lts.Need-wanted-below-requires (shape-uses t) (shape-at t) shape.Post
-shape-wanted-below-requires t c κs = (the-first t (c .before .before .before) .noded, c .before .before .before .before .before .before .pre .1 .3)
+shape-wanted-below-requires t c κs =
+    let else2 = c .before .before .before in
+    let s = else2 .before .before .before in
+    (the-first t else2 .noded, s .pre .1 .3)
 
 shape-children-requires : (t : ℕ) → shape-lts.Need-children-requires (shape-uses t) (shape-at t) shape.Post
-shape-children-requires t c κs = the-first t (c .before .before .before .before) .noded
+shape-children-requires t c κs =
+    let else2 = c .before .before .before .before in
+    the-first t else2 .noded
 
 shape-shape-all-requires : (t : ℕ) → shape-lts.Need-shape-all-requires (shape-uses t) (shape-at t) shape.Post
 shape-shape-all-requires t c κs =
-    let s = c .before .before .before .before .before .before .before .before in
-    let first = the-first t (c .before .before .before .before .before) in
+    let else2 = c .before .before .before .before .before in
+    let s = else2 .before .before .before in
+    let first = the-first t else2 in
     let few = noded-few _ _ _ _ (first .noded) (c .children .ensures) in
     let is = s .pre .0 in
-    let some = c .before .before .before .before .before .if2 .left in
+    let some = else2 .if2 .left in
     (omega arith, (s .pre .1 .0, rw (c .before .before .node-len .ensures) (first .rest), omega arith, c .before .wanted-below .ensures .1, few))
 
 shape-returns-4 : (t : ℕ) → shape-lts.Need-returns-4 (shape-uses t) (shape-at t) shape.Post
 shape-returns-4 t c =
-    let n = the-first t (c .before .before .before .before .before .before) .noded in
-    let here = sym (c .before .before .before .before .before .fits-here .ensures (n .what) (n .next) (n .read)) ∙ not-false _ (c .before .before .before .before .if3 .left) in
-    let long = c .before .before .before .node-len .ensures in
+    let after-node-len = c .before .before .before in
+    let else3 = after-node-len .before in
+    let after-fits-here = else3 .before in
+    let else2 = after-fits-here .before in
+    let else1 = else2 .before in
+    let n = the-first t else2 .noded in
+    let here = sym (after-fits-here .fits-here .ensures (n .what) (n .next) (n .read)) ∙ not-false _ (else3 .if3 .left) in
+    let long = after-node-len .node-len .ensures in
     let below = c .before .before .wanted-below .ensures .0 (n .what) (n .next) (n .read) in
     let many = c .before .children .ensures (n .what) (n .next) (n .read) in
     let next = node-next _ _ _ (n .what) (n .next) (n .read) in
-    let nodes = c .before .before .before .before .before .before .before .if1 .left in
-    let depth = c .before .before .before .before .before .before .if2 .left in
+    let nodes = else1 .if1 .left in
+    let depth = else2 .if2 .left in
     let all = c .shape-all .ensures in
     record {
       is = all .is ∙ rw (long, below, many, ← next) (tree-goes _ _ _ _ _ nodes depth (n .what) (n .next) (n .read) here);
@@ -137,23 +155,28 @@ shape-all-enum-told t c = search needs
 
 shape-all-returns-2 : (t : ℕ) → shape-all-lts.Need-returns-2 (shape-all-uses t) (shape-all-at t) shape-all.Post
 shape-all-returns-2 t c =
+    let else1 = c .before .before .before in
     let x = c .before .before .shape .ensures in
-    bad-judges _ _ (trees-bad _ _ _ _ _ _ (c .before .before .before .if1 .left) (sym (c .enum-told .given .1) ∙ x .is))
+    bad-judges _ _ (trees-bad _ _ _ _ _ _ (else1 .if1 .left) (sym (c .enum-told .given .1) ∙ x .is))
 
 shape-all-shape-all-requires : (t : ℕ) → shape-all-lts.Need-shape-all-requires (shape-all-uses t) (shape-all-at t) shape-all.Post
 shape-all-shape-all-requires t c κs =
-    let s = c .before .before .before .before .before .before in
+    let after-shape = c .before .before .before in
+    let else1 = after-shape .before in
+    let s = else1 .before .before in
     let is = s .pre .0 in
-    let some = c .before .before .before .before .if1 .left in
-    let x = c .before .before .before .shape .ensures in
+    let some = else1 .if1 .left in
+    let x = after-shape .shape .ensures in
     (omega arith, (s .pre .1 .0, x .flat _ _ (c .before .r .given .1), s .pre .1 .2, s .pre .1 .3, omega (arith, s .pre .1 .4)))
 
 shape-all-returns-3 : (t : ℕ) → shape-all-lts.Need-returns-3 (shape-all-uses t) (shape-all-at t) shape-all.Post
 shape-all-returns-3 t c =
-    let x = c .before .before .before .before .shape .ensures in
+    let after-shape = c .before .before .before .before in
+    let else1 = after-shape .before in
+    let x = after-shape .shape .ensures in
     let y = c .shape-all .ensures in
     record {
-      is = y .is ∙ trees-go _ _ _ _ _ _ (c .before .before .before .before .before .if1 .left) _ _ (sym (c .before .before .r .given .1) ∙ x .is);
+      is = y .is ∙ trees-go _ _ _ _ _ _ (else1 .if1 .left) _ _ (sym (c .before .before .r .given .1) ∙ x .is);
       flat = y .flat;
     }
 

@@ -65,20 +65,24 @@ count-is t c = c .variable-count .ensures ∙ still-prepared t (c .before .befor
 
 shapes-from-returns : (t : ℕ) → shapes-from-lts.Need-returns (shapes-from-uses t) (shapes-from-at t) shapes-from.Post
 shapes-from-returns t c =
-    let s = c .before .before .before .before .before .before .before in
+    let after-keep-body = c .before .before .before .before in
+    let s = after-keep-body .before .before .before in
     let n = count-is t (c .before .before) in
-    rw (c .before .before .before .before .keep-body .ensures) (ends-well _ _ _ _ _ (s .pre .1 .0 .table .sized) (few t s) (omega (arith, c .before .if1 .taken)) (c .if2 .taken))
+    rw (after-keep-body .keep-body .ensures) (ends-well _ _ _ _ _ (s .pre .1 .0 .table .sized) (few t s) (omega (arith, c .before .if1 .taken)) (c .if2 .taken))
 
 shapes-from-returns-2 : (t : ℕ) → shapes-from-lts.Need-returns-2 (shapes-from-uses t) (shapes-from-at t) shapes-from.Post
 shapes-from-returns-2 t c =
-    let s = c .before .before .before .before .before .before .before in
+    let after-keep-body = c .before .before .before .before in
+    let s = after-keep-body .before .before .before in
     let n = count-is t (c .before .before) in
-    rw (c .before .before .before .before .keep-body .ensures) (ends-left _ _ _ _ _ (s .pre .1 .0 .table .sized) (few t s) (omega (arith, c .before .if1 .taken)) (c .if2 .left))
+    rw (after-keep-body .keep-body .ensures) (ends-left _ _ _ _ _ (s .pre .1 .0 .table .sized) (few t s) (omega (arith, c .before .if1 .taken)) (c .if2 .left))
 
 shapes-from-body-requires : (t : ℕ) → shapes-from-lts.Need-body-requires (shapes-from-uses t) (shapes-from-at t) shapes-from.Post
 shapes-from-body-requires t c κs =
+    let after-keep-body = c .before .before .before .before in
+    let s = after-keep-body .before .before .before in
     let n = count-is t (c .before .before) in
-    (still-prepared t (c .before .before .before .before), omega (arith, c .before .if1 .left), c .before .before .before .before .before .before .before .pre .1 .2)
+    (still-prepared t after-keep-body, omega (arith, c .before .if1 .left), s .pre .1 .2)
 
 shapes-from-enum-known-r : (t : ℕ) → shapes-from-lts.Need-enum-known-r (shapes-from-uses t) (shapes-from-at t) shapes-from.Post
 shapes-from-enum-known-r t c = search needs
@@ -88,33 +92,47 @@ shapes-from-enum-told t c = search needs
 
 shapes-from-returns-3 : (t : ℕ) → shapes-from-lts.Need-returns-3 (shapes-from-uses t) (shapes-from-at t) shapes-from.Post
 shapes-from-returns-3 t c =
-    let s = c .before .before .before .before .before .before .before .before .before .before in
-    let n = count-is t (c .before .before .before .before .before) in
-    let known : s .args .v < varsOf (s .args .s .now) = omega (arith, c .before .before .before .before .if1 .left) in
+    let else1 = c .before .before .before .before in
+    let after-variable-count = else1 .before in
+    let after-keep-body = after-variable-count .before .before in
+    let s = after-keep-body .before .before .before in
+    let n = count-is t after-variable-count in
+    let known : s .args .v < varsOf (s .args .s .now) = omega (arith, else1 .if1 .left) in
     let r = c .before .before .body .ensures in
-    rw (c .before .before .before .before .before .before .before .keep-body .ensures) (ends-bad _ _ _ _ _ (s .pre .1 .0 .table .sized) (few t s) known (sym (c .enum-told .given .1) ∙ r .is))
+    rw (after-keep-body .keep-body .ensures) (ends-bad _ _ _ _ _ (s .pre .1 .0 .table .sized) (few t s) known (sym (c .enum-told .given .1) ∙ r .is))
 
 shapes-from-add-shapes-from : (t : ℕ) → shapes-from-lts.Need-add-shapes-from (shapes-from-uses t) (shapes-from-at t) shapes-from.Post
-shapes-from-add-shapes-from t c = omega (arith, few t (c .before .before .before .before .before .before .before .before .before .before .before .before))
+shapes-from-add-shapes-from t c =
+    let s = c .before .before .before .before .before .before .before .before .before .before .before .before in
+    omega (arith, few t s)
 
 shapes-from-shapes-from-requires : (t : ℕ) → shapes-from-lts.Need-shapes-from-requires (shapes-from-uses t) (shapes-from-at t) shapes-from.Post
 shapes-from-shapes-from-requires t c κs =
-    let s = c .before .before .before .before .before .before .before .before .before .before .before .before in
+    let after-body = c .before .before .before .before in
+    let else1 = after-body .before .before in
+    let after-variable-count = else1 .before in
+    let after-keep-body = after-variable-count .before .before in
+    let s = after-keep-body .before .before .before in
     let is = s .pre .0 in
     let f = few t s in
-    let n = count-is t (c .before .before .before .before .before .before .before) in
-    let known : s .args .v < varsOf (s .args .s .now) = omega (arith, c .before .before .before .before .before .before .if1 .left) in
-    let r = c .before .before .before .before .body .ensures in
-    (omega arith, (still-prepared t (c .before .before .before .before .before .before .before .before .before), omega arith, r .flat _ _ (c .before .before .r .given .1)))
+    let n = count-is t after-variable-count in
+    let known : s .args .v < varsOf (s .args .s .now) = omega (arith, else1 .if1 .left) in
+    let r = after-body .body .ensures in
+    (omega arith, (still-prepared t after-keep-body, omega arith, r .flat _ _ (c .before .before .r .given .1)))
 
 shapes-from-returns-4 : (t : ℕ) → shapes-from-lts.Need-returns-4 (shapes-from-uses t) (shapes-from-at t) shapes-from.Post
 shapes-from-returns-4 t c =
-    let s = c .before .before .before .before .before .before .before .before .before .before .before .before .before in
-    let n = count-is t (c .before .before .before .before .before .before .before .before) in
-    let known : s .args .v < varsOf (s .args .s .now) = omega (arith, c .before .before .before .before .before .before .before .if1 .left) in
-    let r = c .before .before .before .before .before .body .ensures in
-    goes-on _ _ _ _ _ (s .pre .1 .0 .table .sized) (few t s) known _ _ (sym (c .before .before .before .r .given .1) ∙ r .is) _ _
-    (rw (c .before .before .before .before .before .before .before .before .before .before .keep-body .ensures) at (c .shapes-from .ensures))
+    let after-r = c .before .before .before in
+    let after-body = after-r .before .before in
+    let else1 = after-body .before .before in
+    let after-variable-count = else1 .before in
+    let after-keep-body = after-variable-count .before .before in
+    let s = after-keep-body .before .before .before in
+    let n = count-is t after-variable-count in
+    let known : s .args .v < varsOf (s .args .s .now) = omega (arith, else1 .if1 .left) in
+    let r = after-body .body .ensures in
+    goes-on _ _ _ _ _ (s .pre .1 .0 .table .sized) (few t s) known _ _ (sym (after-r .r .given .1) ∙ r .is) _ _
+    (rw (after-keep-body .keep-body .ensures) at (c .shapes-from .ensures))
 
 pub +shapes-from-spec : {M : Type 1} → statement M
 +shapes-from-spec = close μ-shapes-from λ t. shapes-from-lts.spec (shapes-from-uses t) (shapes-from-at t)

@@ -11,18 +11,26 @@ kind-of-requires : tie.Need-kind-of-requires
 kind-of-requires c κs = (c .before .pre .0, c .before .pre .1)
 
 returns : tie.Need-returns
-returns c = fits-judges _ _ _ _ (body-input _ _ _ _ _ (c .before .kind-of .ensures .0) (c .if1 .taken)) (c .before .before .before .pre .2)
+returns c =
+    let s = c .before .before .before in
+    fits-judges _ _ _ _ (body-input _ _ _ _ _ (c .before .kind-of .ensures .0) (c .if1 .taken)) (s .pre .2)
 
 dimension-of-requires : tie.Need-dimension-of-requires
-dimension-of-requires c κs = (c .before .before .before .pre .0, c .before .before .before .pre .1)
+dimension-of-requires c κs =
+    let s = c .before .before .before in
+    (s .pre .0, s .pre .1)
 
 shape-requires : tie.Need-shape-requires
-shape-requires c κs = (c .before .before .before .before .pre .0, c .before .before .before .before .pre .2, omega arith, c .dimension-of .ensures .1)
+shape-requires c κs =
+    let s = c .before .before .before .before in
+    (s .pre .0, s .pre .2, omega arith, c .dimension-of .ensures .1)
 
 returns-2 : tie.Need-returns-2
 returns-2 c =
-    let s = c .before .before .before .before .before .args in
-    let k = c .before .before .before .kind-of .ensures in
+    let after-kind-of = c .before .before .before in
+    let start = after-kind-of .before .before in
+    let s = start .args in
+    let k = after-kind-of .kind-of .ensures in
     let r = c .shape .ensures in
     record {
       is =

@@ -13,7 +13,8 @@ third-place-requires c κs = search needs
 
 add-first : tie.Need-add-first
 add-first c =
-    let h = c .before .before .before .pre in
+    let start = c .before .before .before in
+    let h = start .pre in
     let s = prepared-sections _ _ h in
     omega (arith, s .first-there, s .first-is, c .third-place .ensures, h .table .third)
 
@@ -22,14 +23,18 @@ node-count-requires c κs = search needs
 
 shapes-from-requires : tie.Need-shapes-from-requires
 shapes-from-requires c κs =
-    let h = c .before .before .before .before .before .before .pre in
-    let first = ap (λ x. x + 8) (c .before .before .before .third-place .ensures) in
+    let after-third-place = c .before .before .before in
+    let s = after-third-place .before .before .before in
+    let h = s .pre in
+    let first = ap (λ x. x + 8) (after-third-place .third-place .ensures) in
     (h, omega arith, all-flat _ _ h _ _ first (c .before .node-count .ensures))
 
 returns : tie.Need-returns
 returns c =
-    let first = ap (λ x. x + 8) (c .before .before .before .before .third-place .ensures) in
-    all-shaped _ _ (c .before .before .before .before .before .before .before .pre) _ _ first (c .before .before .node-count .ensures) _ _ (c .shapes-from .ensures)
+    let after-third-place = c .before .before .before .before in
+    let s = after-third-place .before .before .before in
+    let first = ap (λ x. x + 8) (after-third-place .third-place .ensures) in
+    all-shaped _ _ (s .pre) _ _ first (c .before .before .node-count .ensures) _ _ (c .shapes-from .ensures)
 
 pub shapes-spec : {M : Type 1} → statement M
 shapes-spec =

@@ -18,7 +18,8 @@ abbrev μ-loop : tie.MeasureT-loop
 
 -- the first of the trees that are left
 first : (c : tie.In-loop Inv-loop μ-loop) →
-    Standing (varsOf (c .before .before .before .args .s .now)) (c .before .before .before .args .s .now) (c .before .loop .p) (c .before .before .before .args .left)
+    Standing (varsOf (c .before .before .before .args .s .now)) (c .before .before .before .args .s .now) (c .before .loop .p)
+    (c .before .before .before .args .left)
 first c = first-standing _ _ _ _ _ (c .loop-test .taken) (c .before .loop .inv .0)
 
 loop-holds : tie.Need-loop-holds Inv-loop μ-loop
@@ -52,7 +53,8 @@ loop-less c =
 loop-again : tie.Need-loop-again Inv-loop μ-loop
 loop-again c =
     let here = c .before .before in
-    let loop = here .before .loop in
+    let at-loop = here .before in
+    let loop = at-loop .loop in
     let some = here .loop-test .taken in
     let long = c .node-len .ensures in
     let many = c .before .children .ensures in

@@ -13,16 +13,21 @@ kind-of-requires : tie.Need-kind-of-requires
 kind-of-requires c κs = (c .before .pre .0 .prepared, c .before .pre .1)
 
 returns : tie.Need-returns
-returns c = type-of-input _ _ (c .before .before .before .pre .0) _ (c .before .before .before .pre .1) _ (c .before .kind-of .ensures .0) (c .if1 .taken)
+returns c =
+    let s = c .before .before .before in
+    type-of-input _ _ (s .pre .0) _ (s .pre .1) _ (c .before .kind-of .ensures .0) (c .if1 .taken)
 
 -- it is no input
 no-input-here : (c : tie.Else1) → isInput (variable (sheetOf (c .before .before .before .args .s .now)) (c .before .before .before .args .v)) ≡ false
 no-input-here c =
+    let s = c .before .before .before in
     let k = c .before .kind-of .ensures in
-    no-input _ _ (c .before .before .before .pre .0) _ (c .before .before .before .pre .1) _ (k .0) (k .1) (c .if1 .left)
+    no-input _ _ (s .pre .0) _ (s .pre .1) _ (k .0) (k .1) (c .if1 .left)
 
 body-place-requires : tie.Need-body-place-requires
-body-place-requires c κs = few _ _ (c .before .before .before .pre .0) _ (c .before .before .before .pre .1)
+body-place-requires c κs =
+    let s = c .before .before .before in
+    few _ _ (s .pre .0) _ (s .pre .1)
 
 type-of-requires : tie.Need-type-of-requires
 type-of-requires c κs =
@@ -33,39 +38,51 @@ enum-told : tie.Need-enum-told
 enum-told c = search needs
 
 sort-of-requires : tie.Need-sort-of-requires
-sort-of-requires c κs = (c .before .before .before .before .before .before .before .pre .0 .prepared, c .before .before .before .before .before .before .before .pre .1)
+sort-of-requires c κs =
+    let s = c .before .before .before .before .before .before .before in
+    (s .pre .0 .prepared, s .pre .1)
 
 enum-told-2 : tie.Need-enum-told-2
 enum-told-2 c = search needs
 
 sort-of-requires-2 : tie.Need-sort-of-requires-2
-sort-of-requires-2 c κs = (c .before .before .before .before .before .before .before .pre .0 .prepared, c .before .before .before .before .before .before .before .pre .1)
+sort-of-requires-2 c κs =
+    let s = c .before .before .before .before .before .before .before in
+    (s .pre .0 .prepared, s .pre .1)
 
 enum-told-3 : tie.Need-enum-told-3
 enum-told-3 c = search needs
 
 returns-2 : tie.Need-returns-2
 returns-2 c =
-    let s = c .before .before .before .before .before .before .before .before in
+    let after-type-of = c .before .before .before in
+    let after-body-place = after-type-of .before in
+    let else1 = after-body-place .before in
+    let s = else1 .before .before .before in
     let k = c .sort-of .ensures in
-    let place = c .before .before .before .before .body-place .ensures in
-    let says = c .before .before .before .type-of .ensures in
-    type-of-integer _ _ (s .pre .0) _ (s .pre .1) (no-input-here (c .before .before .before .before .before)) _ place _ says _ (c .before .enum-told .given .1) _ (k .0) (k .1)
+    let place = after-body-place .body-place .ensures in
+    let says = after-type-of .type-of .ensures in
+    type-of-integer _ _ (s .pre .0) _ (s .pre .1) (no-input-here else1) _ place _ says _ (c .before .enum-told .given .1) _ (k .0) (k .1)
 
 returns-3 : tie.Need-returns-3
 returns-3 c =
-    let s = c .before .before .before .before .before .before .before .before in
+    let after-type-of = c .before .before .before in
+    let after-body-place = after-type-of .before in
+    let else1 = after-body-place .before in
+    let s = else1 .before .before .before in
     let k = c .sort-of2 .ensures in
-    let place = c .before .before .before .before .body-place .ensures in
-    let says = c .before .before .before .type-of .ensures in
-    type-of-boolean _ _ (s .pre .0) _ (s .pre .1) (no-input-here (c .before .before .before .before .before)) _ place _ says _ (c .before .enum-told2 .given .1) _ (k .0) (k .1)
+    let place = after-body-place .body-place .ensures in
+    let says = after-type-of .type-of .ensures in
+    type-of-boolean _ _ (s .pre .0) _ (s .pre .1) (no-input-here else1) _ place _ says _ (c .before .enum-told2 .given .1) _ (k .0) (k .1)
 
 returns-4 : tie.Need-returns-4
 returns-4 c =
-    let s = c .before .before .before .before .before .before .before in
-    let place = c .before .before .before .body-place .ensures in
+    let after-body-place = c .before .before .before in
+    let else1 = after-body-place .before in
+    let s = else1 .before .before .before in
+    let place = after-body-place .body-place .ensures in
     let says = c .before .before .type-of .ensures in
-    type-of-none _ _ (s .pre .0) _ (s .pre .1) (no-input-here (c .before .before .before .before)) _ place _ says (c .enum-told3 .given .1)
+    type-of-none _ _ (s .pre .0) _ (s .pre .1) (no-input-here else1) _ place _ says (c .enum-told3 .given .1)
 
 pub type-right-spec : {M : Type 1} → statement M
 type-right-spec =

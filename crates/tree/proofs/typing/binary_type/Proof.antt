@@ -16,7 +16,9 @@ any-boolean-requires : tie.Need-any-boolean-requires
 any-boolean-requires c κs = search needs
 
 returns-2 : tie.Need-returns-2
-returns-2 c = λ o q h. c .any-boolean .ensures ∙ any-at _ o q h (binary-any _ (c .before .before .before .pre) o (c .before .before .if1 .left) (c .before .if2 .taken))
+returns-2 c =
+    let s = c .before .before .before in
+    λ o q h. c .any-boolean .ensures ∙ any-at _ o q h (binary-any _ (s .pre) o (c .before .before .if1 .left) (c .before .if2 .taken))
 
 as-integer-requires-2 : tie.Need-as-integer-requires-2
 as-integer-requires-2 c κs = search needs
@@ -26,15 +28,19 @@ any-boolean-requires-2 c κs = search needs
 
 returns-3 : tie.Need-returns-3
 returns-3 c =
+    let else2 = c .before .before .before in
+    let s = else2 .before .before in
     λ o q h.
     c .any-boolean2 .ensures ∙ ap anyBoolean (c .before .as-integer2 .ensures)
-    ∙ order-at _ o q h (binary-order _ (c .before .before .before .before .before .pre) o (c .before .before .before .if2 .left) (c .before .before .if3 .taken))
+    ∙ order-at _ o q h (binary-order _ (s .pre) o (else2 .if2 .left) (c .before .before .if3 .taken))
 
 as-boolean-requires : tie.Need-as-boolean-requires
 as-boolean-requires c κs = search needs
 
 returns-4 : tie.Need-returns-4
-returns-4 c = λ o q h. c .as-boolean .ensures ∙ booleans-at _ o q h (binary-boolean _ (c .before .before .before .before .pre) o (c .before .if3 .left))
+returns-4 c =
+    let s = c .before .before .before .before in
+    λ o q h. c .as-boolean .ensures ∙ booleans-at _ o q h (binary-boolean _ (s .pre) o (c .before .if3 .left))
 
 pub binary-type-spec : {M : Type 1} → statement M
 binary-type-spec =

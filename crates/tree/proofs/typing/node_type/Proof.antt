@@ -16,13 +16,15 @@ natural-requires c κs = code-there _ _ _ (c .before .pre)
 
 unary-there : (c : tie.Then1) → c .before .before .before .args .at + 16 ≤ length (c .before .before .before .args .s .now)
 unary-there c =
+    let s = c .before .before .before in
     let code = sym (c .before .natural .ensures) ∙ c .if1 .taken in
-    second-there _ _ _ (c .before .before .before .pre) (λ e. omega arith)
+    second-there _ _ _ (s .pre) (λ e. omega arith)
 
 binary-there : (c : tie.Then2) → c .before .before .before .before .args .at + 16 ≤ length (c .before .before .before .before .args .s .now)
 binary-there c =
+    let s = c .before .before .before .before in
     let code = sym (c .before .before .natural .ensures) ∙ c .if2 .taken in
-    second-there _ _ _ (c .before .before .before .before .pre) (λ e. omega arith)
+    second-there _ _ _ (s .pre) (λ e. omega arith)
 
 add-natural : tie.Need-add-natural
 add-natural c = omega (arith, unary-there c)
@@ -32,12 +34,14 @@ natural-requires-2 c κs = omega (arith, unary-there c)
 
 unary-type-requires : tie.Need-unary-type-requires
 unary-type-requires c κs =
+    let s = c .before .before .before .before in
     let code = sym (c .before .before .natural .ensures) ∙ c .before .if1 .taken in
-    omega (arith, unary-known _ _ _ (c .before .before .before .before .pre) code, c .natural2 .ensures)
+    omega (arith, unary-known _ _ _ (s .pre) code, c .natural2 .ensures)
 
 returns : tie.Need-returns
 returns c =
-    let code = sym (c .before .before .before .natural .ensures) ∙ c .before .before .if1 .taken in
+    let after-natural = c .before .before .before in
+    let code = sym (after-natural .natural .ensures) ∙ c .before .before .if1 .taken in
     λ nd p read o q h.
     c .unary-type .ensures o q h ∙ ap (λ x. typedAt (unarySort (unaryOf x) o) q) (c .before .natural2 .ensures)
     ∙ ap (λ x. typedAt x q) (unary-by _ _ _ nd p read code o)
@@ -50,12 +54,15 @@ natural-requires-3 c κs = omega (arith, binary-there c)
 
 binary-type-requires : tie.Need-binary-type-requires
 binary-type-requires c κs =
-    let code = sym (c .before .before .before .natural .ensures) ∙ c .before .if2 .taken in
-    omega (arith, binary-known _ _ _ (c .before .before .before .before .before .pre) code, c .natural3 .ensures)
+    let after-natural = c .before .before .before in
+    let s = after-natural .before .before in
+    let code = sym (after-natural .natural .ensures) ∙ c .before .if2 .taken in
+    omega (arith, binary-known _ _ _ (s .pre) code, c .natural3 .ensures)
 
 returns-2 : tie.Need-returns-2
 returns-2 c =
-    let code = sym (c .before .before .before .before .natural .ensures) ∙ c .before .before .if2 .taken in
+    let after-natural = c .before .before .before .before in
+    let code = sym (after-natural .natural .ensures) ∙ c .before .before .if2 .taken in
     λ nd p read o q h.
     c .binary-type .ensures o q h ∙ ap (λ x. typedAt (binarySort (binaryOf x) o) q) (c .before .natural3 .ensures)
     ∙ ap (λ x. typedAt x q) (binary-by _ _ _ nd p read code o)

@@ -14,12 +14,14 @@ sort-of-requires c κs = search needs
 
 returns : tie.Need-returns
 returns c =
-    let n = c .before .before .before .args .next in
+    let s = c .before .before .before in
+    let n = s .args .next in
     sym (ap (λ x. typedAt (some x) n) (c .before .sort-of .ensures .0 ∙ ap sortOf (c .if1 .taken)))
 
 returns-2 : tie.Need-returns-2
 returns-2 c =
-    let n = c .before .before .before .args .next in
+    let start = c .before .before .before in
+    let n = start .args .next in
     let s = c .before .sort-of .ensures in
     let one : c .before .sort-of .result ≡ 1 = omega (arith, pos-of-ne-zero (c .if1 .left)) in
     sym (ap (λ x. typedAt (some x) n) (s .0 ∙ ap sortOf one))

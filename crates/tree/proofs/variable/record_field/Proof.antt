@@ -19,7 +19,8 @@ natural-requires c κs = omega (arith, prepared-record _ _ (c .before .before .p
 
 returns : tie.Need-returns
 returns c =
-    let s = c .before .before .before .args in
+    let start = c .before .before .before in
+    let s = start .args in
     c .natural .ensures ∙ ap (λ r. natAbs (field (s .s .now) (r + s .offset))) (c .before .record-place .ensures)
 
 pub record-field-spec : {M : Type 1} → statement M
