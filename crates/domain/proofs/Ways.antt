@@ -20,6 +20,7 @@ use Rattle.alpha.specs.Holds.{holds, clashes}
 use Rattle.alpha.specs.Written.{branchCount}
 use Rattle.laws.specs.At.{codeNumber, lengthOf, nodeLen, At, AllAt}
 use Rattle.laws.specs.Children.{childrenOf, arity}
+use Rattle.tree.proofs.Noding.{arity-one-is}
 use Rattle.laws.specs.Sheets.{headsOf, varsOf, sheetOf}
 use Rattle.laws.proofs.Tests.{&&-left, &&-right}
 use Rattle.laws.proofs.Readers.{counted-is}
@@ -212,3 +213,18 @@ module _ (bs : List ℕ) (p count : ℕ) (z : List Int) (branches : Bool) (sofar
     where
       parts : (x : MoreAt es (varsOf bs) bs p q (count - 1)) → fits (x .first) (headsOf bs) n && allFit (x .rest) (headsOf bs) n ≡ true
       parts x = unfold fits in rw (x .is) at f
+
+-- ---- a unary operator
+
+-- has one child
+pub unary-one : (bs : List ℕ) (p : ℕ) → natAbs (field bs p) ≡ 3 → (nd : Node) (q : ℕ) → node (varsOf bs) bs p ≡ got nd q → 1 ≡ arity nd
+unary-one bs p code nd q read =
+    arity-one-is (varsOf bs) bs p nd q read (omega arith) (λ e. absurd (omega arith)) (λ e. absurd (omega arith)) (λ e. absurd (omega arith))
+
+-- and stands as it does
+pub unary-way : (bs : List ℕ) (p k : ℕ) (z : List Int) → k ≡ nodeLen bs p → natAbs (field bs p) ≡ 3 →
+    (r : Stood) → StandsAt bs (p + k) z r → StandsAt bs p z r
+unary-way bs p k z long code r t =
+    let none = none-way bs (r .next) 0 z false (joined false Holds (r .how)) (omega arith) in
+    let one = more-way bs (p + k) 1 z false Holds (omega arith) r r t none in
+    children-way bs p k z long 1 3 (unary-one bs p code) (sym code) (omega arith) (omega arith) Holds r refl one

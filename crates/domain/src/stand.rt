@@ -17,6 +17,15 @@ ghost use Rattle.domain.specs.Inside.{Inside};
 ghost use Rattle.domain.specs.Walk.{Walk, WalkAll};
 ghost use Rattle.domain.specs.Standing.{StandsAt, StandTogether};
 
+// A result handed on by its parts, which the compiler keeps in registers.
+fn handed(r: Stood) -> Stood
+    ensures { λ t. ⌜ t ≡ r ⌝ }
+{
+    let how = r.how;
+    let next = r.next;
+    Stood { how, next }
+}
+
 // How the tree at `at`, of at most `left` nodes, stands at z. A restriction that does not hold there is passed over.
 pub fn stand(
     s: &[u8],
@@ -36,6 +45,9 @@ pub fn stand(
         return Stood { how, next: end };
     }
     let next = at + node_len(s, at);
+    if code == 3 {
+        return handed(child(s, tab, inside, next, left - 1, z));
+    }
     if code < 7 {
         let branches = code == 6;
         return stand_all(
@@ -52,16 +64,10 @@ pub fn stand(
     }
     if code == 8 {
         let y = affine::image_at(s, at + 8, z);
-        let below = child(s, tab, inside, next, left - 1, y);
-        let how = below.how;
-        let end = below.next;
-        return Stood { how, next: end };
+        return handed(child(s, tab, inside, next, left - 1, y));
     }
     if restriction_meets(s, at, z) {
-        let below = child(s, tab, inside, next, left - 1, z);
-        let how = below.how;
-        let end = below.next;
-        Stood { how, next: end }
+        handed(child(s, tab, inside, next, left - 1, z))
     } else {
         Stood {
             how: Standing::Not,
@@ -87,10 +93,7 @@ fn child(
         let end = at + 16;
         return Stood { how, next: end };
     }
-    let inner = stand(s, tab, inside, at, left, z);
-    let how = inner.how;
-    let end = inner.next;
-    Stood { how, next: end }
+    handed(stand(s, tab, inside, at, left, z))
 }
 
 // How `count` trees, the branches of a case or operands, stand together at z, after others that stand as `sofar`.
