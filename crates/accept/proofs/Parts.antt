@@ -1,6 +1,6 @@
 -- Where a variable's body stands. Assumes nothing.
 use mathlib.Core.Path.{_≡_, refl, sym, ap, _∙_}
-use Prim.Native.Nat.{ℕ, zero, suc, _+_, _-_, _≤_, _<_}
+use Prim.Native.Nat.{ℕ, _+_, _-_, _≤_, _<_}
 use native.Mathlib.Omega.{arith}
 use mathlib.Core.Bool.{false}
 use mathlib.Core.List.{List}
@@ -21,15 +21,9 @@ use Rattle.alpha.specs.declared.Verdict.the-variants.{Refused}
 use Rattle.laws.specs.Sheets.{headsOf, varsOf, sheetOf}
 use Rattle.laws.proofs.Shapes.{at-long, at-there}
 use Rattle.tree.specs.Formed.{Formed}
-use Rattle.tree.proofs.Passing.{input-is}
+use Rattle.tree.proofs.Passing.{input-is, other-is}
 use Rattle.accept.specs.declared.Part.{Part}
 use Rattle.accept.specs.Shown.{IsPart}
-
-other-kind : (k : ℕ) → (k ≡ 0 → ⊥) → k ≤ 2 → isInputKind (kindOf k) ≡ false
-other-kind zero n h = absurd (n refl)
-other-kind (suc zero) n h = refl
-other-kind (suc (suc zero)) n h = refl
-other-kind (suc (suc (suc k))) n h = absurd (omega arith)
 
 module _ (bs tab : List ℕ) (f : Formed bs tab) (v : ℕ) where
   pub unknown-part : varsOf bs ≤ v → partOf (sheetOf bs) v ≡ noPart
@@ -46,7 +40,7 @@ module _ (bs tab : List ℕ) (f : Formed bs tab) (v : ℕ) where
 
     module _ (n : k ≡ 0 → ⊥) (few : k ≤ 2) where
       no-input : isInput (variable (sheetOf bs) v) ≡ false
-      no-input = kind-is ∙ other-kind k n few
+      no-input = kind-is ∙ other-is k few n
 
       ordered : variable (sheetOf bs) v .start ≤ variable (sheetOf bs) v .end
       ordered =

@@ -48,10 +48,6 @@ pub near-more : {r s : ℕ} (z : Sheet.Point) → r ≤ s → Near r z → Near 
 near-more [] l h = tt
 near-more (x ∷ z) l h = (le-trans (h .0) l, near-more z l (h .1))
 
-pub mapReach-one : (r : ℕ) (ws : List Sheet.Row) → 1 ≤ mapReach r ws
-mapReach-one r [] = omega arith
-mapReach-one r (w ∷ ws) = let h = mapReach-one r ws in omega arith
-
 pub image-near : (r : ℕ) (ws : List Sheet.Row) (z : Sheet.Point) → Near r z → Near (mapReach r ws) (image ws z)
 image-near r [] z h = tt
 image-near r (w ∷ ws) z h =

@@ -6,8 +6,7 @@ use native.Mathlib.Nat.{suc-mul}
 use mathlib.Core.Bool.{Bool, true, false, _&&_}
 use mathlib.Core.List.{List, [], _∷_}
 use lib.ListN.{length, getD}
-use lib.IntN.{ℤ, pos, natAbs}
-use lib.Seq.{ext-getD}
+use lib.IntN.{natAbs}
 use lib.Dec.{leb, eqb}
 use borrow.Author.Tests.{leb-true, eqb-true}
 use Rattle.alpha.specs.declared.Int.{Int}
@@ -22,36 +21,27 @@ use Rattle.laws.specs.At.{nodeLen}
 use Rattle.laws.specs.Sheets.{headsOf, varsOf}
 use Rattle.laws.proofs.Tests.{&&-left, &&-right}
 use Rattle.laws.proofs.Readers.{counted-is}
-use Rattle.laws.proofs.Rows.{RowAt, ConstraintAt}
+use Rattle.laws.proofs.Rows.{ConstraintAt}
 use Rattle.laws.proofs.Nodes.{Restricts, restr-constraint}
 use Rattle.laws.proofs.Shapes.{RestrAt, at-restr}
 use Rattle.affine.specs.declared.Row.{Row as Coded}
-use Rattle.affine.specs.Value.{several, pointOf, rowOf, NeatRow}
+use Rattle.affine.specs.Value.{pointOf, rowOf, NeatRow}
 use Rattle.affine.specs.Size.{Near, rowSize}
-use Rattle.affine.specs.Reading.{rowFields}
-use Rattle.affine.proofs.Meaning.{row-same}
-use Rattle.affine.proofs.Several.{length-several, getD-several, rowSize-neat}
+use Rattle.affine.proofs.Several.{rowSize-neat}
 use Rattle.affine.proofs.Bounds.{rowSize-near}
 use Rattle.tree.specs.Standing.{Wide}
+use Rattle.tree.proofs.Reaching.{row-fields}
 use Rattle.domain.specs.Walk.{Walk}
 use Rattle.domain.specs.Constraints.{constraintFields, constraintsFields, Testable, AllTestable, RestrictionTestable}
 use Rattle.domain.proofs.Walks.{code-field}
 
 -- ---- what the fields say
 
-row-is : (n : ℕ) (bs : List ℕ) (p : ℕ) (w : Row) → RowAt n bs p w → w ≡ rowFields n bs p
-row-is n bs p w h =
-    row-same (ext-getD (pos 0) (w .coefs) (several n (λ i. field bs (p + 8 * i))) (h .width ∙ sym (length-several n (λ i. field bs (p + 8 * i))))
-    each) (h .constant)
-  where
-    each : (i : ℕ) → i < length (w .coefs) → getD (w .coefs) i (pos 0) ≡ getD (several n (λ i. field bs (p + 8 * i))) i (pos 0)
-    each i lt = let l : i < n = omega (arith, h .width) in h .coef i l ∙ sym (getD-several n (λ i. field bs (p + 8 * i)) (pos 0) i l)
-
 pub constraint-same : {r t : Relation} {w y : Row} → r ≡ t → w ≡ y → _≡_ {A = Constraint} (record { rel = r; row = w }) (record { rel = t; row = y })
 constraint-same e f = cc
 
 pub constraint-is : (n : ℕ) (bs : List ℕ) (p : ℕ) (c : Constraint) → ConstraintAt n bs p c → c ≡ constraintFields n bs p
-constraint-is n bs p c h = constraint-same (h .relation .is) (row-is n bs (p + 8) (c .row) (h .stands))
+constraint-is n bs p c h = constraint-same (h .relation .is) (row-fields n bs (p + 8) (c .row) (h .stands))
 
 -- a constraint within reach can be tested
 pub constraint-testable : (n : ℕ) (bs : List ℕ) (p : ℕ) (c : Constraint) → ConstraintAt n bs p c → n ≤ 4 →
@@ -60,7 +50,7 @@ constraint-testable n bs p c h few bound z near k = record {
   few = few;
   there = h .there;
   relation = h .relation .high;
-  small = subst (λ w. rowSize w z < 2 ^ 63) (row-is n bs (p + 8) (c .row) (h .stands)) (omega (arith, rowSize-near bound (c .row) z near));
+  small = subst (λ w. rowSize w z < 2 ^ 63) (row-fields n bs (p + 8) (c .row) (h .stands)) (omega (arith, rowSize-near bound (c .row) z near));
 }
 
 -- a row of n coefficients that is w, with zeros beyond

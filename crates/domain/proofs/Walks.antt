@@ -24,13 +24,14 @@ use Rattle.laws.specs.Sheets.{headsOf, varsOf}
 use Rattle.laws.proofs.Tests.{&&-left, &&-right}
 use Rattle.laws.proofs.Shapes.{code-high, at-code, at-dep, at-restr, DepAt, RestrAt, MoreAt}
 use Rattle.laws.proofs.Children.{children-count, fits-children, reach-children}
+use Rattle.laws.proofs.NormalReach.{mapReach-pos}
 use Rattle.affine.specs.declared.Map.{Map}
 use Rattle.affine.specs.Value.{pointOf, mapOf, Padded}
 use Rattle.affine.specs.Size.{Near, Fit}
 use Rattle.affine.specs.Reading.{MapRead, MapThere}
 use Rattle.affine.proofs.Meaning.{height-length, width-cols}
 use Rattle.affine.proofs.Fetched.{map-there}
-use Rattle.affine.proofs.Bounds.{image-near, mapReach-one, map-fits}
+use Rattle.affine.proofs.Bounds.{image-near, map-fits}
 use Rattle.tree.specs.Standing.{Standing, StandingAll}
 use Rattle.tree.proofs.Standings.{children-at, children-counted, one-more}
 use Rattle.domain.specs.Walk.{Ends, Bounded, Walk, WalkAll}
@@ -153,7 +154,7 @@ module _ (bs : List ℕ) where
           point = record {
             padded = rest;
             near = rw (is, rows-are, dims-are) (image-near (h .bound) (below .by .rows) (pointOf (h .dims) z) (h .point .near));
-            low = mapReach-one (h .bound) (below .by .rows);
+            low = mapReach-pos (h .bound) (below .by .rows);
             high = within-limit;
           };
         }

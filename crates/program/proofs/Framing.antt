@@ -27,7 +27,8 @@ framedAt bs n = framed (take n (drop 8 bs)) (drop (8 + n) bs)
 -- by the tests: a length is there, it is not too large, and not negative or past the end
 abbrev pub picked : List ℕ → Bool → Bool → Bool → Bool → Answer (List ℕ)
 picked bs there small positive within =
-    ifb there (λ _. ifb small (λ _. ifb (positive && within) (λ _. framedAt bs (natAbs (field bs 0))) (λ _. refused CUT 0)) (λ _. refused LONG 0)) (λ _. refused CUT 0)
+    ifb there (λ _. ifb small (λ _. ifb (positive && within) (λ _. framedAt bs (natAbs (field bs 0))) (λ _. refused CUT 0)) (λ _. refused LONG 0))
+    (λ _. refused CUT 0)
 
 pub answered-picked : (bs : List ℕ) →
     answered bs ≡ picked bs (room bs 0) (leZ (field bs 0) (pos 65536)) (nonNeg (field bs 0)) (leb (8 + natAbs (field bs 0)) (length bs))

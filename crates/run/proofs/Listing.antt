@@ -75,16 +75,7 @@ count-total (x ∷ s) = go (isInput x) (count-total s)
     go true e = omega (arith, e)
     go false e = omega (arith, e)
 
--- ---- an input by its kind's number, and its entries by its type's
-
-pub input-kind : (k : ℕ) → k ≡ 0 → isInputKind (kindOf k) ≡ true
-input-kind k e = rw e refl
-
-pub other-kind : (k : ℕ) → k ≤ 2 → (k ≡ 0 → ⊥) → isInputKind (kindOf k) ≡ false
-other-kind zero h n = absurd (n refl)
-other-kind (suc zero) h n = refl
-other-kind (suc (suc zero)) h n = refl
-other-kind (suc (suc (suc k))) h n = absurd (omega arith)
+-- ---- an input's entries by its type's number
 
 pub integer-sort : (t : ℕ) → t ≡ 0 → sortOf t ≡ integer
 integer-sort t e = rw e refl

@@ -232,10 +232,8 @@ module _ (s : Sheet) (v a b : ℕ) (first : a ≡ before s v) (last : b ≡ befo
     shows = λ ins R m h. split m h
         (λ l. let old = F .shows ins R m (omega (arith, first)) in
         record {
-          code =
-              put-before a wide codes′ part 0 long in-codes m l ∙ old .code;
-          value = put-before a wide values′ number (pos 0) tall in-values m l
-              ∙ old .value;
+          code = put-before a wide codes′ part 0 long in-codes m l ∙ old .code;
+          value = put-before a wide values′ number (pos 0) tall in-values m l ∙ old .value;
         })
         (λ j is l.
         let new = P .shows ins (A .right ins R) j (omega (arith, first, last)) in

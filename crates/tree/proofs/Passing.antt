@@ -65,7 +65,7 @@ module _ (code : ℕ) (test : Variable → Bool) (s : Sheet) where
 pub input-is : (k : ℕ) → k ≡ 0 → isInputKind (kindOf k) ≡ true
 input-is k e = rw e
 
-other-is : (k : ℕ) → k ≤ 2 → (k ≡ 0 → ⊥) → isInputKind (kindOf k) ≡ false
+pub other-is : (k : ℕ) → k ≤ 2 → (k ≡ 0 → ⊥) → isInputKind (kindOf k) ≡ false
 other-is zero l n = absurd (n refl)
 other-is (suc zero) l n = refl
 other-is (suc (suc zero)) l n = refl

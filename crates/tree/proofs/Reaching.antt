@@ -21,7 +21,6 @@ use Rattle.affine.specs.declared.Map as Code
 use Rattle.affine.specs.Value.{several, mapOf}
 use Rattle.affine.specs.Size.{Tells}
 use Rattle.affine.specs.Reading.{rowFields, MapRead}
-use Rattle.affine.proofs.Bounds.{mapReach-one}
 use Rattle.laws.specs.At.{nodeOf, codeOf, nodeLen, At, AllAt}
 use Rattle.laws.specs.Children.{childrenOf, arity, reachHere, reachBelow}
 use Rattle.laws.specs.Sheets.{varsOf}
@@ -30,6 +29,7 @@ use Rattle.laws.proofs.Rows.{RowAt, ConstraintAt}
 use Rattle.laws.proofs.Nodes.{Restricts, NodeAt, node-at, restr-constraint}
 use Rattle.laws.proofs.Shapes.{at-got, allAt-none}
 use Rattle.laws.proofs.Children.{children-many, at-children, reach-children}
+use Rattle.laws.proofs.NormalReach.{mapReach-pos}
 use Rattle.tree.specs.declared.Bounded.{Bounded}
 use Rattle.tree.specs.declared.Bounded.the-variants.{Next, Beyond}
 use Rattle.tree.specs.Standing.{Noded}
@@ -136,7 +136,7 @@ below-some (nBinary o) r l = l
 below-some nIf r l = l
 below-some (nCase n) r l = l
 below-some (nRestr d cs) r l = l
-below-some (nDep m) r l = mapReach-one r (m .rows)
+below-some (nDep m) r l = mapReach-pos r (m .rows)
 
 module _ (vars : ℕ) (bs : List ℕ) (p : ℕ) where
   pub constraints-there : Noded vars bs p → natAbs (field bs p) ≡ 7 → p + 24 + natAbs (field bs (p + 16)) * (16 + 8 * natAbs (field bs (p + 8))) ≤ length bs

@@ -17,24 +17,24 @@ array-copy-out-row-after-2 c = search needs
 
 row-after-requires-2 : tie.Need-row-after-requires-2
 row-after-requires-2 c κs =
-    let start = c .before .before .before .before in
-    let s = start in (s .pre .1, (rw (s .pre .2) at (s .pre .0 .lines 1)), s .pre .3 1)
+    let s = c .before .before .before .before in
+    (s .pre .1, (rw (s .pre .2) at (s .pre .0 .lines 1)), s .pre .3 1)
 
 array-copy-out-row-after-3 : tie.Need-array-copy-out-row-after-3
 array-copy-out-row-after-3 c = search needs
 
 row-after-requires-3 : tie.Need-row-after-requires-3
 row-after-requires-3 c κs =
-    let start = c .before .before .before .before .before .before in
-    let s = start in (s .pre .1, (rw (s .pre .2) at (s .pre .0 .lines 2)), s .pre .3 2)
+    let s = c .before .before .before .before .before .before in
+    (s .pre .1, (rw (s .pre .2) at (s .pre .0 .lines 2)), s .pre .3 2)
 
 array-copy-out-row-after-4 : tie.Need-array-copy-out-row-after-4
 array-copy-out-row-after-4 c = search needs
 
 row-after-requires-4 : tie.Need-row-after-requires-4
 row-after-requires-4 c κs =
-    let start = c .before .before .before .before .before .before .before .before in
-    let s = start in (s .pre .1, (rw (s .pre .2) at (s .pre .0 .lines 3)), s .pre .3 3)
+    let s = c .before .before .before .before .before .before .before .before in
+    (s .pre .1, (rw (s .pre .2) at (s .pre .0 .lines 3)), s .pre .3 3)
 
 returns : tie.Need-returns
 returns c =

@@ -29,8 +29,8 @@ returns c =
 
 add-result-2 : tie.Need-add-result-2
 add-result-2 c =
-    let start = c .before .before .before in
-    let s = start in omega (arith, returns c, declared-there _ _ (s .pre .0) _ (s .pre .1))
+    let s = c .before .before .before in
+    omega (arith, returns c, declared-there _ _ (s .pre .0) _ (s .pre .1))
 
 pub next-declared-spec : {M : Type 1} → statement M
 next-declared-spec =

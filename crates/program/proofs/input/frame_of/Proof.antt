@@ -65,7 +65,8 @@ returns-4 c =
     let else1 = after-number-at .before in
     let small = sym (length-is after-at-most) ∙ not-false _ (else2 .if2 .left) in
     let positive = sym (sign-is after-not-negative) ∙ not-false _ (else3 .if3 .left) in
-    frame-past _ (else1 .if1 .left) small positive (omega (arith, after-to-usize .to-usize .ensures, ap natAbs (after-number-at .number-at .ensures), c .if4 .taken))
+    frame-past _ (else1 .if1 .left) small positive
+    (omega (arith, after-to-usize .to-usize .ensures, ap natAbs (after-number-at .number-at .ensures), c .if4 .taken))
 
 add-t4 : tie.Need-add-t4
 add-t4 c = search needs

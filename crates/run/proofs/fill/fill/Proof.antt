@@ -88,8 +88,8 @@ put-requires c κs =
 
 add-i : tie.Need-add-i Inv-loop μ-loop
 add-i c =
-    let in-loop = c .before .before .before .before .before .before .before .before .before .before .before .before in
-    let l = in-loop in omega (arith, many l, laid (l .before .before .before .before .before) .few)
+    let l = c .before .before .before .before .before .before .before .before .before .before .before .before in
+    omega (arith, many l, laid (l .before .before .before .before .before) .few)
 
 loop-less : tie.Need-loop-less Inv-loop μ-loop
 loop-less c =

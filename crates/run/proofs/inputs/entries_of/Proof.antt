@@ -13,7 +13,8 @@ use Rattle.alpha.specs.Outcome.{inputsBefore}
 use Rattle.alpha.specs.Run as Run
 use Rattle.laws.specs.Sheets.{sheetOf}
 use Rattle.domain.proofs.Records.{VariableLaid, laid-variable, laid-total}
-use Rattle.run.proofs.Listing.{input-kind, other-kind, size-input, before-step, before-count, count-total, entries-none, entries-integer}
+use Rattle.tree.proofs.Passing.{input-is as input-kind, other-is as other-kind}
+use Rattle.run.proofs.Listing.{size-input, before-step, before-count, count-total, entries-none, entries-integer}
 use Rattle.run.proofs.Listing.{bits-entries, part-few, integer-sort, boolean-sort}
 use Rattle.run.proofs.inputs.entries_of.Statement.{statement}
 use Rattle.run.proofs.inputs.entries_of.Tie as tie

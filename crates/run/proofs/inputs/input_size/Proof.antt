@@ -7,7 +7,8 @@ use mir.Facts.{toZ-ofZ}
 use Rattle.alpha.specs.Holds.{variable, isInput, isInputKind}
 use Rattle.laws.specs.Sheets.{sheetOf}
 use Rattle.domain.proofs.Records.{VariableLaid, laid-variable}
-use Rattle.run.proofs.Listing.{input-kind, other-kind, size-input, size-other}
+use Rattle.tree.proofs.Passing.{input-is as input-kind, other-is as other-kind}
+use Rattle.run.proofs.Listing.{size-input, size-other}
 use Rattle.alpha.specs.Read.{kindOf}
 use Rattle.run.proofs.inputs.input_size.Statement.{statement}
 use Rattle.run.proofs.inputs.input_size.Tie as tie

@@ -140,8 +140,8 @@ start-element-requires c κs =
 
 add-i : tie.Need-add-i Inv-loop μ-loop
 add-i c =
-    let in-loop = c .before .before .before in
-    let l = in-loop in omega (arith, many l, laid (start l) .few)
+    let l = c .before .before .before in
+    omega (arith, many l, laid (start l) .few)
 
 loop-less : tie.Need-loop-less Inv-loop μ-loop
 loop-less c =
