@@ -2,7 +2,7 @@
 -- through what measures and stores one branch after another. Assumes nothing.
 use mathlib.Core.Path.{_≡_, refl, sym, ap, _∙_, subst}
 use Prim.Native.Nat.{ℕ, zero, suc, _+_, _*_, _-_, _/_, _%_, _^_, _≤_, _<_, min}
-use native.Mathlib.Nat.{mul-le-mul-right, mul-le-mul-left}
+use native.Mathlib.Nat.{mul-le-mul-right, mul-le-mul-left, zero-add}
 use native.Mathlib.Omega.{arith}
 use mathlib.Core.Bool.{Bool, true, false}
 use mathlib.Core.List.{List, [], _∷_, _++_, map}
@@ -43,7 +43,7 @@ use Rattle.normal.specs.Body.{StoresBranch, RoomFor, RoomFrom, StoresFro
 use Rattle.normal.proofs.Numbered.{count-is}
 use Rattle.normal.proofs.Composing.{branch-first}
 use Rattle.normal.proofs.Branched.{treePart, givenPart, Branched, branched}
-use Rattle.normal.proofs.Laying.{sets-after, length-nat, two-long, three-long, rows-long, constraints-long}
+use Rattle.normal.proofs.Laying.{sets-after, sets-past, length-nat, two-long, three-long, rows-long, constraints-long}
 
 -- ---- how long a branch can be
 
@@ -357,35 +357,39 @@ module _ (bs : List ℕ) (p n many : ℕ) (h : BodyAt bs p n many) where
           given-wrote : Wrote false (record { to = to + 24; things = 0; deep = 0 }) a c given (partOf false (h .tree) (mapOf m) 0 b)
           given-wrote = first (h .tree) (h .end) (h .at) (omega (arith, h .count))
 
-          pub term-route : Route bs p 2048 m b true 0 (given .to) (roomOf false c)
-          term-route =
+          pub term-route : (d : List ℕ) → length d ≡ length c → Route bs p 2048 m b true 0 (given .to) (roomOf false d)
+          term-route d kept =
               let to-is = ap (λ z. z .to) (given-wrote .pen-is) in
               let as-is = ap (λ f. length (partOf false (h .tree) f 0 b .out)) is in
               let long = ap length (given-wrote .out-is) ∙ length-sets a (to + 24) (partOf false (h .tree) (mapOf m) 0 b .out) in
-              start-route true (given .to) (roomOf false c) (omega (arith, tree-room))
+              start-route true (given .to) (roomOf false d) (omega (arith, tree-room))
 
-          pub branch-stored : (taken : Taken) (d : List ℕ) (term : Pen) → TakesBranch bs p n many b taken →
-              a ≡ sets l to (nat 7 ++ nat n ++ nat (taken .limits)) →
-              Follows bs p m b true 0 false (record { to = given .to; things = 0; deep = 0 }) c d term → StoresBranch bs p n many b to l d (term .to)
+          pub branch-stored : (d u : List ℕ) (term : Pen) → a ≡ sets l to (nat 7 ++ nat n) → d ≡ sets c (to + 16) (nat (given .things)) →
+              Follows bs p m b true 0 false (record { to = given .to; things = 0; deep = 0 }) d u term → StoresBranch bs p n many b to l u (term .to)
           unfolding bytes
-          branch-stored taken d term took head second e i =
+          branch-stored d u term head third second e i =
               let x = branchIn bs e b in
               let cs = flat (map constraintBytes (x .given)) in
-              let front = nat 7 ++ nat n ++ nat (length (x .given)) in
+              let k = nat (length (x .given)) in
+              let front = nat 7 ++ nat n ++ k in
               let lt-e : b < countOf e = omega (arith, i .count) in
               let g = first e (i .end) (i .at) lt-e in
               let t = second e (i .end) (i .at) lt-e in
               let gp = ap (λ f. partOf false e f 0 b) is ∙ given-part bs p n many e i b lt in
               let tp = ap (λ f. partOf true e f 0 b) is ∙ tree-part bs p n many e i b lt in
-              let limits = ap (λ z. z .limits) (took .is e i) in
+              let limits : given .things ≡ length (x .given) =
+              ap (λ z. z .things) (g .pen-is) ∙ ap (λ y. 0 + y .things) gp ∙ zero-add (length (x .given)) in
               let gto : given .to ≡ to + 24 + length cs = ap (λ z. z .to) (g .pen-is) ∙ ap (λ y. to + 24 + length (y .out)) gp in
               let tto : term .to ≡ given .to + length (bytes (x .term)) = ap (λ z. z .to) (t .pen-is) ∙ ap (λ y. given .to + length (y .out)) tp in
-              let head-is : a ≡ sets l to front = head ∙ ap (λ k. sets l to (nat 7 ++ nat n ++ nat k)) limits in
               let mid : c ≡ sets a (to + 24) cs = g .out-is ∙ ap (λ y. sets a (to + 24) (y .out)) gp in
-              let front-cs = sets-after l to 24 front cs (three-long 7 n (length (x .given))) head-is mid in
+              let head-is : sets a (to + 16) k ≡ sets l to front = sets-after l to 16 (nat 7 ++ nat n) k (two-long 7 n) head refl in
+              let number : d ≡ sets c (to + 16) k = third ∙ ap (λ j. sets c (to + 16) (nat j)) limits in
+              let both-are : d ≡ sets (sets a (to + 16) k) (to + 24) cs =
+              number ∙ ap (λ r. sets r (to + 16) k) mid ∙ sets-past a (to + 16) (to + 24) k cs (omega (arith, length-nat (length (x .given)))) in
+              let front-cs = sets-after l to 24 front cs (three-long 7 n (length (x .given))) head-is both-are in
               let next : given .to ≡ to + (24 + length cs) = omega arith in
-              let last : d ≡ sets c (to + (24 + length cs)) (bytes (x .term)) =
-              t .out-is ∙ ap (λ y. sets c (given .to) (y .out)) tp ∙ ap (λ k. sets c k (bytes (x .term))) next in
+              let last : u ≡ sets d (to + (24 + length cs)) (bytes (x .term)) =
+              t .out-is ∙ ap (λ y. sets d (given .to) (y .out)) tp ∙ ap (λ j. sets d j (bytes (x .term))) next in
               let front-long : length (front ++ cs) ≡ 24 + length cs = length-append front cs ∙ omega (arith, three-long 7 n (length (x .given))) in (
                 sets-after l to (24 + length cs) (front ++ cs) (bytes (x .term)) front-long front-cs last,
                 omega (arith, written-long n x),

@@ -1,11 +1,11 @@
--- Bytes stored one part after another are the parts stored as one, and a run of fields or rows by its index. Assumes nothing.
+-- Bytes stored one part after another are the parts stored as one, in whatever order, and a run of fields or rows by its index. Assumes nothing.
 use mathlib.Core.Path.{_≡_, refl, sym, ap, _∙_}
 use Prim.Native.Nat.{ℕ, zero, suc, _+_, _*_, _-_, _≤_, _<_}
 use native.Mathlib.Nat.{add-zero, zero-add, sub-zero}
 use native.Mathlib.Omega.{arith}
 use mathlib.Core.List.{List, [], _∷_, _++_, map, append-assoc}
 use lib.ListN.{length, getD, take, length-append, set}
-use lib.Seq.{sets, length-take-le, take-suc}
+use lib.Seq.{sets, length-take-le, take-suc, set-comm}
 use lib.IntN.{ℤ}
 use Rattle.alpha.specs.Field.{num, nat}
 use Rattle.alpha.specs.Sheet.{Row, Constraint}
@@ -26,6 +26,17 @@ pub sets-after : (l : List ℕ) (i k : ℕ) (xs ys : List ℕ) {a b : List ℕ} 
     b ≡ sets l i (xs ++ ys)
 sets-after l i k xs ys long first second = second ∙ ap (λ t. sets t (i + k) ys) first ∙ sets-then l i k xs ys long
 
+-- what is stored before another part can be stored after it
+set-past : (l : List ℕ) (i j a : ℕ) (ys : List ℕ) → i < j → set (sets l j ys) i a ≡ sets (set l i a) j ys
+set-past l i j a [] h = refl
+set-past l i j a (y ∷ ys) h =
+    set-past (set l j y) i (suc j) a ys (omega arith) ∙ ap (λ r. sets r (suc j) ys) (set-comm l j i y a (λ e. omega arith))
+
+pub sets-past : (l : List ℕ) (i j : ℕ) (xs ys : List ℕ) → i + length xs ≤ j → sets (sets l j ys) i xs ≡ sets (sets l i xs) j ys
+sets-past l i j [] ys h = refl
+sets-past l i j (x ∷ xs) ys h =
+    ap (λ r. sets r (suc i) xs) (set-past l i j x ys (omega arith)) ∙ sets-past (set l i x) (suc i) j xs ys (omega arith)
+
 pub length-nat : (n : ℕ) → length (nat n) ≡ 8
 length-nat n = length-bytesOf 8 n
 
@@ -34,12 +45,6 @@ two-long a b = length-append (nat a) (nat b) ∙ omega (arith, length-nat a, len
 
 pub three-long : (a b c : ℕ) → length (nat a ++ nat b ++ nat c) ≡ 24
 three-long a b c = length-append (nat a ++ nat b) (nat c) ∙ omega (arith, two-long a b, length-nat c)
-
--- three numbers one after another
-pub three-stored : (l : List ℕ) (to x y z : ℕ) {a b c : List ℕ} → a ≡ sets l to (nat x) → b ≡ sets a (to + 8) (nat y) → c ≡ sets b (to + 16) (nat z) →
-    c ≡ sets l to (nat x ++ nat y ++ nat z)
-three-stored l to x y z first second third =
-    sets-after l to 16 (nat x ++ nat y) (nat z) (two-long x y) (sets-after l to 8 (nat x) (nat y) (length-nat x) first second) third
 
 -- one of so many, of k bytes each, is past
 pub one-less : (p left k total : ℕ) → 0 < left → p + left * k ≡ total → p + k + (left - 1) * k ≡ total

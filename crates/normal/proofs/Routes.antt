@@ -2,7 +2,7 @@
 -- the maps composed, and at operands one after another; and that no sum on the way leaves an i64 or the room. Assumes nothing.
 use mathlib.Core.Path.{_≡_, sym, ap, ap₂, _∙_, subst}
 use Prim.Native.Nat.{ℕ, suc, _+_, _*_, _-_, _/_, _%_, _≤_, _<_}
-use native.Mathlib.Nat.{le-trans, mod-lt, mod-le, div-le-self, div-lt-iff-lt-mul}
+use native.Mathlib.Nat.{le-trans, mod-lt, mod-le, div-le-self, div-lt-iff-lt-mul, div-one}
 use native.Mathlib.Omega.{arith}
 use mathlib.Core.Bool.{Bool, true, false, _&&_}
 use mathlib.Core.List.{List, [], _∷_}
@@ -23,6 +23,7 @@ use Rattle.laws.specs.Children.{childrenOf, arity, reachBelow, reachHere}
 use Rattle.laws.specs.Sheets.{headsOf, varsOf}
 use Rattle.laws.proofs.Tests.{&&-left, &&-right}
 use Rattle.laws.proofs.Readers.{counted-is}
+use Rattle.laws.proofs.Trees.{at-unique}
 use Rattle.laws.proofs.Nodes.{restr-constraint}
 use Rattle.laws.proofs.Shapes.{at-got, at-node, at-kase, at-dep, at-restr, KaseAt, DepAt, RestrAt, MoreAt, allAt-none}
 use Rattle.laws.proofs.Children.{arity-few, children-count, reach-children}
@@ -46,6 +47,7 @@ use Rattle.normal.specs.Rows.{AllComposable}
 use Rattle.normal.specs.Spot.{Limits, Spot}
 use Rattle.normal.specs.Followed.{roomOf, Route, RouteAll, Wrote, Visits, Follows, FollowsAll}
 use Rattle.normal.proofs.Numbered.{positive}
+use Rattle.normal.proofs.Counting as Counting
 use Rattle.normal.proofs.Parts.{part-children, count-operands, pick-kept, capped-some, capped-div, capped-mod, wrote-nothing}
 use Rattle.normal.proofs.Parts.{wrote-then, room-same, things-low, part-things}
 use Rattle.normal.proofs.Spots.{own-out, own-things}
@@ -430,6 +432,14 @@ module _ (bs : List ℕ) where
               subst (RouteAll bs next left (many - 1) m (b % n) t level (after .to))
               (e ∙ sym (room-same dry pen out (partOf t (split .first) (mapOf m) level (b / n)) wrote)) route-rest
 
+      -- one operand alone has the branch that the combination has
+      pub route-only : many < 2 → Route bs p left m b t level to room
+      route-only few =
+          let ends : (e : Expr) (q : ℕ) → At e (varsOf bs) bs p q → split .middle ≡ q =
+          λ e q x. at-unique (varsOf bs) bs p (split .first) e (split .middle) q (split .before) x .end-is in
+          subst (λ i. Route bs p left m i t level to room) (div-one b)
+          (route-first (split .middle) 1 ends (Counting.none-way bs (split .middle) (many - 1) false 1 (omega arith) (omega arith)))
+
 -- ---- the ways through the walk
 
 module _ (bs : List ℕ) (p : ℕ) (m : Map) (b : ℕ) (t : Bool) (level : ℕ) (dry : Bool) (pen : Pen) (out : List ℕ) where
@@ -532,3 +542,16 @@ module _ (bs : List ℕ) (p : ℕ) (m : Map) (b : ℕ) (t : Bool) (level : ℕ) 
       parted : (x : MoreAt es (varsOf bs) bs p q (many - 1)) → partsOf t es (mapOf m) level b
           ≡ beside (partOf t (x .first) (mapOf m) level (b / productOf (x .rest))) (partsOf t (x .rest) (mapOf m) level (b % productOf (x .rest)))
       parted x = unfold partsOf in ap (λ f. partsOf t f (mapOf m) level b) (x .is)
+
+module _ (bs : List ℕ) (p : ℕ) (m : Map) (b : ℕ) (t : Bool) (level : ℕ) (dry : Bool) (pen : Pen) (out : List ℕ) where
+  -- one operand alone: its branch of the combination's number
+  pub one-way : (many : ℕ) {out′ : List ℕ} {z : Pen} → 1 ≤ many → many < 2 → b ≤ 64 → Follows bs p m b t level dry pen out out′ z →
+      FollowsAll bs p many m b t level dry pen out out′ z
+  one-way many {out′} {z} some few low only es q h c lt =
+      let x = one-more (varsOf bs) bs es p q many some h c in
+      let ends : (e : Expr) (r : ℕ) → At e (varsOf bs) bs p r → x .middle ≡ r =
+      λ e r y. at-unique (varsOf bs) bs p (x .first) e (x .middle) r (x .before) y .end-is in
+      more-way bs p m b t level dry pen out many (x .middle) 1 some low ends
+      (Counting.none-way bs (x .middle) (many - 1) false 1 (omega arith) (omega arith))
+      (subst (λ i. Follows bs p m i t level dry pen out out′ z) (sym (div-one b)) only)
+      (none-way bs (x .middle) m (b % 1) t level dry z out′ (many - 1) (omega arith)) es q h c lt

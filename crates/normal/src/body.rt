@@ -58,7 +58,7 @@ pub fn measure_from(s: &[u8], at: usize, n: usize, many: usize, b: usize, sofar:
     measure_from(s, at, n, many, b + 1, both(sofar, taken))
 }
 
-// Branch b: a restriction with its constraints, above its tree.
+// Branch b: a restriction with its constraints, above its tree. How many constraints there are is stored once they stand.
 fn put_branch(
     s: &[u8],
     at: usize,
@@ -71,10 +71,8 @@ fn put_branch(
     requires { ⌜ Body.BodyAt (now s) at n many × (b < many) × Body.RoomFor (now s) at n many b to (min (2 ^ 40) (length (now out))) ⌝ }
     ensures { λ r. ⌜ Body.StoresBranch (now (s .entry)) at n many b to (now (out .entry)) (now (out .exit)) r ⌝ }
 {
-    let taken = measure(s, at, n, many, b);
     put_nat(out, to, 7);
     put_nat(out, to + 8, n);
-    put_nat(out, to + 16, taken.limits);
     let m = identity(n);
     let start = Pen {
         to: to + 24,
@@ -82,6 +80,7 @@ fn put_branch(
         deep: 0,
     };
     let given = follow(s, at, 2048, b, m, false, false, 0, out, start);
+    put_nat(out, to + 16, given.things);
     let next = Pen {
         to: given.to,
         things: 0,

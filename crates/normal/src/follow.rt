@@ -86,6 +86,9 @@ fn follow_all(
     if many < 1 {
         return pen;
     }
+    if many < 2 {
+        return follow(s, at, left, b, m, tree, dry, level, out, pen);
+    }
     let next = skip(s, at, left);
     let n = count_all(s, next, left, many - 1);
     let after = follow(s, at, left, b / n, m, tree, dry, level, out, pen);

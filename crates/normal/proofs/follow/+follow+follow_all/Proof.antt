@@ -32,7 +32,7 @@ use Rattle.tree.proofs.Standings.{standing-noded, standing-some, standing-there
 use Rattle.normal.proofs.Routes.{route-standing, route-choice, route-chosen, dep-dims, dep-composes, route-below, route-spot, route-after}
 use Rattle.normal.proofs.Routes.{visited-things, route-many}
 use Rattle.normal.proofs.Routes.{operands-standing, count-some, route-first, followed-things, route-next, case-way, node-way, dep-way}
-use Rattle.normal.proofs.Routes.{none-way, more-way}
+use Rattle.normal.proofs.Routes.{none-way, one-way, more-way, route-only}
 
 abbrev μ-follow : Measures 2 follow-kinds.ps ℕ
 μ-follow κs a = 70 * a .1 .1 .0
@@ -80,12 +80,12 @@ follow-uses t = (
 
 abbrev follow-all-uses : ℕ → follow-all-lts.Claims
 follow-all-uses t = (
+  follow-below t,
+  follow.Post,
   skip-reads.Asked,
   skip-reads.Learnt,
   count-all-reads.Asked,
   count-all-reads.Learnt,
-  follow-below t,
-  follow.Post,
   follow-all-below t,
   follow-all.Post,
 )
@@ -316,15 +316,43 @@ follow-all-returns t c =
     let s = c .before .before .before in
     none-way _ _ (s .args .m) (s .args .b) (s .args .tree) (s .args .level) (s .args .dry) (s .args .pen) _ _ (c .if1 .taken)
 
+follow-all-follow-requires : (t : ℕ) → follow-all-lts.Need-follow-requires (follow-all-uses t) (follow-all-at t) follow-all.Post
+follow-all-follow-requires t c κs =
+    let then2 = c .before in
+    let s = then2 .before .before .before .before in
+    let is = s .pre .0 in (
+      omega arith,
+      (
+        route-only _ _ _ _ _ _ _ _ _ _ (then2 .before .if1 .left) (s .pre .1 .0) (then2 .if2 .taken),
+        s .pre .1 .1,
+        s .pre .1 .2,
+        s .pre .1 .4,
+      ),
+    )
+
+follow-all-same-length : (t : ℕ) → follow-all-lts.Need-same-length (follow-all-uses t) (follow-all-at t) follow-all.Post
+follow-all-same-length t c = search needs
+
+follow-all-returns-2 : (t : ℕ) → follow-all-lts.Need-returns-2 (follow-all-uses t) (follow-all-at t) follow-all.Post
+follow-all-returns-2 t c =
+    let after-follow = c .before .before in
+    let then2 = after-follow .before .before in
+    let s = then2 .before .before .before .before in
+    one-way _ _ (s .args .m) (s .args .b) (s .args .tree) (s .args .level) (s .args .dry) (s .args .pen) _ _ (then2 .before .if1 .left)
+    (then2 .if2 .taken) (s .pre .1 .0 .low) (after-follow .follow .ensures)
+
 follow-all-skip-requires : (t : ℕ) → follow-all-lts.Need-skip-requires (follow-all-uses t) (follow-all-at t) follow-all.Post
 follow-all-skip-requires t c κs =
-    let s = c .before .before .before in
-    (first-standing _ _ _ _ _ (c .if1 .left) (operands-standing _ _ _ _ _ _ _ _ _ _ (c .if1 .left) (s .pre .1 .0)), s .pre .1 .1)
+    let else1 = c .before in
+    let s = else1 .before .before .before in
+    let more = else1 .if1 .left in
+    (first-standing _ _ _ _ _ more (operands-standing _ _ _ _ _ _ _ _ _ _ more (s .pre .1 .0)), s .pre .1 .1)
 
 follow-all-count-all-requires : (t : ℕ) → follow-all-lts.Need-count-all-requires (follow-all-uses t) (follow-all-at t) follow-all.Post
 follow-all-count-all-requires t c κs =
-    let s = c .before .before .before .before in
-    let more = c .before .if1 .left in (
+    let else1 = c .before .before in
+    let s = else1 .before .before .before in
+    let more = else1 .if1 .left in (
       rest-standing _ _ _ _ _ more (operands-standing _ _ _ _ _ _ _ _ _ _ more (s .pre .1 .0)) _ (c .skip .ensures),
       s .pre .1 .1,
       omega (arith, s .pre .1 .3),
@@ -332,12 +360,13 @@ follow-all-count-all-requires t c κs =
 
 follow-all-div-follow : (t : ℕ) → follow-all-lts.Need-div-follow (follow-all-uses t) (follow-all-at t) follow-all.Post
 follow-all-div-follow t c =
-    let s = c .before .before .before .before .before in
-    omega (arith, count-some _ _ _ _ _ _ _ _ _ _ (c .before .before .if1 .left) (s .pre .1 .0) _ _ (c .before .skip .ensures) (c .count-all .ensures))
-
-follow-all-follow-requires : (t : ℕ) → follow-all-lts.Need-follow-requires (follow-all-uses t) (follow-all-at t) follow-all.Post
-follow-all-follow-requires t c κs =
     let else1 = c .before .before .before in
+    let s = else1 .before .before .before in
+    omega (arith, count-some _ _ _ _ _ _ _ _ _ _ (else1 .if1 .left) (s .pre .1 .0) _ _ (c .before .skip .ensures) (c .count-all .ensures))
+
+follow-all-follow-requires-2 : (t : ℕ) → follow-all-lts.Need-follow-requires-2 (follow-all-uses t) (follow-all-at t) follow-all.Post
+follow-all-follow-requires-2 t c κs =
+    let else1 = c .before .before .before .before in
     let s = else1 .before .before .before in
     let is = s .pre .0 in (
       omega arith,
@@ -353,7 +382,7 @@ follow-all-rem-follow-all : (t : ℕ) → follow-all-lts.Need-rem-follow-all (fo
 follow-all-rem-follow-all t c =
     let after-count-all = c .before .before .before .before in
     let after-skip = after-count-all .before in
-    let else1 = after-skip .before in
+    let else1 = after-skip .before .before in
     let s = else1 .before .before .before in
     omega (
       arith,
@@ -366,13 +395,13 @@ follow-all-follow-all-requires t c κs =
     let after-follow = c .before .before .before in
     let after-count-all = after-follow .before .before in
     let after-skip = after-count-all .before in
-    let else1 = after-skip .before in
+    let else1 = after-skip .before .before in
     let s = else1 .before .before .before in
     let h = s .pre .1 .0 in
     let more = else1 .if1 .left in
     let ends = after-skip .skip .ensures in
     let counted = after-count-all .count-all .ensures in
-    let followed = after-follow .follow .ensures in
+    let followed = after-follow .follow2 .ensures in
     let is = s .pre .0 in (
       omega arith,
       (
@@ -384,19 +413,19 @@ follow-all-follow-all-requires t c κs =
       ),
     )
 
-follow-all-same-length : (t : ℕ) → follow-all-lts.Need-same-length (follow-all-uses t) (follow-all-at t) follow-all.Post
-follow-all-same-length t c = search needs
+follow-all-same-length-2 : (t : ℕ) → follow-all-lts.Need-same-length-2 (follow-all-uses t) (follow-all-at t) follow-all.Post
+follow-all-same-length-2 t c = search needs
 
-follow-all-returns-2 : (t : ℕ) → follow-all-lts.Need-returns-2 (follow-all-uses t) (follow-all-at t) follow-all.Post
-follow-all-returns-2 t c =
+follow-all-returns-3 : (t : ℕ) → follow-all-lts.Need-returns-3 (follow-all-uses t) (follow-all-at t) follow-all.Post
+follow-all-returns-3 t c =
     let after-follow = c .before .before .before .before .before .before in
     let after-count-all = after-follow .before .before in
     let after-skip = after-count-all .before in
-    let else1 = after-skip .before in
+    let else1 = after-skip .before .before in
     let s = else1 .before .before .before in
     more-way _ _ (s .args .m) (s .args .b) (s .args .tree) (s .args .level) (s .args .dry) (s .args .pen) _ _ _ _ (else1 .if1 .left)
     (s .pre .1 .0 .low) (after-skip .skip .ensures)
-    (after-count-all .count-all .ensures) (after-follow .follow .ensures) (c .before .before .follow-all .ensures)
+    (after-count-all .count-all .ensures) (after-follow .follow2 .ensures) (c .before .before .follow-all .ensures)
 
 pub +follow+follow-all-spec : {M : Type 1} → statement M
 +follow+follow-all-spec = close μ-follow μ-follow-all (λ t. follow-lts.spec (follow-uses t) (follow-at t)
@@ -427,11 +456,14 @@ pub +follow+follow-all-spec : {M : Type 1} → statement M
     λ t. follow-all-lts.spec (follow-all-uses t) (follow-all-at t)
     follow-all.Post
     (follow-all-returns t)
+    (follow-all-follow-requires t)
+    (follow-all-same-length t)
+    (follow-all-returns-2 t)
     (follow-all-skip-requires t)
     (follow-all-count-all-requires t)
     (follow-all-div-follow t)
-    (follow-all-follow-requires t)
+    (follow-all-follow-requires-2 t)
     (follow-all-rem-follow-all t)
     (follow-all-follow-all-requires t)
-    (follow-all-same-length t)
-    (follow-all-returns-2 t)
+    (follow-all-same-length-2 t)
+    (follow-all-returns-3 t)
