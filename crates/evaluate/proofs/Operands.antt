@@ -39,17 +39,16 @@ not-zero (suc n) h = omega arith
 pub some-variable : (bs tab : List ℕ) → Formed bs tab → 0 < varsOf bs
 some-variable bs tab F = prepared-sections bs tab (F .placed .prepared) .some
 
+-- a code past those of the operators, and no restriction's or dependence's, is a case's
+pub case-code : (n : ℕ) → 3 ≤ n → n ≤ 6 → (n ≡ 3 → ⊥) → (n ≡ 4 → ⊥) → (n ≡ 5 → ⊥) → n ≡ 6
+case-code n low high a b c = omega (arith, low, high, a, b, c)
+
 module _ (bs : List ℕ) (p left : ℕ) (z : List Int) (w : Walk bs p left z) where
   pub walk-noded : Noded (varsOf bs) bs p
   walk-noded = standing-noded (varsOf bs) bs p left (walk-standing bs p left z w)
 
   pub walk-some : 1 ≤ left
   walk-some = standing-some (varsOf bs) bs p left (walk-standing bs p left z w)
-
-  -- a code past the others is a dependence's
-  pub image-code : 3 ≤ natAbs (field bs p) → (natAbs (field bs p) ≡ 3 → ⊥) → (natAbs (field bs p) ≡ 4 → ⊥) → (natAbs (field bs p) ≡ 5 → ⊥) → (natAbs (field bs p) ≡ 6 → ⊥) →
-      (natAbs (field bs p) ≡ 7 → ⊥) → natAbs (field bs p) ≡ 8
-  image-code low a b c d e = omega (arith, low, tree-code bs p (w .tree) (w .end) (w .at), code-high (w .tree))
 
   module _ (code : ℕ) (is : natAbs (field bs p) ≡ code) where
     other : (c : ℕ) → (code ≡ c → ⊥) → natAbs (field bs p) ≡ c → ⊥

@@ -5,7 +5,8 @@ use Prim.Native.Nat.{ℕ, _+_, _≤_, _<_}
 use mathlib.Core.Bool.{Bool, true, false}
 use mathlib.Core.List.{List, [], _∷_}
 use lib.ListN.{length, getD}
-use lib.IntN.{ℤ}
+use mathlib.Core.Logic.{_⊎_}
+use lib.IntN.{ℤ, natAbs}
 use Rattle.alpha.specs.Field.{field}
 use Rattle.alpha.specs.declared.Int.{Int}
 use Rattle.alpha.specs.declared.Outcome as Declared
@@ -21,6 +22,7 @@ use Rattle.alpha.specs.Ask.{numberOf}
 use Rattle.laws.specs.At.{At}
 use Rattle.laws.specs.Sheets.{headsOf, varsOf, sheetOf}
 use Rattle.affine.specs.Value.{pointOf, Padded}
+use Rattle.affine.specs.Reading.{ImageAt}
 use Rattle.evaluate.specs.declared.Work.{Work}
 use Rattle.evaluate.specs.declared.Work.the-variants.{Outside, Value, DivZero, Overflow, Loop, Deep}
 use Rattle.evaluate.specs.declared.Worked.{Worked}
@@ -44,6 +46,10 @@ pub record ConstantRead (bs : List ℕ) (p : ℕ) (r : Worked) : Type 0 where
   pub is : r .out ≡ Value value
   pub says : value .v ≡ field bs (p + 8)
   pub next : r .next ≡ p + 16
+
+-- y is the point of the child of a node at p with one child, whose own point is z: a dependence's image, and else z
+abbrev pub Lowered : List ℕ → ℕ → List Int → List Int → Type 0
+Lowered bs p z y = ((natAbs (field bs p) ≡ 8) × ImageAt bs (p + 8) z y) ⊎ ((natAbs (field bs p) ≡ 8 → ⊥) × (y ≡ z))
 
 -- element number m of a sheet
 abbrev pub elementAt : Sheet → ℕ → Element

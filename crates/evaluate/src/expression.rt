@@ -22,11 +22,14 @@ ghost use lib.ListN.{length};
 ghost use lib.IntN.{natAbs};
 ghost use Rattle.alpha.specs.Field.{field};
 ghost use Rattle.laws.specs.Sheets.{sheetOf};
+ghost use Rattle.affine.specs.declared.Map.{Map};
+ghost use Rattle.affine.specs.Size.{Fit};
+ghost use Rattle.affine.specs.Reading.{MapThere, MapRead};
 ghost use Rattle.tree.specs.Formed.{Formed};
 ghost use Rattle.domain.specs.Inside.{Inside};
 ghost use Rattle.domain.specs.Walk.{Walk};
 ghost use Rattle.domain.specs.Held.{Held};
-ghost use Rattle.evaluate.specs.Working.{memoOf, outcomes, Ready, Done, ElementIs, ConstantRead, EvaluatesAt};
+ghost use Rattle.evaluate.specs.Working.{memoOf, outcomes, Ready, Done, ElementIs, ConstantRead, Lowered, EvaluatesAt};
 ghost use Rattle.evaluate.specs.Memo as Memo;
 
 // Element e, the one of variable v at z: what the memo has, or else what the body gives. Where no depth remains, it has to be worked
@@ -60,7 +63,8 @@ pub fn element(
     out
 }
 
-// The tree at `at`, of at most `left` nodes, at z, where it holds.
+// The tree at `at`, of at most `left` nodes, at z, where it holds. Restrictions and dependences are passed on the way to the first other
+// node, which spares a call for each.
 pub fn expression(
     s: &[u8],
     tab: &[usize; 102],
@@ -75,20 +79,34 @@ pub fn expression(
     requires { ⌜ Formed (now s) (now tab) × Inside (sheetOf (now s)) (now inside) × Ready (sheetOf (now s)) (memoOf (now codes) (now values)) × Walk (now s) at left z × (left ≤ 2048) × Held (now s) at z ⌝ }
     ensures { λ r. ⌜ EvaluatesAt (now (s .entry)) at z (memoOf (now (codes .entry)) (now (values .entry))) (memoOf (now (codes .exit)) (now (values .exit))) r ⌝ }
 {
-    let code = natural(s, at);
-    match code {
-        0 => variable(s, tab, inside, codes, values, at, left, z, depth),
-        1 | 2 => constant(s, at),
-        3 => one(s, tab, inside, codes, values, at, left, z, depth),
-        4 => two(s, tab, inside, codes, values, at, left, z, depth),
-        5 => three(s, tab, inside, codes, values, at, left, z, depth),
-        6 => branch(s, tab, inside, codes, values, at, left, z, depth),
-        7 => {
-            let next = at + node_len(s, at);
-            expression(s, tab, inside, codes, values, next, left - 1, z, depth)
-        }
-        _ => image(s, tab, inside, codes, values, at, left, z, depth),
+    let mut p = at;
+    let mut n = left;
+    let mut y = z;
+    while natural(s, p) > 6 {
+        let lower = lowered(s, p, y);
+        y = lower;
+        p += node_len(s, p);
+        n -= 1;
     }
+    match natural(s, p) {
+        0 => variable(s, tab, inside, codes, values, p, n, y, depth),
+        1 | 2 => constant(s, p),
+        3 => one(s, tab, inside, codes, values, p, n, y, depth),
+        4 => two(s, tab, inside, codes, values, p, n, y, depth),
+        5 => three(s, tab, inside, codes, values, p, n, y, depth),
+        _ => branch(s, tab, inside, codes, values, p, n, y, depth),
+    }
+}
+
+// The point at which the child of the restriction or dependence at `at` stands, whose own point is z.
+fn lowered(s: &[u8], at: usize, z: [Int; 4]) -> [Int; 4]
+    requires { ⌜ (at + 16 ≤ length (now s)) × (natAbs (field (now s) at) ≡ 8 → MapThere (now s) (at + 8) × ((m : Map) → MapRead (now s) (at + 8) m → Fit m z)) ⌝ }
+    ensures { λ y. ⌜ Lowered (now (s .entry)) at z y ⌝ }
+{
+    if natural(s, at) == 8 {
+        return affine::image_at(s, at + 8, z);
+    }
+    z
 }
 
 // A constant.
@@ -254,24 +272,4 @@ fn branch(
         out: Work::Value(x),
         next: skip_all(s, r.next, left - 1, rest),
     }
-}
-
-// A dependence: its child at the image.
-fn image(
-    s: &[u8],
-    tab: &[usize; 102],
-    inside: &[u8; 4096],
-    codes: &mut [u8; 4096],
-    values: &mut [i32; 4096],
-    at: usize,
-    left: usize,
-    z: [Int; 4],
-    depth: usize,
-) -> Worked
-    requires { ⌜ Formed (now s) (now tab) × Inside (sheetOf (now s)) (now inside) × Ready (sheetOf (now s)) (memoOf (now codes) (now values)) × Walk (now s) at left z × (left ≤ 2048) × (natAbs (field (now s) at) ≡ 8) × Held (now s) at z ⌝ }
-    ensures { λ r. ⌜ EvaluatesAt (now (s .entry)) at z (memoOf (now (codes .entry)) (now (values .entry))) (memoOf (now (codes .exit)) (now (values .exit))) r ⌝ }
-{
-    let y = affine::image_at(s, at + 8, z);
-    let next = at + node_len(s, at);
-    expression(s, tab, inside, codes, values, next, left - 1, y, depth)
 }

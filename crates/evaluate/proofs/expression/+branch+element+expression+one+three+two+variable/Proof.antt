@@ -1,35 +1,33 @@
 -- The evaluators of `evaluate::expression` meet their contracts, together: each answer is the definition's outcome. The measure is the
 -- remaining depth, and then the remaining nodes. Each need cites one law: the ways through a node (proofs/Ways.antt), the operands' walks
--- (proofs/Operands.antt), and elements with their bodies (proofs/Elements.antt). Assumes nothing.
+-- (proofs/Operands.antt), what lies below a restriction or a dependence (proofs/Lowering.antt), and elements with their bodies
+-- (proofs/Elements.antt). Assumes nothing.
 use borrow.Fn.Kinds.{In}
 use borrow.Fn.PlainCycle.{Measures, is, falls, and}
 use Rattle.evaluate.proofs.expression.branch.Reads as branch
 use Rattle.evaluate.proofs.expression.branch.Kinds as branch-kinds
-use Rattle.evaluate.proofs.expression.+branch+element+expression+image+one+three+two+variable.Lts-branch as branch-lts
+use Rattle.evaluate.proofs.expression.+branch+element+expression+one+three+two+variable.Lts-branch as branch-lts
 use Rattle.evaluate.proofs.expression.element.Reads as element
 use Rattle.evaluate.proofs.expression.element.Kinds as element-kinds
-use Rattle.evaluate.proofs.expression.+branch+element+expression+image+one+three+two+variable.Lts-element as element-lts
+use Rattle.evaluate.proofs.expression.+branch+element+expression+one+three+two+variable.Lts-element as element-lts
 use Rattle.evaluate.proofs.expression.expression.Reads as expression
 use Rattle.evaluate.proofs.expression.expression.Kinds as expression-kinds
-use Rattle.evaluate.proofs.expression.+branch+element+expression+image+one+three+two+variable.Lts-expression as expression-lts
-use Rattle.evaluate.proofs.expression.image.Reads as image
-use Rattle.evaluate.proofs.expression.image.Kinds as image-kinds
-use Rattle.evaluate.proofs.expression.+branch+element+expression+image+one+three+two+variable.Lts-image as image-lts
+use Rattle.evaluate.proofs.expression.+branch+element+expression+one+three+two+variable.Lts-expression as expression-lts
 use Rattle.evaluate.proofs.expression.one.Reads as one
 use Rattle.evaluate.proofs.expression.one.Kinds as one-kinds
-use Rattle.evaluate.proofs.expression.+branch+element+expression+image+one+three+two+variable.Lts-one as one-lts
+use Rattle.evaluate.proofs.expression.+branch+element+expression+one+three+two+variable.Lts-one as one-lts
 use Rattle.evaluate.proofs.expression.three.Reads as three
 use Rattle.evaluate.proofs.expression.three.Kinds as three-kinds
-use Rattle.evaluate.proofs.expression.+branch+element+expression+image+one+three+two+variable.Lts-three as three-lts
+use Rattle.evaluate.proofs.expression.+branch+element+expression+one+three+two+variable.Lts-three as three-lts
 use Rattle.evaluate.proofs.expression.two.Reads as two
 use Rattle.evaluate.proofs.expression.two.Kinds as two-kinds
-use Rattle.evaluate.proofs.expression.+branch+element+expression+image+one+three+two+variable.Lts-two as two-lts
+use Rattle.evaluate.proofs.expression.+branch+element+expression+one+three+two+variable.Lts-two as two-lts
 use Rattle.evaluate.proofs.expression.variable.Reads as variable
 use Rattle.evaluate.proofs.expression.variable.Kinds as variable-kinds
-use Rattle.evaluate.proofs.expression.+branch+element+expression+image+one+three+two+variable.Lts-variable as variable-lts
-use Rattle.affine.proofs.image_at.Reads as image-at-reads
+use Rattle.evaluate.proofs.expression.+branch+element+expression+one+three+two+variable.Lts-variable as variable-lts
 use Rattle.domain.proofs.holding.holding.Reads as holding-reads
 use Rattle.evaluate.proofs.expression.constant.Reads as constant-reads
+use Rattle.evaluate.proofs.expression.lowered.Reads as lowered-reads
 use Rattle.evaluate.proofs.memo.code_of.Reads as code-of-reads
 use Rattle.evaluate.proofs.memo.known.Reads as known-reads
 use Rattle.evaluate.proofs.memo.note.Reads as note-reads
@@ -48,10 +46,10 @@ use Rattle.sheet.proofs.table.record_place.Reads as record-place-reads
 use Rattle.tree.proofs.node.natural.Reads as natural-reads
 use Rattle.tree.proofs.node.node_len.Reads as node-len-reads
 use Rattle.tree.proofs.skip.skip_all.Reads as skip-all-reads
-use Rattle.evaluate.proofs.expression.+branch+element+expression+image+one+three+two+variable.{
+use Rattle.evaluate.proofs.expression.+branch+element+expression+one+three+two+variable.{
   statement,
 }
-use Rattle.evaluate.proofs.expression.+branch+element+expression+image+one+three+two+variable.Tie.{
+use Rattle.evaluate.proofs.expression.+branch+element+expression+one+three+two+variable.Tie.{
   close,
 }
 use Prim.Native.Nat.{ℕ, _+_, _*_, _-_, _<_, _≤_}
@@ -59,25 +57,28 @@ use mathlib.Core.Path.{_≡_, refl, sym, ap, _∙_, subst}
 use native.Mathlib.Omega.{arith}
 use lib.ListN.{length, set}
 use denote.Ref.{now}
-use lib.IntN.{pos}
+use lib.IntN.{pos, natAbs}
 use borrow.Author.Needs.{needs, sfits-of}
 use mir.Facts.{toZ-ofZ}
+use Rattle.alpha.specs.Field.{field}
 use Rattle.laws.specs.Sheets.{varsOf, sheetOf}
 use Rattle.tree.proofs.Noding.{code-there, wide-fields}
 use Rattle.tree.proofs.Standings.{standing-there}
-use Rattle.domain.proofs.Walks.{walk-standing, walk-image, map-stands, image-fits}
+use Rattle.domain.proofs.Walks.{walk-standing}
 use Rattle.domain.proofs.Records.{VariableLaid, laid-variable}
-use Rattle.domain.proofs.Restrictions.{restriction-walk}
-use Rattle.domain.proofs.Carried.{held-restricted, held-image}
+use Rattle.domain.specs.Walk.{Walk}
+use Rattle.domain.specs.Held.{Held}
+use Rattle.evaluate.specs.declared.Worked.{Worked}
 use Rattle.evaluate.specs.Memo as Memo
 use Rattle.evaluate.specs.Memo.{busy, Memo, noted}
 use Rattle.evaluate.specs.Working.{memoOf, outcomes, Ready, Done, EvaluatesAt}
 use Rattle.evaluate.proofs.Entries.{no-value, noted-is}
 use Rattle.evaluate.proofs.Doing.{ready-kept}
-use Rattle.evaluate.proofs.Operands.{not-zero, image-code, some-variable, walk-noded, walk-some, there, one-few, two-few, ready-after, small-value, operand-ends}
+use Rattle.evaluate.proofs.Operands.{not-zero, case-code, some-variable, walk-noded, walk-some, there, one-few, two-few, ready-after, small-value, operand-ends}
 use Rattle.evaluate.proofs.Operands.{one-walk, left-walk, right-walk, test-walk, first-walk, second-walk}
 use Rattle.evaluate.proofs.Operands.{one-held, left-held, right-held, test-held, first-held, second-held}
-use Rattle.evaluate.proofs.Ways.{constant-way, one-back, one-way, left-back, right-back, two-way, test-back, first-back, second-back, three-way, branch-back, branch-way, restriction-way, image-way}
+use Rattle.evaluate.proofs.Ways.{constant-way, one-back, one-way, left-back, right-back, two-way, test-back, first-back, second-back, three-way, branch-back, branch-way}
+use Rattle.evaluate.proofs.Lowering.{lowered-there, lowered-fits, lowered-walk, lowered-held, lowered-way}
 use Rattle.evaluate.proofs.Elements.{element-low, known-way, deep-way, ready-marked, walk-body, held-body, body-done, worked-way, variable-known, off-way, named-element, number-few, variable-way}
 
 -- a depth is worth more than all nodes of a body
@@ -89,9 +90,6 @@ abbrev μ-element : Measures 5 element-kinds.ps ℕ
 
 abbrev μ-expression : Measures 5 expression-kinds.ps ℕ
 μ-expression κs a = a .1 .1 .1 .1 .1 .1 .1 .1 .0 * 6150 + 3 * a .1 .1 .1 .1 .1 .1 .0 + 2
-
-abbrev μ-image : Measures 5 image-kinds.ps ℕ
-μ-image κs a = a .1 .1 .1 .1 .1 .1 .1 .1 .0 * 6150 + 3 * a .1 .1 .1 .1 .1 .1 .0 + 1
 
 abbrev μ-one : Measures 5 one-kinds.ps ℕ
 μ-one κs a = a .1 .1 .1 .1 .1 .1 .1 .1 .0 * 6150 + 3 * a .1 .1 .1 .1 .1 .1 .0 + 1
@@ -124,12 +122,6 @@ expression-at t =
 abbrev expression-below : ℕ → In 5 expression-kinds.ps
 expression-below t =
     and 5 expression-kinds.ps (falls 5 expression-kinds.ps _<_ μ-expression t) expression.Pre
-
-abbrev image-at : ℕ → In 5 image-kinds.ps
-image-at t = and 5 image-kinds.ps (is 5 image-kinds.ps μ-image t) image.Pre
-
-abbrev image-below : ℕ → In 5 image-kinds.ps
-image-below t = and 5 image-kinds.ps (falls 5 image-kinds.ps _<_ μ-image t) image.Pre
 
 abbrev one-at : ℕ → In 5 one-kinds.ps
 one-at t = and 5 one-kinds.ps (is 5 one-kinds.ps μ-one t) one.Pre
@@ -183,6 +175,10 @@ abbrev expression-uses : ℕ → expression-lts.Claims
 expression-uses t = (
   natural-reads.Asked,
   natural-reads.Learnt,
+  lowered-reads.Asked,
+  lowered-reads.Learnt,
+  node-len-reads.Asked,
+  node-len-reads.Learnt,
   variable-below t,
   variable.Post,
   one-below t,
@@ -191,26 +187,10 @@ expression-uses t = (
   two.Post,
   three-below t,
   three.Post,
-  branch-below t,
-  branch.Post,
-  node-len-reads.Asked,
-  node-len-reads.Learnt,
-  expression-below t,
-  expression.Post,
   constant-reads.Asked,
   constant-reads.Learnt,
-  image-below t,
-  image.Post,
-)
-
-abbrev image-uses : ℕ → image-lts.Claims
-image-uses t = (
-  image-at-reads.Asked,
-  image-at-reads.Learnt,
-  node-len-reads.Asked,
-  node-len-reads.Learnt,
-  expression-below t,
-  expression.Post,
+  branch-below t,
+  branch.Post,
 )
 
 abbrev one-uses : ℕ → one-lts.Claims
@@ -465,196 +445,161 @@ element-returns-3 t c =
     let memo = memoOf (now (s .args .codes)) (now (s .args .values)) in
     subst (λ m. Done sheet memo m (λ ins. Memo.element (outcomes sheet ins) (s .args .e)) (at-expression .expression .result .out)) (sym stored) worked
 
-expression-natural-requires : (t : ℕ) → expression-lts.Need-natural-requires (expression-uses t) (expression-at t) expression.Post
-expression-natural-requires t c κs =
-    let s = c .before in
-    code-there _ _ _ (walk-noded _ _ _ _ (s .pre .1 .3))
+-- what is worked out of the node that is reached is what the tree gives
+abbrev expression-Inv-loop : expression-lts.InvT-loop
+expression-Inv-loop s tab inside codes values at left depth p₀ n₀ y₀ p n y =
+    Walk s p n y × (n ≤ left) × Held s p y × ((memo last : Memo) (r : Worked) → EvaluatesAt s p y memo last r → EvaluatesAt s at y₀ memo last r)
 
-expression-variable-requires : (t : ℕ) → expression-lts.Need-variable-requires (expression-uses t) (expression-at t) expression.Post
+abbrev expression-μ-loop : expression-lts.MeasureT-loop
+expression-μ-loop s tab inside codes values at left depth p₀ n₀ y₀ p n y = n
+
+expression-loop-holds : (t : ℕ) → expression-lts.Need-loop-holds (expression-uses t) (expression-at t) expression.Post expression-Inv-loop expression-μ-loop
+expression-loop-holds t c =
+    let p = c .before .pre .1 in
+    (p .3, omega arith, p .5, λ memo last r h. h)
+
+expression-natural-requires : (t : ℕ) → expression-lts.Need-natural-requires (expression-uses t) (expression-at t) expression.Post expression-Inv-loop expression-μ-loop
+expression-natural-requires t c κs = code-there _ _ _ (walk-noded _ _ _ _ (c .loop .inv .0))
+
+-- its code is past the others where the loop goes on
+expression-high : (t : ℕ) (c : expression-lts.Then1 (expression-uses t) (expression-at t) expression.Post expression-Inv-loop expression-μ-loop) →
+    6 < natAbs (field (now (c .before .before .before .before .args .s)) (c .before .before .loop .p))
+expression-high t c = omega (arith, c .before .natural .ensures, c .if1 .taken)
+
+expression-lowered-requires : (t : ℕ) → expression-lts.Need-lowered-requires (expression-uses t) (expression-at t) expression.Post expression-Inv-loop expression-μ-loop
+expression-lowered-requires t c κs =
+    let w = c .before .before .loop .inv .0 in
+    (lowered-there _ _ _ _ w (expression-high t c), lowered-fits _ _ _ _ w (expression-high t c))
+
+expression-node-len-requires : (t : ℕ) → expression-lts.Need-node-len-requires (expression-uses t) (expression-at t) expression.Post expression-Inv-loop expression-μ-loop
+expression-node-len-requires t c κs = walk-noded _ _ _ _ (c .before .before .before .loop .inv .0)
+
+expression-add-p : (t : ℕ) → expression-lts.Need-add-p (expression-uses t) (expression-at t) expression.Post expression-Inv-loop expression-μ-loop
+expression-add-p t c =
+    let w = c .before .before .before .before .loop .inv .0 in
+    omega (arith, standing-there _ _ _ _ (walk-standing _ _ _ _ w), c .node-len .ensures)
+
+expression-sub-n : (t : ℕ) → expression-lts.Need-sub-n (expression-uses t) (expression-at t) expression.Post expression-Inv-loop expression-μ-loop
+expression-sub-n t c = omega (arith, walk-some _ _ _ _ (c .before .before .before .before .loop .inv .0))
+
+expression-loop-less : (t : ℕ) → expression-lts.Need-loop-less (expression-uses t) (expression-at t) expression.Post expression-Inv-loop expression-μ-loop
+expression-loop-less t c = omega (arith, walk-some _ _ _ _ (c .before .before .before .before .loop .inv .0))
+
+expression-loop-again : (t : ℕ) → expression-lts.Need-loop-again (expression-uses t) (expression-at t) expression.Post expression-Inv-loop expression-μ-loop
+expression-loop-again t c =
+    let at-lowered = c .before in
+    let at-then = at-lowered .before in
+    let inv = at-then .before .before .loop .inv in
+    let high = expression-high t at-then in
+    let long = c .node-len .ensures in
+    let y = at-lowered .lowered .ensures in (
+      lowered-walk _ _ _ _ (inv .0) high _ long _ y,
+      omega (arith, inv .1),
+      lowered-held _ _ _ _ (inv .0) high _ long _ y (inv .2),
+      λ memo last r h. inv .3 memo last r (lowered-way _ _ _ _ (inv .0) high _ long _ y memo last r h),
+    )
+
+expression-natural-requires-2 : (t : ℕ) → expression-lts.Need-natural-requires-2 (expression-uses t) (expression-at t) expression.Post expression-Inv-loop expression-μ-loop
+expression-natural-requires-2 t c κs = code-there _ _ _ (walk-noded _ _ _ _ (c .before .before .loop .inv .0))
+
+expression-variable-requires : (t : ℕ) → expression-lts.Need-variable-requires (expression-uses t) (expression-at t) expression.Post expression-Inv-loop expression-μ-loop
 expression-variable-requires t c κs =
     let at-match-keys1 = c .before .before in
-    let at-natural = at-match-keys1 .before in
-    let s = at-natural .before .before in
+    let at-natural2 = at-match-keys1 .before in
+    let at-loop = at-natural2 .before .before .before in
+    let s = at-loop .before .before in
     let p = s .pre .1 in
     let is = s .pre .0 in
-    let code = sym (at-natural .natural .ensures) ∙ at-match-keys1 .match .keys1 in
-    (omega arith, (p .0, p .1, p .2, p .3, p .4, code, p .5))
+    let inv = at-loop .loop .inv in
+    let code = sym (at-natural2 .natural2 .ensures) ∙ at-match-keys1 .match .keys1 in
+    (omega (arith, inv .1), (p .0, p .1, p .2, inv .0, omega (arith, p .4, inv .1), code, inv .2))
 
-expression-one-requires : (t : ℕ) → expression-lts.Need-one-requires (expression-uses t) (expression-at t) expression.Post
+expression-one-requires : (t : ℕ) → expression-lts.Need-one-requires (expression-uses t) (expression-at t) expression.Post expression-Inv-loop expression-μ-loop
 expression-one-requires t c κs =
     let at-match-keys2 = c .before .before in
-    let at-natural = at-match-keys2 .before in
-    let s = at-natural .before .before in
+    let at-natural2 = at-match-keys2 .before in
+    let at-loop = at-natural2 .before .before .before in
+    let s = at-loop .before .before in
     let p = s .pre .1 in
     let is = s .pre .0 in
-    let code = sym (at-natural .natural .ensures) ∙ at-match-keys2 .match .keys2 in
-    (omega arith, (p .0, p .1, p .2, p .3, p .4, code, p .5))
+    let inv = at-loop .loop .inv in
+    let code = sym (at-natural2 .natural2 .ensures) ∙ at-match-keys2 .match .keys2 in
+    (omega (arith, inv .1), (p .0, p .1, p .2, inv .0, omega (arith, p .4, inv .1), code, inv .2))
 
-expression-two-requires : (t : ℕ) → expression-lts.Need-two-requires (expression-uses t) (expression-at t) expression.Post
+expression-two-requires : (t : ℕ) → expression-lts.Need-two-requires (expression-uses t) (expression-at t) expression.Post expression-Inv-loop expression-μ-loop
 expression-two-requires t c κs =
     let at-match-keys3 = c .before .before in
-    let at-natural = at-match-keys3 .before in
-    let s = at-natural .before .before in
+    let at-natural2 = at-match-keys3 .before in
+    let at-loop = at-natural2 .before .before .before in
+    let s = at-loop .before .before in
     let p = s .pre .1 in
     let is = s .pre .0 in
-    let code = sym (at-natural .natural .ensures) ∙ at-match-keys3 .match .keys3 in
-    (omega arith, (p .0, p .1, p .2, p .3, p .4, code, p .5))
+    let inv = at-loop .loop .inv in
+    let code = sym (at-natural2 .natural2 .ensures) ∙ at-match-keys3 .match .keys3 in
+    (omega (arith, inv .1), (p .0, p .1, p .2, inv .0, omega (arith, p .4, inv .1), code, inv .2))
 
-expression-three-requires : (t : ℕ) → expression-lts.Need-three-requires (expression-uses t) (expression-at t) expression.Post
+expression-three-requires : (t : ℕ) → expression-lts.Need-three-requires (expression-uses t) (expression-at t) expression.Post expression-Inv-loop expression-μ-loop
 expression-three-requires t c κs =
     let at-match-keys4 = c .before .before in
-    let at-natural = at-match-keys4 .before in
-    let s = at-natural .before .before in
+    let at-natural2 = at-match-keys4 .before in
+    let at-loop = at-natural2 .before .before .before in
+    let s = at-loop .before .before in
     let p = s .pre .1 in
     let is = s .pre .0 in
-    let code = sym (at-natural .natural .ensures) ∙ at-match-keys4 .match .keys4 in
-    (omega arith, (p .0, p .1, p .2, p .3, p .4, code, p .5))
+    let inv = at-loop .loop .inv in
+    let code = sym (at-natural2 .natural2 .ensures) ∙ at-match-keys4 .match .keys4 in
+    (omega (arith, inv .1), (p .0, p .1, p .2, inv .0, omega (arith, p .4, inv .1), code, inv .2))
 
-expression-branch-requires : (t : ℕ) → expression-lts.Need-branch-requires (expression-uses t) (expression-at t) expression.Post
-expression-branch-requires t c κs =
-    let at-match-keys5 = c .before .before in
-    let at-natural = at-match-keys5 .before in
-    let s = at-natural .before .before in
-    let p = s .pre .1 in
-    let is = s .pre .0 in
-    let code = sym (at-natural .natural .ensures) ∙ at-match-keys5 .match .keys5 in
-    (omega arith, (p .0, p .1, p .2, p .3, p .4, code, p .5))
-
-expression-node-len-requires : (t : ℕ) → expression-lts.Need-node-len-requires (expression-uses t) (expression-at t) expression.Post
-expression-node-len-requires t c κs =
-    let s = c .before .before .before in
-    walk-noded _ _ _ _ (s .pre .1 .3)
-
-expression-add-next : (t : ℕ) → expression-lts.Need-add-next (expression-uses t) (expression-at t) expression.Post
-expression-add-next t c =
-    let s = c .before .before .before .before in
-    omega (arith, standing-there _ _ _ _ (walk-standing _ _ _ _ (s .pre .1 .3)), c .node-len .ensures)
-
-expression-sub-expression : (t : ℕ) → expression-lts.Need-sub-expression (expression-uses t) (expression-at t) expression.Post
-expression-sub-expression t c =
-    let s = c .before .before .before .before .before .before in
-    omega (arith, walk-some _ _ _ _ (s .pre .1 .3))
-
-expression-expression-requires : (t : ℕ) → expression-lts.Need-expression-requires (expression-uses t) (expression-at t) expression.Post
-expression-expression-requires t c κs =
-    let at-node-len = c .before .before in
-    let at-match-keys6 = at-node-len .before in
-    let at-natural = at-match-keys6 .before in
-    let s = at-natural .before .before in
-    let p = s .pre .1 in
-    let is = s .pre .0 in
-    let some = walk-some _ _ _ _ (p .3) in
-    let code = sym (at-natural .natural .ensures) ∙ at-match-keys6 .match .keys6 in
-    let walk = restriction-walk _ _ _ _ (p .3) code in
-    let held = held-restricted _ _ _ (p .5) code in
-    let long = at-node-len .node-len .ensures in
-    (omega arith, (p .0, p .1, p .2, rw long walk, omega (arith, p .4), rw long held))
-
-expression-constant-requires : (t : ℕ) → expression-lts.Need-constant-requires (expression-uses t) (expression-at t) expression.Post
+expression-constant-requires : (t : ℕ) → expression-lts.Need-constant-requires (expression-uses t) (expression-at t) expression.Post expression-Inv-loop expression-μ-loop
 expression-constant-requires t c κs =
-    let at-natural = c .before .before in
-    let s = at-natural .before .before in
-    let p = s .pre .1 in
-    let code = at-natural .natural .ensures in
-    there _ _ _ _ (p .3) _ refl (λ e. omega (arith, c .if1 .taken))
+    let at-natural2 = c .before .before in
+    let inv = at-natural2 .before .before .before .loop .inv in
+    let code = at-natural2 .natural2 .ensures in
+    there _ _ _ _ (inv .0) _ refl (λ e. omega (arith, c .if2 .taken))
 
-expression-image-requires : (t : ℕ) → expression-lts.Need-image-requires (expression-uses t) (expression-at t) expression.Post
-expression-image-requires t c κs =
-    let at-else1 = c .before .before in
-    let at-match-rest = at-else1 .before in
-    let at-natural = at-match-rest .before in
-    let s = at-natural .before .before in
-    let p = s .pre .1 in
-    let is = s .pre .0 in
-    let code = at-natural .natural .ensures in
-    let no = at-match-rest .match .rest in
-    let eight = image-code _ _ _ _ (p .3) (omega (arith, at-else1 .if1 .left)) (λ e. no .0 .0 .0 .0 .1 (code ∙ e)) (λ e. no .0 .0 .0 .1 (code ∙ e)) (λ e. no .0 .0 .1 (code ∙ e)) (λ e. no .0 .1 (code ∙ e)) (λ e. no .1 (code ∙ e)) in
-    (omega arith, (p .0, p .1, p .2, p .3, p .4, eight, p .5))
-
-expression-returns : (t : ℕ) → expression-lts.Need-returns (expression-uses t) (expression-at t) expression.Post
-expression-returns t c = c .variable .ensures
-
-expression-returns-2 : (t : ℕ) → expression-lts.Need-returns-2 (expression-uses t) (expression-at t) expression.Post
-expression-returns-2 t c = c .one .ensures
-
-expression-returns-3 : (t : ℕ) → expression-lts.Need-returns-3 (expression-uses t) (expression-at t) expression.Post
-expression-returns-3 t c = c .two .ensures
-
-expression-returns-4 : (t : ℕ) → expression-lts.Need-returns-4 (expression-uses t) (expression-at t) expression.Post
-expression-returns-4 t c = c .three .ensures
-
-expression-returns-5 : (t : ℕ) → expression-lts.Need-returns-5 (expression-uses t) (expression-at t) expression.Post
-expression-returns-5 t c = c .branch .ensures
-
-expression-returns-6 : (t : ℕ) → expression-lts.Need-returns-6 (expression-uses t) (expression-at t) expression.Post
-expression-returns-6 t c =
-    let at-node-len = c .before .before .before in
-    let at-match-keys6 = at-node-len .before in
-    let at-natural = at-match-keys6 .before in
-    let s = at-natural .before .before in
-    let code = sym (at-natural .natural .ensures) ∙ at-match-keys6 .match .keys6 in
-    restriction-way _ _ (s .args .z) _ code (at-node-len .node-len .ensures) _ _ _ (c .expression .ensures)
-
-expression-returns-7 : (t : ℕ) → expression-lts.Need-returns-7 (expression-uses t) (expression-at t) expression.Post
-expression-returns-7 t c =
-    let at-then1 = c .before in
-    let at-match-rest = at-then1 .before in
-    let at-natural = at-match-rest .before in
-    let s = at-natural .before .before in
-    let is = at-natural .natural .ensures in
-    let no = at-match-rest .match .rest in
-    let low = not-zero _ (no .0 .0 .0 .0 .0 .1) in
-    constant-way _ _ (s .args .z) (omega arith) (omega (arith, at-then1 .if1 .taken)) _ _ (c .constant .ensures)
-
-expression-returns-8 : (t : ℕ) → expression-lts.Need-returns-8 (expression-uses t) (expression-at t) expression.Post
-expression-returns-8 t c = c .image .ensures
-
-image-add-image-at : (t : ℕ) → image-lts.Need-add-image-at (image-uses t) (image-at t) image.Post
-image-add-image-at t c =
-    let s = c .before in
-    omega (arith, there _ _ _ _ (s .pre .1 .3) 8 (s .pre .1 .5) (λ e. omega arith))
-
-image-image-at-requires : (t : ℕ) → image-lts.Need-image-at-requires (image-uses t) (image-at t) image.Post
-image-image-at-requires t c κs =
-    let p = c .before .pre .1 in
-    (map-stands _ _ _ _ (p .3) (p .5), image-fits _ _ _ _ (p .3) (p .5))
-
-image-node-len-requires : (t : ℕ) → image-lts.Need-node-len-requires (image-uses t) (image-at t) image.Post
-image-node-len-requires t c κs =
-    let s = c .before .before in
-    walk-noded _ _ _ _ (s .pre .1 .3)
-
-image-add-next : (t : ℕ) → image-lts.Need-add-next (image-uses t) (image-at t) image.Post
-image-add-next t c =
-    let s = c .before .before .before in
-    omega (arith, standing-there _ _ _ _ (walk-standing _ _ _ _ (s .pre .1 .3)), c .node-len .ensures)
-
-image-sub-expression : (t : ℕ) → image-lts.Need-sub-expression (image-uses t) (image-at t) image.Post
-image-sub-expression t c =
-    let s = c .before .before .before .before .before in
-    omega (arith, walk-some _ _ _ _ (s .pre .1 .3))
-
-image-expression-requires : (t : ℕ) → image-lts.Need-expression-requires (image-uses t) (image-at t) image.Post
-image-expression-requires t c κs =
-    let at-node-len = c .before .before in
-    let at-image = at-node-len .before in
-    let s = at-image .before .before in
+expression-branch-requires : (t : ℕ) → expression-lts.Need-branch-requires (expression-uses t) (expression-at t) expression.Post expression-Inv-loop expression-μ-loop
+expression-branch-requires t c κs =
+    let at-else2 = c .before .before in
+    let at-match-rest = at-else2 .before in
+    let at-natural2 = at-match-rest .before in
+    let at-else1 = at-natural2 .before in
+    let at-loop = at-else1 .before .before in
+    let s = at-loop .before .before in
     let p = s .pre .1 in
     let is = s .pre .0 in
-    let some = walk-some _ _ _ _ (p .3) in
-    let y = at-image .image-at .ensures in
-    let walk = walk-image _ _ _ _ (p .3) (p .5) _ (y .read) _ (y .is) (y .rest) in
-    let held = held-image _ _ _ (p .6) (p .5) _ (y .read) _ (y .is) in
-    let long = at-node-len .node-len .ensures in
-    (omega arith, (p .0, p .1, p .2, rw long walk, omega (arith, p .4), rw long held))
+    let inv = at-loop .loop .inv in
+    let code = at-natural2 .natural2 .ensures in
+    let last = at-else1 .before .natural .ensures in
+    let no = at-match-rest .match .rest in
+    let n = at-natural2 .natural2 .result in
+    let six = case-code n (omega (arith, at-else2 .if2 .left)) (omega (arith, code, last, at-else1 .if1 .left)) (no .0 .0 .1) (no .0 .1) (no .1) in
+    (omega (arith, inv .1), (p .0, p .1, p .2, inv .0, omega (arith, p .4, inv .1), sym code ∙ six, inv .2))
 
-image-returns : (t : ℕ) → image-lts.Need-returns (image-uses t) (image-at t) image.Post
-image-returns t c =
-    let at-node-len = c .before .before .before in
-    let at-image = at-node-len .before in
-    let s = at-image .before .before in
-    let y = at-image .image-at in
-    image-way _ _ (s .args .z) _ _ (y .result) (s .pre .1 .5) (at-node-len .node-len .ensures) (y .ensures .read) (y .ensures .is) _ _ _ (c .expression .ensures)
+expression-returns : (t : ℕ) → expression-lts.Need-returns (expression-uses t) (expression-at t) expression.Post expression-Inv-loop expression-μ-loop
+expression-returns t c = c .before .before .before .before .before .before .before .loop .inv .3 _ _ _ (c .variable .ensures)
+
+expression-returns-2 : (t : ℕ) → expression-lts.Need-returns-2 (expression-uses t) (expression-at t) expression.Post expression-Inv-loop expression-μ-loop
+expression-returns-2 t c = c .before .before .before .before .before .before .before .loop .inv .3 _ _ _ (c .one .ensures)
+
+expression-returns-3 : (t : ℕ) → expression-lts.Need-returns-3 (expression-uses t) (expression-at t) expression.Post expression-Inv-loop expression-μ-loop
+expression-returns-3 t c = c .before .before .before .before .before .before .before .loop .inv .3 _ _ _ (c .two .ensures)
+
+expression-returns-4 : (t : ℕ) → expression-lts.Need-returns-4 (expression-uses t) (expression-at t) expression.Post expression-Inv-loop expression-μ-loop
+expression-returns-4 t c = c .before .before .before .before .before .before .before .loop .inv .3 _ _ _ (c .three .ensures)
+
+expression-returns-5 : (t : ℕ) → expression-lts.Need-returns-5 (expression-uses t) (expression-at t) expression.Post expression-Inv-loop expression-μ-loop
+expression-returns-5 t c =
+    let at-then2 = c .before in
+    let at-match-rest = at-then2 .before in
+    let at-natural2 = at-match-rest .before in
+    let loop = at-natural2 .before .before .before .loop in
+    let is = at-natural2 .natural2 .ensures in
+    let no = at-match-rest .match .rest in
+    let low = not-zero _ (no .0 .0 .0 .1) in
+    loop .inv .3 _ _ _ (constant-way _ _ (loop .y) (omega arith) (omega (arith, at-then2 .if2 .taken)) _ _ (c .constant .ensures))
+
+expression-returns-6 : (t : ℕ) → expression-lts.Need-returns-6 (expression-uses t) (expression-at t) expression.Post expression-Inv-loop expression-μ-loop
+expression-returns-6 t c = c .before .before .before .before .before .before .before .before .loop .inv .3 _ _ _ (c .branch .ensures)
 
 one-add-expression : (t : ℕ) → one-lts.Need-add-expression (one-uses t) (one-at t) one.Post
 one-add-expression t c =
@@ -1075,13 +1020,12 @@ variable-returns-2 t c =
     let here = ap (λ x. x + at-found .found .given .0 .0) (at-first-element .first-element .ensures) in
     variable-way _ _ (p .0) _ _ _ (p .3) (p .5) _ number known _ found _ here _ _ _ (c .element .ensures)
 
-pub +branch+element+expression+image+one+three+two+variable-spec : {M : Type 1} → statement M
-+branch+element+expression+image+one+three+two+variable-spec =
+pub +branch+element+expression+one+three+two+variable-spec : {M : Type 1} → statement M
++branch+element+expression+one+three+two+variable-spec =
     close
     μ-branch
     μ-element
     μ-expression
-    μ-image
     μ-one
     μ-three
     μ-two
@@ -1115,35 +1059,29 @@ pub +branch+element+expression+image+one+three+two+variable-spec : {M : Type 1} 
     (element-returns-3 t))
     (λ t. expression-lts.spec (expression-uses t) (expression-at t)
     expression.Post
+    expression-Inv-loop
+    expression-μ-loop
+    (expression-loop-holds t)
     (expression-natural-requires t)
+    (expression-lowered-requires t)
+    (expression-node-len-requires t)
+    (expression-add-p t)
+    (expression-sub-n t)
+    (expression-loop-less t)
+    (expression-loop-again t)
+    (expression-natural-requires-2 t)
     (expression-variable-requires t)
     (expression-one-requires t)
     (expression-two-requires t)
     (expression-three-requires t)
-    (expression-branch-requires t)
-    (expression-node-len-requires t)
-    (expression-add-next t)
-    (expression-sub-expression t)
-    (expression-expression-requires t)
     (expression-constant-requires t)
-    (expression-image-requires t)
+    (expression-branch-requires t)
     (expression-returns t)
     (expression-returns-2 t)
     (expression-returns-3 t)
     (expression-returns-4 t)
     (expression-returns-5 t)
-    (expression-returns-6 t)
-    (expression-returns-7 t)
-    (expression-returns-8 t))
-    (λ t. image-lts.spec (image-uses t) (image-at t)
-    image.Post
-    (image-add-image-at t)
-    (image-image-at-requires t)
-    (image-node-len-requires t)
-    (image-add-next t)
-    (image-sub-expression t)
-    (image-expression-requires t)
-    (image-returns t))
+    (expression-returns-6 t))
     (λ t. one-lts.spec (one-uses t) (one-at t)
     one.Post
     (one-add-expression t)
