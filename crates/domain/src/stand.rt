@@ -1,5 +1,4 @@
 // How a tree stands at a point: each node alike, and then its children one after another. Assumes nothing.
-// The result of a call is handed on by its parts, which the compiler keeps in registers.
 use super::Standing;
 use super::Stood;
 use super::constraint::restriction_meets;
