@@ -28,27 +28,32 @@ enum-known-f-2 c = search needs
 
 sub-answer-framed : tie.Need-sub-answer-framed
 sub-answer-framed c =
-    let there = c .before .before .before .frame-of .ensures .there _ (c .before .f2 .given .1) in
+    let after-frame-of = c .before .before .before in
+    let there = after-frame-of .frame-of .ensures .there _ (c .before .f2 .given .1) in
     omega (arith, there .0)
 
 part-answer-framed-start : tie.Need-part-answer-framed-start
 part-answer-framed-start c =
-    let there = c .before .before .before .frame-of .ensures .there _ (c .before .f2 .given .1) in
+    let after-frame-of = c .before .before .before in
+    let there = after-frame-of .frame-of .ensures .there _ (c .before .f2 .given .1) in
     there .0
 
 part-answer-framed-end : tie.Need-part-answer-framed-end
 part-answer-framed-end c =
-    let there = c .before .before .before .frame-of .ensures .there _ (c .before .f2 .given .1) in
+    let after-frame-of = c .before .before .before in
+    let there = after-frame-of .frame-of .ensures .there _ (c .before .f2 .given .1) in
     there .1
 
 sub-answer-framed-2 : tie.Need-sub-answer-framed-2
 sub-answer-framed-2 c =
-    let there = c .before .before .before .before .frame-of .ensures .there _ (c .before .before .f2 .given .1) in
+    let after-frame-of = c .before .before .before .before in
+    let there = after-frame-of .frame-of .ensures .there _ (c .before .before .f2 .given .1) in
     omega (arith, there .1)
 
 part-answer-framed-start-2 : tie.Need-part-answer-framed-start-2
 part-answer-framed-start-2 c =
-    let there = c .before .before .before .before .frame-of .ensures .there _ (c .before .before .f2 .given .1) in
+    let after-frame-of = c .before .before .before .before in
+    let there = after-frame-of .frame-of .ensures .there _ (c .before .before .f2 .given .1) in
     there .1
 
 part-answer-framed-end-2 : tie.Need-part-answer-framed-end-2

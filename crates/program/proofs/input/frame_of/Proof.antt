@@ -19,7 +19,9 @@ length-is c =
 -- it is negative, or it is not
 sign-is : (c : tie.After-not-negative) → c .not-negative .result
     ≡ nonNeg (field (c .before .before .before .before .before .before .before .args .input .now) 0)
-sign-is c = c .not-negative .ensures ∙ ap nonNeg (c .before .before .before .before .number-at .ensures)
+sign-is c =
+    let after-number-at = c .before .before .before .before in
+    c .not-negative .ensures ∙ ap nonNeg (after-number-at .number-at .ensures)
 
 returns : tie.Need-returns
 returns c = frame-short _ (c .if1 .taken)
@@ -34,7 +36,9 @@ at-most-requires : tie.Need-at-most-requires
 at-most-requires c κs = search needs
 
 returns-2 : tie.Need-returns-2
-returns-2 c = frame-long _ (c .before .before .before .before .if1 .left) (sym (length-is (c .before)) ∙ not-true _ (c .if2 .taken))
+returns-2 c =
+    let else1 = c .before .before .before .before in
+    frame-long _ (else1 .if1 .left) (sym (length-is (c .before)) ∙ not-true _ (c .if2 .taken))
 
 not-negative-requires : tie.Need-not-negative-requires
 not-negative-requires c κs = search needs

@@ -37,7 +37,8 @@ returns-2 c =
 
 loop-holds : tie.Need-loop-holds Inv-loop μ-loop
 loop-holds c =
-    let n = length (c .before .before .before .args .rest .now) / 4 in
+    let s = c .before .before .before in
+    let n = length (s .args .rest .now) / 4 in
     let e : n - 0 ≡ n = omega arith in
     (rw e refl, refl, omega arith)
 
