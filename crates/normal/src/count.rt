@@ -68,23 +68,17 @@ fn count_trees(
     requires { ⌜ StandingAll (varsOf (now s)) (now s) at left many × (left ≤ 2048) × (many ≤ 64) × (sofar ≤ 65) ⌝ }
     ensures { λ r. ⌜ CountsAll (now (s .entry)) at many branches sofar (r .many) × EndsAll (now (s .entry)) at many (r .next) ⌝ }
 {
-    if many < 1 {
-        return Branches {
-            many: sofar,
-            next: at,
-        };
+    let mut sum = sofar;
+    let mut next = at;
+    let mut more = many;
+    while more > 0 {
+        let one = count_tree(s, next, left);
+        let n = one.many;
+        sum = joined(branches, sum, n);
+        next = one.next;
+        more -= 1;
     }
-    let first = count_tree(s, at, left);
-    let n = first.many;
-    let next = first.next;
-    count_trees(
-        s,
-        next,
-        left,
-        many - 1,
-        branches,
-        joined(branches, sofar, n),
-    )
+    Branches { many: sum, next }
 }
 
 // How many branches the tree at `at` has.

@@ -15,19 +15,22 @@ use Rattle.tree.proofs.node.natural.Reads as natural-reads
 use Rattle.tree.proofs.node.node_len.Reads as node-len-reads
 use Rattle.normal.proofs.count.+count_tree+count_trees.{statement}
 use Rattle.normal.proofs.count.+count_tree+count_trees.Tie.{close}
-use Prim.Native.Nat.{ℕ, _+_, _*_, _<_}
+use Prim.Native.Nat.{ℕ, _+_, _*_, _≤_, _<_}
 use native.Mathlib.Omega.{arith}
 use borrow.Author.Needs.{needs}
 use lib.Dec.{eqb}
+use Rattle.laws.specs.Sheets.{varsOf}
+use Rattle.tree.specs.Standing.{StandingAll}
 use Rattle.tree.proofs.Noding.{code-there}
 use Rattle.tree.proofs.Standings.{standing-noded, standing-some, standing-there, standing-children, children-few, first-standing, rest-standing}
+use Rattle.normal.specs.Counted.{CountsAll, EndsAll}
 use Rattle.normal.proofs.Counting.{alone-low, node-way, none-way, more-way, node-ends, none-ends, more-ends}
 
 abbrev μ-count-tree : Measures 1 count-tree-kinds.ps ℕ
-μ-count-tree κs a = 70 * a .1 .1 .0
+μ-count-tree κs a = 2 * a .1 .1 .0
 
 abbrev μ-count-trees : Measures 1 count-trees-kinds.ps ℕ
-μ-count-trees κs a = 70 * a .1 .1 .0 + (a .1 .1 .1 .0 + 1)
+μ-count-trees κs a = 2 * a .1 .1 .0 + 1
 
 abbrev count-tree-at : ℕ → In 1 count-tree-kinds.ps
 count-tree-at t =
@@ -60,7 +63,7 @@ count-tree-uses t = (
 )
 
 abbrev count-trees-uses : ℕ → count-trees-lts.Claims
-count-trees-uses t = (count-tree-below t, count-tree.Post, joined-reads.Asked, joined-reads.Learnt, count-trees-below t, count-trees.Post)
+count-trees-uses t = (count-tree-below t, count-tree.Post, joined-reads.Asked, joined-reads.Learnt)
 
 count-tree-natural-requires : (t : ℕ) → count-tree-lts.Need-natural-requires (count-tree-uses t) (count-tree-at t) count-tree.Post
 count-tree-natural-requires t c κs = code-there _ _ _ (standing-noded _ _ _ _ (c .before .pre .1 .0))
@@ -116,43 +119,60 @@ count-tree-returns t c =
       node-ends _ _ _ _ _ long many (c .count-trees .ensures .1),
     )
 
-count-trees-returns : (t : ℕ) → count-trees-lts.Need-returns (count-trees-uses t) (count-trees-at t) count-trees.Post
-count-trees-returns t c =
-    (none-way _ _ _ (c .before .before .args .branches) _ (c .if1 .taken) (c .before .before .pre .1 .3), none-ends _ _ _ (c .if1 .taken))
+-- what the trees from here on come to is what all of them do, and they end where all of them end
+abbrev count-trees-Inv-loop : count-trees-lts.InvT-loop
+count-trees-Inv-loop s at left many branches sofar sum₀ next₀ more₀ sum next more =
+    StandingAll (varsOf s) s next left more × (sum ≤ 65) × ((r : ℕ) → CountsAll s next more branches sum r → CountsAll s at many branches sofar r)
+    × ((r : ℕ) → EndsAll s next more r → EndsAll s at many r)
 
-count-trees-count-tree-requires : (t : ℕ) → count-trees-lts.Need-count-tree-requires (count-trees-uses t) (count-trees-at t) count-trees.Post
+abbrev count-trees-μ-loop : count-trees-lts.MeasureT-loop
+count-trees-μ-loop s at left many branches sofar sum₀ next₀ more₀ sum next more = more
+
+count-trees-loop-holds : (t : ℕ) → count-trees-lts.Need-loop-holds (count-trees-uses t) (count-trees-at t)
+    count-trees.Post count-trees-Inv-loop count-trees-μ-loop
+count-trees-loop-holds t c = (c .before .pre .1 .0, c .before .pre .1 .3, (λ r h. h), (λ r h. h))
+
+count-trees-count-tree-requires : (t : ℕ) → count-trees-lts.Need-count-tree-requires (count-trees-uses t) (count-trees-at t)
+    count-trees.Post count-trees-Inv-loop count-trees-μ-loop
 count-trees-count-tree-requires t c κs =
-    let s = c .before .before in
-    (omega arith, (first-standing _ _ _ _ _ (c .if1 .left) (s .pre .1 .0), s .pre .1 .1))
-
-count-trees-joined-requires : (t : ℕ) → count-trees-lts.Need-joined-requires (count-trees-uses t) (count-trees-at t) count-trees.Post
-count-trees-joined-requires t c κs =
     let s = c .before .before .before in
-    (s .pre .1 .3, c .count-tree .ensures .0 .0)
+    let is = s .pre .0 in
+    (omega arith, (first-standing _ _ _ _ _ (c .loop-test .taken) (c .before .loop .inv .0), s .pre .1 .1))
 
-count-trees-count-trees-requires : (t : ℕ) → count-trees-lts.Need-count-trees-requires (count-trees-uses t) (count-trees-at t) count-trees.Post
-count-trees-count-trees-requires t c κs =
-    let s = c .before .before .before .before in
-    let some = c .before .before .if1 .left in
-    let is = s .pre .0 in (
-      omega arith,
-      (
-        rest-standing _ _ _ _ _ some (s .pre .1 .0) _ (c .before .count-tree .ensures .1),
-        s .pre .1 .1,
-        omega (arith, s .pre .1 .2),
-        omega (arith, c .joined .ensures),
-      ),
+count-trees-joined-requires : (t : ℕ) → count-trees-lts.Need-joined-requires (count-trees-uses t) (count-trees-at t)
+    count-trees.Post count-trees-Inv-loop count-trees-μ-loop
+count-trees-joined-requires t c κs = (c .before .before .loop .inv .1, c .count-tree .ensures .0 .0)
+
+count-trees-sub-more : (t : ℕ) → count-trees-lts.Need-sub-more (count-trees-uses t) (count-trees-at t)
+    count-trees.Post count-trees-Inv-loop count-trees-μ-loop
+count-trees-sub-more t c = omega (arith, c .before .before .loop-test .taken)
+
+count-trees-loop-less : (t : ℕ) → count-trees-lts.Need-loop-less (count-trees-uses t) (count-trees-at t)
+    count-trees.Post count-trees-Inv-loop count-trees-μ-loop
+count-trees-loop-less t c = omega (arith, c .before .before .loop-test .taken)
+
+count-trees-loop-again : (t : ℕ) → count-trees-lts.Need-loop-again (count-trees-uses t) (count-trees-at t)
+    count-trees.Post count-trees-Inv-loop count-trees-μ-loop
+count-trees-loop-again t c =
+    let here = c .before .before in
+    let loop = here .before .loop in
+    let more = here .loop-test .taken in
+    let one = c .before .count-tree .ensures in
+    let s = here .before .before .before in (
+      rest-standing _ _ _ _ _ more (loop .inv .0) _ (one .1),
+      omega (arith, c .joined .ensures),
+      (λ r h. loop .inv .2 r (more-way _ _ _ (s .args .branches) (loop .sum) _ _ _ _ more (one .0) (one .1) (c .joined .ensures) h)),
+      (λ r h. loop .inv .3 r (more-ends _ _ _ _ _ more (one .1) h)),
     )
 
-count-trees-returns-2 : (t : ℕ) → count-trees-lts.Need-returns-2 (count-trees-uses t) (count-trees-at t) count-trees.Post
-count-trees-returns-2 t c =
-    let else1 = c .before .before .before in
-    let s = else1 .before .before in
-    let more = else1 .if1 .left in
-    let first = c .before .before .count-tree .ensures in (
-      more-way _ _ _ (s .args .branches) (s .args .sofar) _ _ _ _ more (first .0) (first .1) (c .before .joined .ensures)
-          (c .count-trees .ensures .0),
-      more-ends _ _ _ _ _ more (first .1) (c .count-trees .ensures .1),
+count-trees-returns : (t : ℕ) → count-trees-lts.Need-returns (count-trees-uses t) (count-trees-at t)
+    count-trees.Post count-trees-Inv-loop count-trees-μ-loop
+count-trees-returns t c =
+    let loop = c .before .loop in
+    let s = c .before .before .before in
+    let none = c .loop-test .left in (
+      loop .inv .2 _ (none-way _ _ _ (s .args .branches) (loop .sum) (omega (arith, none)) (loop .inv .1)),
+      loop .inv .3 _ (none-ends _ _ _ (omega (arith, none))),
     )
 
 pub +count-tree+count-trees-spec : {M : Type 1} → statement M
@@ -168,8 +188,12 @@ pub +count-tree+count-trees-spec : {M : Type 1} → statement M
     (count-tree-returns t))
     λ t. count-trees-lts.spec (count-trees-uses t) (count-trees-at t)
     count-trees.Post
-    (count-trees-returns t)
+    count-trees-Inv-loop
+    count-trees-μ-loop
+    (count-trees-loop-holds t)
     (count-trees-count-tree-requires t)
     (count-trees-joined-requires t)
-    (count-trees-count-trees-requires t)
-    (count-trees-returns-2 t)
+    (count-trees-sub-more t)
+    (count-trees-loop-less t)
+    (count-trees-loop-again t)
+    (count-trees-returns t)
