@@ -45,7 +45,8 @@ module _ (s : Sheet) where
   }
 
   module _ (ins : List ℤ) where
-    sub : (memo : Memo) (f g : Thing) → Waits (outcomes s ins) (total s) memo f → ((k : ℕ) → g k ≡ loop → f k ≡ loop) → Waits (outcomes s ins) (total s) memo g
+    sub : (memo : Memo) (f g : Thing) → Waits (outcomes s ins) (total s) memo f → ((k : ℕ) → g k ≡ loop → f k ≡ loop) →
+        Waits (outcomes s ins) (total s) memo g
     sub memo f g W h = waits-sub (outcomes s ins) (element-grows ins) (total s) memo f g W h
 
     later : (memo last : Memo) (f : Thing) → Waits (outcomes s ins) (total s) memo f → Kept memo last → Waits (outcomes s ins) (total s) last f
@@ -53,7 +54,8 @@ module _ (s : Sheet) where
 
   -- ---- one thing that is another
 
-  pub done-same : (memo last : Memo) (f g : List ℤ → Thing) (r : Work) → ((ins : List ℤ) (k : ℕ) → f ins k ≡ g ins k) → Done s memo last g r → Done s memo last f r
+  pub done-same : (memo last : Memo) (f g : List ℤ → Thing) (r : Work) → ((ins : List ℤ) (k : ℕ) → f ins k ≡ g ins k) → Done s memo last g r →
+      Done s memo last f r
   done-same memo last f g r is D = record {
     kept = D .kept;
     wanted = D .wanted;
@@ -68,11 +70,16 @@ module _ (s : Sheet) where
   -- a thing that is the same at every depth, and an operator's answer says it
   pub done-known : (memo : Memo) (o : Outcomes.Outcome) (defined : Outcome) → Range.Says o defined → Done s memo memo (λ ins k. defined) (workOf o)
   unfolding Says
-  done-known memo Declared.Outside d h = record { kept = kept-same memo; wanted = tt; small = tt; said = λ ins R W. record { right = R; says = sym (h .is) } }
-  done-known memo (Declared.Value x) d h = record { kept = kept-same memo; wanted = tt; small = h .small; said = λ ins R W. record { right = R; says = sym (h .is) } }
-  done-known memo Declared.DivZero d h = record { kept = kept-same memo; wanted = tt; small = tt; said = λ ins R W. record { right = R; says = sym (h .is) } }
-  done-known memo Declared.Overflow d h = record { kept = kept-same memo; wanted = tt; small = tt; said = λ ins R W. record { right = R; says = sym (h .is) } }
-  done-known memo Declared.Loop d h = record { kept = kept-same memo; wanted = tt; small = tt; said = λ ins R W. record { right = R; says = λ k. sym (h .is) } }
+  done-known memo Declared.Outside d h =
+      record { kept = kept-same memo; wanted = tt; small = tt; said = λ ins R W. record { right = R; says = sym (h .is) } }
+  done-known memo (Declared.Value x) d h = record
+      { kept = kept-same memo; wanted = tt; small = h .small; said = λ ins R W. record { right = R; says = sym (h .is) } }
+  done-known memo Declared.DivZero d h =
+      record { kept = kept-same memo; wanted = tt; small = tt; said = λ ins R W. record { right = R; says = sym (h .is) } }
+  done-known memo Declared.Overflow d h =
+      record { kept = kept-same memo; wanted = tt; small = tt; said = λ ins R W. record { right = R; says = sym (h .is) } }
+  done-known memo Declared.Loop d h =
+      record { kept = kept-same memo; wanted = tt; small = tt; said = λ ins R W. record { right = R; says = λ k. sym (h .is) } }
 
   pub done-value : (memo : Memo) (x : Int) → In32 (x .v) → Done s memo memo (λ ins k. value (x .v)) (Value x)
   done-value memo x h = done-known memo (Declared.Value x) (value (x .v)) (record { is = refl; small = h })
@@ -101,7 +108,8 @@ module _ (s : Sheet) where
     }
 
     -- it has the value x, and then what follows is worked out
-    pub done-next : (memo mid last : Memo) (x : Int) (r : Work) → Done s memo mid f (Value x) → Done s mid last (next (x .v)) r → Done s memo last after r
+    pub done-next : (memo mid last : Memo) (x : Int) (r : Work) → Done s memo mid f (Value x) → Done s mid last (next (x .v)) r →
+        Done s memo last after r
     unfolding Says
     done-next memo mid last x r D E = record {
       kept = kept-two (D .kept) (E .kept);
@@ -112,6 +120,12 @@ module _ (s : Sheet) where
           let S = D .said ins R (sub ins memo (after ins) (f ins) W (first-loops ins)) in
           let c = count mid in
           let W2 = later ins memo mid (after ins) W (D .kept) in
-          let T = E .said ins (S .right) (sub ins mid (after ins) (next (x .v) ins) W2 (never out (f ins) (grows ins) (λ y. next y ins) c c (x .v) (omega arith) (S .says))) in
-          record { right = T .right; says = says-next out (f ins) (grows ins) (λ y. next y ins) c (count last) (x .v) (E .kept .more) (S .says) r (T .says) };
+          let T =
+          E .said ins (S .right) (sub ins mid (after ins) (next (x .v) ins) W2
+          (never out (f ins) (grows ins) (λ y. next y ins) c c (x .v) (omega arith) (S .says))) in
+          record {
+            right =
+                T .right;
+            says = says-next out (f ins) (grows ins) (λ y. next y ins) c (count last) (x .v) (E .kept .more) (S .says) r (T .says);
+          };
     }

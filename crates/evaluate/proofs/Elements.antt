@@ -44,10 +44,12 @@ use Rattle.domain.proofs.Bodying.{body-walk}
 use Rattle.evaluate.specs.declared.Work.{Work}
 use Rattle.evaluate.specs.declared.Work.the-variants.{Outside, Value, DivZero, Overflow, Loop, Deep}
 use Rattle.evaluate.specs.declared.Worked.{Worked}
-use Rattle.evaluate.specs.Memo.{busy, unknown, Thing, element, Memo, codeAt, valueAt, count, Right, Waits, Says, Said, Kept, Wanted, Small, noted, codeOf, valueOf}
+use Rattle.evaluate.specs.Memo.{busy, unknown, Thing, element, Memo, codeAt, valueAt, count, Right, Waits, Says, Said, Kept, Wanted, Small}
+use Rattle.evaluate.specs.Memo.{noted, codeOf, valueOf}
 use Rattle.evaluate.specs.Working.{entryOf, elementAt, outcomes, expression, Bodied, Ready, Done, ElementIs, Evaluated, EvaluatesAt}
 use Rattle.evaluate.specs.Settling.{bodyOf}
-use Rattle.evaluate.proofs.Stores.{decide, code-same, code-other, kept-same, kept-stored, still-busy, in-last, wanted-stored, sized-noted, sized-kept, busy-loops, right-mark, waits-mark, said-stored}
+use Rattle.evaluate.proofs.Stores.{decide, code-same, code-other, kept-same, kept-stored, still-busy, in-last, wanted-stored, sized-noted}
+use Rattle.evaluate.proofs.Stores.{sized-kept, busy-loops, right-mark, waits-mark, said-stored}
 use Rattle.evaluate.proofs.Doing.{element-grows, ready-sized, done-same, done-outside}
 
 module _ (bs tab : List ℕ) (F : Formed bs tab) (v e : ℕ) (z : List Int) (I : ElementIs bs v e z) where
@@ -93,7 +95,9 @@ module _ (bs tab : List ℕ) (F : Formed bs tab) (v e : ℕ) (z : List Int) (I :
     element-walk place is =
         body-walk bs tab v (index box point) laid (index-low box point (I .in-box)) F (I .known) no-input z
         (record {
-          is = ap (λ n. pointOf n z) (laid .dims-are) ∙ sym (pointAt-index box point (I .in-box)) ∙ ap (λ b. pointAt b (index box point)) (sym (laid .box-is));
+          is =
+              ap (λ n. pointOf n z) (laid .dims-are) ∙ sym (pointAt-index box point (I .in-box))
+              ∙ ap (λ b. pointAt b (index box point)) (sym (laid .box-is));
           rest = subst (λ n. Padded n z) (sym (laid .dims-are)) (I .rest);
         })
         place is
@@ -122,7 +126,8 @@ module _ (bs tab : List ℕ) (F : Formed bs tab) (v e : ℕ) (z : List Int) (I :
           Done sheet memo last (λ ins. expression sheet ins (variable sheet v .body) point) (r .out)
       body-evaluated memo last r E = E (variable sheet v .body) (variable sheet v .end) (dimension (headsOf bs) v) body-at body-fits .done
 
-    pub body-by-number : (memo last : Memo) (r : Work) → Done sheet memo last (λ ins. expression sheet ins (variable sheet v .body) point) r → Done sheet memo last (bodyOf sheet e) r
+    pub body-by-number : (memo last : Memo) (r : Work) → Done sheet memo last (λ ins. expression sheet ins (variable sheet v .body) point) r →
+        Done sheet memo last (bodyOf sheet e) r
     body-by-number memo last r D =
         done-same sheet memo last (bodyOf sheet e) (λ ins. expression sheet ins (variable sheet v .body) point) r
         (λ ins k. ap (λ x. expression sheet ins (variable sheet (x .who) .body) (x .at) k) element-is) D
@@ -134,8 +139,10 @@ module _ (bs tab : List ℕ) (F : Formed bs tab) (v e : ℕ) (z : List Int) (I :
     in-memo = omega (arith, M .few, M .codes-long, element-low)
 
     -- what the memo has
-    known-says : (c : ℕ) (x : Int) → codeAt memo e ≡ c → c < 6 → x .v ≡ valueAt memo e → (ins : List ℤ) → Right (outcomes sheet ins) (total sheet) memo →
-        Waits (outcomes sheet ins) (total sheet) memo (element (outcomes sheet ins) e) → Says (outcomes sheet ins) (element (outcomes sheet ins) e) (count memo) (entryOf c x)
+    known-says : (c : ℕ) (x : Int) → codeAt memo e ≡ c → c < 6 → x .v ≡ valueAt memo e → (ins : List ℤ) →
+        Right (outcomes sheet ins) (total sheet) memo →
+        Waits (outcomes sheet ins) (total sheet) memo (element (outcomes sheet ins) e) →
+        Says (outcomes sheet ins) (element (outcomes sheet ins) e) (count memo) (entryOf c x)
     unfolding Says
     known-says zero x is l same ins R W = rw is at (R .settled e element-low (omega (arith, is)))
     known-says (suc zero) x is l same ins R W = (rw is at (R .settled e element-low (omega (arith, is)))) ∙ ap value (sym same)
@@ -143,10 +150,12 @@ module _ (bs tab : List ℕ) (F : Formed bs tab) (v e : ℕ) (z : List Int) (I :
     known-says (suc (suc (suc zero))) x is l same ins R W = rw is at (R .settled e element-low (omega (arith, is)))
     known-says (suc (suc (suc (suc zero)))) x is l same ins R W = R .stuck e element-low is
     known-says (suc (suc (suc (suc (suc zero))))) x is l same ins R W =
-        busy-loops (outcomes sheet ins) (element-grows sheet ins) (total sheet) memo e element-low is (starts (M .opens e element-low (omega (arith, is))) ins) W
+        busy-loops (outcomes sheet ins) (element-grows sheet ins) (total sheet) memo e element-low is
+        (starts (M .opens e element-low (omega (arith, is))) ins) W
     known-says (suc (suc (suc (suc (suc (suc c)))))) x is l same ins R W = absurd (omega arith)
 
-    pub known-way : (x : Int) (r : Work) → codeAt memo e < 6 → x .v ≡ valueAt memo e → r ≡ entryOf (codeAt memo e) x → Small r → Done sheet memo memo (λ ins. element (outcomes sheet ins) e) r
+    pub known-way : (x : Int) (r : Work) → codeAt memo e < 6 → x .v ≡ valueAt memo e → r ≡ entryOf (codeAt memo e) x → Small r →
+        Done sheet memo memo (λ ins. element (outcomes sheet ins) e) r
     known-way x r l same is small = record {
       kept = kept-same memo;
       wanted = rw is (settled-wanted (codeAt memo e) x);
@@ -221,13 +230,15 @@ module _ (bs tab : List ℕ) (F : Formed bs tab) (v e : ℕ) (z : List Int) (I :
               let then = steps open-body ins in
               let D = body-done .said ins (right-mark out grows (total sheet) e element-low body first then memo S fresh (pos 0) R)
               (waits-mark out grows (total sheet) e element-low body first then memo S fresh (pos 0) W) in
-              said-stored out grows (total sheet) e element-low body first then last (sized-kept (total sheet) marked last marked-sized (body-done .kept))
+              said-stored out grows (total sheet) e element-low body first then last
+              (sized-kept (total sheet) marked last marked-sized (body-done .kept))
               (still-busy memo e (pos 0) in-memo fresh last (body-done .kept)) (r .out) D;
         }
 
 -- ---- a variable at a point
 
-module _ (bs tab : List ℕ) (F : Formed bs tab) (p left : ℕ) (z : List Int) (w : Walk bs p left z) (code : natAbs (field bs p) ≡ 0) (v : ℕ) (number : v ≡ natAbs (field bs (p + 8))) where
+module _ (bs tab : List ℕ) (F : Formed bs tab) (p left : ℕ) (z : List Int) (w : Walk bs p left z) (code : natAbs (field bs p) ≡ 0) (v : ℕ)
+    (number : v ≡ natAbs (field bs (p + 8))) where
   -- any tree there is this variable
   record Named (e : Expr) (q n : ℕ) : Type 0 where
     is : e ≡ var v
@@ -257,7 +268,8 @@ module _ (bs tab : List ℕ) (F : Formed bs tab) (p left : ℕ) (z : List Int) (
     here = pointOf (dimension (headsOf bs) v) z
 
     -- the tree by the variable's outcome
-    variable-same : (e : Expr) (q n : ℕ) → Named e q n → (ins : List ℤ) (k : ℕ) → expression (sheetOf bs) ins e (pointOf n z) k ≡ outcome k (sheetOf bs) ins v here
+    variable-same : (e : Expr) (q n : ℕ) → Named e q n → (ins : List ℤ) (k : ℕ) →
+        expression (sheetOf bs) ins e (pointOf n z) k ≡ outcome k (sheetOf bs) ins v here
     unfolding eval
     variable-same e q n x ins k =
         ap (λ t. expression (sheetOf bs) ins t (pointOf n z) k) (x .is) ∙ ap (λ d. outcome k (sheetOf bs) ins v (pointOf d z)) (sym (x .wide))
@@ -267,7 +279,8 @@ module _ (bs tab : List ℕ) (F : Formed bs tab) (p left : ℕ) (z : List Int) (
         EvaluatesAt bs p z memo memo (record { out = Outside; next = p + 16 })
     off-way memo off e q n h f =
         let x = named e q n h f in
-        let outer : inBox (variable (sheetOf bs) v .head .box) here ≡ false = off-outside (variable (sheetOf bs) v .head .box) here (number-is bs tab v z there Found.Off off) in
+        let outer : inBox (variable (sheetOf bs) v .head .box) here ≡ false =
+        off-outside (variable (sheetOf bs) v .head .box) here (number-is bs tab v z there Found.Off off) in
         let undeclared : inDomain (variable (sheetOf bs) v) here ≡ false = ap (λ b. b && meetsAll (variable (sheetOf bs) v .declared) here) outer in
         record {
           done = done-same (sheetOf bs) memo memo (λ ins. expression (sheetOf bs) ins e (pointOf n z)) (λ ins k. outside) Outside
@@ -291,12 +304,14 @@ module _ (bs tab : List ℕ) (F : Formed bs tab) (p left : ℕ) (z : List Int) (
       pub number-few : getD tab (32 + v) 0 + i < 4096
       number-few = omega (arith, numbered .is, there .first-is, index-low (variable (sheetOf bs) v .head .box) here (numbered .inside), there .few)
 
-      pub variable-way : (e : ℕ) → e ≡ getD tab (32 + v) 0 + i → (memo last : Memo) (r : Work) → Done (sheetOf bs) memo last (λ ins. element (outcomes (sheetOf bs) ins) e) r →
+      pub variable-way : (e : ℕ) → e ≡ getD tab (32 + v) 0 + i → (memo last : Memo) (r : Work) →
+          Done (sheetOf bs) memo last (λ ins. element (outcomes (sheetOf bs) ins) e) r →
           EvaluatesAt bs p z memo last (record { out = r; next = p + 16 })
       variable-way e is memo last r D t q n h f =
           let x = named t q n h f in
           record {
-            done = done-same (sheetOf bs) memo last (λ ins. expression (sheetOf bs) ins t (pointOf n z)) (λ ins. element (outcomes (sheetOf bs) ins) e) r
+            done =
+                done-same (sheetOf bs) memo last (λ ins. expression (sheetOf bs) ins t (pointOf n z)) (λ ins. element (outcomes (sheetOf bs) ins) e) r
                 (λ ins k. variable-same t q n x ins k ∙ sym (outcome-is bs tab F v e z (named-element e is) ins k)) D;
             ends = λ y g. sym (x .end);
           }

@@ -46,6 +46,7 @@ pub not-deep : (r : Work) → OneOf (0 ∷ 1 ∷ 2 ∷ 3 ∷ 4 ∷ []) (tagOf th
 not-deep r h d e = miss (0 ∷ 1 ∷ 2 ∷ 3 ∷ 4 ∷ []) 5 tt (rw e at h)
 
 -- two tables with an entry stored are the memo with it
-pub noted-is : (memo : Memo) (codes : List ℕ) (values : List ℤ) (e c : ℕ) (x y : ℤ) → codes ≡ set (memo .codes) e c → values ≡ set (memo .values) e x → x ≡ y →
+pub noted-is : (memo : Memo) (codes : List ℕ) (values : List ℤ) (e c : ℕ) (x y : ℤ) → codes ≡ set (memo .codes) e c →
+    values ≡ set (memo .values) e x → x ≡ y →
     memoOf codes values ≡ noted memo e c y
 noted-is memo codes values e c x y f g h = rw (f, g, h)

@@ -42,7 +42,8 @@ module _ (bs tab : List ℕ) (F : Formed bs tab) (e : ℕ) where
       go l =
           let same = laid-length bs tab (F .placed) in
           let suc-is = before-suc (sheetOf bs) v (l .known) in
-          let last : suc v ≡ length (sheetOf bs) → before (sheetOf bs) (suc v) ≡ total (sheetOf bs) = λ is. ap (before (sheetOf bs)) is ∙ before-all (sheetOf bs) in
+          let last : suc v ≡ length (sheetOf bs) → before (sheetOf bs) (suc v) ≡ total (sheetOf bs) =
+          λ is. ap (before (sheetOf bs)) is ∙ before-all (sheetOf bs) in
           not-last (λ is. let t = last (omega (arith, same)) in omega (arith, l .last-is))
         where
           not-last : (v + 1 ≡ varsOf bs → ⊥) → v + 1 < varsOf bs

@@ -15,7 +15,8 @@ use Rattle.alpha.specs.Outcome.{loop}
 use Rattle.laws.proofs.Growth.{outcome-none, outcome-body}
 use Rattle.evaluate.specs.declared.Work.{Work}
 use Rattle.evaluate.specs.declared.Work.the-variants.{Outside, Value, DivZero, Overflow, Loop, Deep}
-use Rattle.evaluate.specs.Memo.{busy, unknown, Memo, codeAt, sum, settledOne, busyOne, toDo, Right, Waits, Says, Said, Kept, noted, codeOf, valueOf}
+use Rattle.evaluate.specs.Memo.{busy, unknown, Memo, codeAt, sum, settledOne, busyOne, toDo, Right, Waits, Says, Said, Kept, noted, codeOf}
+use Rattle.evaluate.specs.Memo.{valueOf}
 use Rattle.evaluate.specs.Working.{elementAt, outcomes, Bodied, Ready, Done}
 use Rattle.evaluate.specs.Settling.{bodyOf, standing, Stacked, Linked, Turned, Idle, Settled}
 use Rattle.evaluate.proofs.Stores.{decide, code-same, code-other, sum-store, answer-unmarked, sized-kept, loop-down, right-set, said-stored}
@@ -92,10 +93,12 @@ module _ (s : Sheet) (memo : Memo) (M : Ready s memo) (stack : List ℕ) (high :
     body-there = M .opens (standing stack j) (St .element j lt) (omega (arith, St .marked j lt))
 
     starts : (ins : List ℤ) → outcomes s ins 0 (standing stack j) ≡ loop
-    starts ins = outcome-none s ins (elementAt s (standing stack j) .who) (elementAt s (standing stack j) .at) (body-there .domain) (body-there .no-input)
+    starts ins =
+        outcome-none s ins (elementAt s (standing stack j) .who) (elementAt s (standing stack j) .at) (body-there .domain) (body-there .no-input)
 
     steps : (ins : List ℤ) (k : ℕ) → outcomes s ins (suc k) (standing stack j) ≡ bodyOf s (standing stack j) ins k
-    steps ins k = outcome-body s ins (elementAt s (standing stack j) .who) (elementAt s (standing stack j) .at) (body-there .domain) (body-there .no-input) k
+    steps ins k =
+        outcome-body s ins (elementAt s (standing stack j) .who) (elementAt s (standing stack j) .at) (body-there .domain) (body-there .no-input) k
 
   pub high-few : high ≤ 4096
   high-few = omega (arith, St .height, M .codes-long, marks-few (memo .codes))
@@ -115,7 +118,8 @@ module _ (s : Sheet) (memo : Memo) (M : Ready s memo) (stack : List ℕ) (high :
     down (suc d) j is k q =
         let above : outcomes s ins (suc k) (standing stack (suc j)) ≡ loop = down d (suc j) (omega arith) k q in
         steps j (omega arith) ins k
-        ∙ L .link j (omega arith) k (loop-down (outcomes s ins) (element-grows s ins) (total s) k (suc k) (standing stack (suc j)) (omega arith) above)
+        ∙ L .link j (omega arith) k
+        (loop-down (outcomes s ins) (element-grows s ins) (total s) k (suc k) (standing stack (suc j)) (omega arith) above)
 
     waits-top : Waits (outcomes s ins) (total s) memo (bodyOf s top ins)
     waits-top = record {
@@ -140,7 +144,8 @@ module _ (s : Sheet) (memo : Memo) (M : Ready s memo) (stack : List ℕ) (high :
     still : (j : ℕ) → j < high → codeAt last (standing stack j) ≡ busy
     still j h = D .kept .still (standing stack j) (St .marked j h)
 
-    said : (ins : List ℤ) → Right (outcomes s ins) (total s) memo → Linked s ins stack high → Said (outcomes s ins) (total s) last (bodyOf s top ins) r
+    said : (ins : List ℤ) → Right (outcomes s ins) (total s) memo → Linked s ins stack high →
+        Said (outcomes s ins) (total s) last (bodyOf s top ins) r
     said ins R L = D .said ins R (waits-top ins L)
 
     -- ---- the one on top is settled
@@ -151,27 +156,46 @@ module _ (s : Sheet) (memo : Memo) (M : Ready s memo) (stack : List ℕ) (high :
 
       pub popped-turn : Turned s memo stack high popped stack (high - 1)
       popped-turn = record {
-        ready = ready-noted s last ready-last top (codeOf r) (valueOf r) top-element (omega (arith, settled-code r done .0)) (λ l. absurd (omega (arith, settled-code r done .0)));
+        ready =
+            ready-noted s last ready-last top (codeOf r) (valueOf r) top-element (omega (arith, settled-code r done .0))
+            (λ l. absurd (omega (arith, settled-code r done .0)));
         stacked = record {
           sized = St .sized;
-          height = omega (arith, St .height, D .kept .marks, sum-store busyOne last top busy (codeOf r) (valueOf r) (in-last top top-element) (still (high - 1) (omega arith)), answer-unmarked r);
+          height =
+              omega (
+                arith,
+                St .height,
+                D .kept .marks,
+                sum-store busyOne last top busy (codeOf r) (valueOf r) (in-last top top-element) (still (high - 1) (omega arith)),
+                answer-unmarked r,
+              );
           element = λ j h. St .element j (omega arith);
-          marked = λ j h. code-other last top (codeOf r) (valueOf r) (standing stack j) (λ e. St .apart j (high - 1) h (omega arith) e) ∙ still j (omega arith);
+          marked =
+              λ j h. code-other last top (codeOf r) (valueOf r) (standing stack j) (λ e. St .apart j (high - 1) h (omega arith) e)
+              ∙ still j (omega arith);
           found = λ m h b. decide m top (ℕ-discrete m top)
-              (λ same. absurd (let c : codeOf r ≡ busy = sym (code-same last top (codeOf r) (valueOf r) (in-last top top-element)) ∙ rw same at b in omega (arith, settled-code r done .0)))
+              (λ same. absurd (let c : codeOf r ≡ busy = sym (code-same last top (codeOf r) (valueOf r) (in-last top top-element))
+              ∙ rw same at b in omega (arith, settled-code r done .0)))
               (λ other.
               let f = St .found m h (D .kept .idle m (sym (code-other last top (codeOf r) (valueOf r) m other) ∙ b)) in
               (f .0, before (f .0) (f .1) (λ e. other (sym (f .2) ∙ ap (standing stack) e)), f .2));
           apart = λ i j l h e. St .apart i j l (omega arith) e;
         };
-        less = omega (arith, D .kept .less, sum-store toDo last top busy (codeOf r) (valueOf r) (in-last top top-element) (still (high - 1) (omega arith)), settled-code r done .1);
+        less =
+            omega (
+              arith,
+              D .kept .less,
+              sum-store toDo last top busy (codeOf r) (valueOf r) (in-last top top-element) (still (high - 1) (omega arith)),
+              settled-code r done .1,
+            );
         first = refl;
         settled = λ none.
             let one : high - 1 ≡ 0 = none in
             let is : codeAt popped top ≡ codeOf r = code-same last top (codeOf r) (valueOf r) (in-last top top-element) in
             subst (λ i. codeAt popped (standing stack i) ≤ 4) one (omega (arith, is, settled-code r done .0));
         right = λ ins R L. (
-          said-stored (outcomes s ins) (element-grows s ins) (total s) top top-element (bodyOf s top ins) (starts (high - 1) (omega arith) ins) (steps (high - 1) (omega arith) ins)
+          said-stored (outcomes s ins) (element-grows s ins) (total s) top top-element (bodyOf s top ins) (starts (high - 1) (omega arith) ins)
+              (steps (high - 1) (omega arith) ins)
               last (ready-sized s last ready-last) (still (high - 1) (omega arith)) r (said ins R L) .right,
           record { link = λ j h k q. L .link j (omega arith) k q },
         );
@@ -188,7 +212,13 @@ module _ (s : Sheet) (memo : Memo) (M : Ready s memo) (stack : List ℕ) (high :
 
     pub high-low : high < 4096
     high-low =
-        omega (arith, St .height, D .kept .marks, codes-last last (Deep d) D, marks-fewer last d (in-last last (Deep d) D d wanted-element) (D .wanted .1))
+        omega (
+          arith,
+          St .height,
+          D .kept .marks,
+          codes-last last (Deep d) D,
+          marks-fewer last d (in-last last (Deep d) D d wanted-element) (D .wanted .1),
+        )
 
     abbrev pushed : Memo
     pushed = noted last d busy (pos 0)
@@ -219,7 +249,13 @@ module _ (s : Sheet) (memo : Memo) (M : Ready s memo) (stack : List ℕ) (high :
           (λ l. ready-last last (Deep d) D .opens d wanted-element (omega (arith, D .wanted .1)));
       stacked = record {
         sized = simp length-set (St .sized);
-        height = omega (arith, St .height, D .kept .marks, sum-store busyOne last d unknown busy (pos 0) (in-last last (Deep d) D d wanted-element) (D .wanted .1));
+        height =
+            omega (
+              arith,
+              St .height,
+              D .kept .marks,
+              sum-store busyOne last d unknown busy (pos 0) (in-last last (Deep d) D d wanted-element) (D .wanted .1),
+            );
         element = λ j h. either (λ i. standing taller i < total s) j h (λ l. rw (under j l) (St .element j l)) (rw on-top wanted-element);
         marked = λ j h. either (λ i. codeAt pushed (standing taller i) ≡ busy) j h
             (λ l. rw (under j l) (code-other last d busy (pos 0) (standing stack j) (λ e. new j l e) ∙ still last (Deep d) D j l))
@@ -238,7 +274,8 @@ module _ (s : Sheet) (memo : Memo) (M : Ready s memo) (stack : List ℕ) (high :
       settled = λ none. absurd (omega arith);
       right = λ ins R L.
           let S = said last (Deep d) D ins R L in (
-            right-set (outcomes s ins) (element-grows s ins) (total s) last (ready-sized s last (ready-last last (Deep d) D)) (S .right) d unknown busy (pos 0) wanted-element (D .wanted .1) refl
+            right-set (outcomes s ins) (element-grows s ins) (total s) last (ready-sized s last (ready-last last (Deep d) D)) (S .right) d unknown
+                busy (pos 0) wanted-element (D .wanted .1) refl
                 (λ h. absurd (omega arith)) (λ h. absurd (omega arith)),
             record {
               link = λ j h k q. decide (suc j) high (ℕ-discrete (suc j) high)
@@ -248,7 +285,8 @@ module _ (s : Sheet) (memo : Memo) (M : Ready s memo) (stack : List ℕ) (high :
                   subst (λ i. bodyOf s i ins k ≡ loop) (sym (under j (omega arith) ∙ ap (standing stack) at)) (S .says k loops))
                   (λ n.
                   let l : suc j < high = omega (arith, n) in
-                  subst (λ i. bodyOf s i ins k ≡ loop) (sym (under j (omega arith))) (L .link j l k (subst (λ i. outcomes s ins k i ≡ loop) (under (suc j) l) q)));
+                  subst (λ i. bodyOf s i ins k ≡ loop) (sym (under j (omega arith)))
+                  (L .link j l k (subst (λ i. outcomes s ins k i ≡ loop) (under (suc j) l) q)));
             },
           );
     }
@@ -325,6 +363,7 @@ module _ (s : Sheet) (e : ℕ) (memo : Memo) (M : Ready s memo) (idle : Idle mem
       settled = G .settled (omega arith);
       right = λ ins R.
           G .right ins
-          (right-set (outcomes s ins) (element-grows s ins) (total s) memo (ready-sized s memo M) R e unknown busy (pos 0) lt fresh refl (λ h. absurd (omega arith)) (λ h. absurd (omega arith)))
+          (right-set (outcomes s ins) (element-grows s ins) (total s) memo (ready-sized s memo M) R e unknown busy (pos 0) lt fresh refl
+          (λ h. absurd (omega arith)) (λ h. absurd (omega arith)))
           .0;
     }

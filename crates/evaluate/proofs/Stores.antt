@@ -126,7 +126,8 @@ sized-noted n memo e c x S = record { room = simp length-set (S .room); pairs = 
 
 -- ---- an element is marked, something is worked out, and the element's entry is stored
 
-module _ (memo : Memo) (e : ℕ) (x : ℤ) (in-memo : e < length (memo .codes)) (fresh : codeAt memo e ≡ unknown) (last : Memo) (K : Kept (noted memo e busy x) last) where
+module _ (memo : Memo) (e : ℕ) (x : ℤ) (in-memo : e < length (memo .codes)) (fresh : codeAt memo e ≡ unknown) (last : Memo)
+    (K : Kept (noted memo e busy x) last) where
   pub still-busy : codeAt last e ≡ busy
   still-busy = K .still e (code-same memo e busy x in-memo)
 
@@ -181,7 +182,8 @@ module _ (memo : Memo) (e : ℕ) (x : ℤ) (in-memo : e < length (memo .codes)) 
     }
 
 -- an element that was wanted is still unknown where another entry is stored, or its own as unknown again
-pub wanted-stored : (n : ℕ) (last : Memo) (e : ℕ) (r : Work) → e < length (last .codes) → Wanted n last r → Wanted n (noted last e (codeOf r) (valueOf r)) r
+pub wanted-stored : (n : ℕ) (last : Memo) (e : ℕ) (r : Work) → e < length (last .codes) → Wanted n last r →
+    Wanted n (noted last e (codeOf r) (valueOf r)) r
 wanted-stored n last e Outside h w = tt
 wanted-stored n last e (Value x) h w = tt
 wanted-stored n last e DivZero h w = tt
@@ -213,7 +215,8 @@ module _ (out : Elements) (grows : (m : ℕ) → Grows (element out m)) (n : ℕ
   loop-down j k m h l = under-loop (out j m) (rw l at (grows m j k h))
 
   -- a store at e, where nothing was settled
-  module _ (memo : Memo) (S : Sized n memo) (R : Right out n memo) (e old c : ℕ) (x : ℤ) (lt : e < n) (is : codeAt memo e ≡ old) (un : settledOne old ≡ 0) where
+  module _ (memo : Memo) (S : Sized n memo) (R : Right out n memo) (e old c : ℕ) (x : ℤ) (lt : e < n) (is : codeAt memo e ≡ old)
+      (un : settledOne old ≡ 0) where
     in-codes : e < length (memo .codes)
     in-codes = omega (arith, S .room)
 
@@ -230,7 +233,8 @@ module _ (out : Elements) (grows : (m : ℕ) → Grows (element out m)) (n : ℕ
           (λ other.
           let code = code-other memo e c x m other in
           rw (code, value-other memo e c x m other)
-          (later (count memo) (count (noted memo e c x)) m (codeAt memo m) (valueAt memo m) count-more (rw code at s) (R .settled m h (rw code at s))));
+          (later (count memo) (count (noted memo e c x)) m (codeAt memo m) (valueAt memo m) count-more (rw code at s)
+          (R .settled m h (rw code at s))));
       stuck = λ m h s. decide m e (ℕ-discrete m e)
           (λ same. rw same (q (rw (same, code-same memo e c x in-codes) at s)))
           (λ other. R .stuck m h (rw (code-other memo e c x m other) at s));
@@ -283,7 +287,8 @@ module _ (out : Elements) (grows : (m : ℕ) → Grows (element out m)) (n : ℕ
         settles : codeOf r ≤ 3 → (o : Outcome) → body (count last) ≡ o → out (count kept) e ≡ o
         settles h o q = ap (λ k. out k e) (one-more h) ∙ step (count last) ∙ q
 
-        right-kept : (codeOf r ≤ 3 → out (count kept) e ≡ decoded (codeOf r) (valueOf r)) → (codeOf r ≡ 4 → (k : ℕ) → out k e ≡ loop) → Right out n kept
+        right-kept : (codeOf r ≤ 3 → out (count kept) e ≡ decoded (codeOf r) (valueOf r)) → (codeOf r ≡ 4 → (k : ℕ) → out k e ≡ loop) →
+            Right out n kept
         right-kept p q = right-set last S (D .right) e busy (codeOf r) (valueOf r) lt b refl p q
 
         -- a body that loops at every depth
@@ -292,17 +297,26 @@ module _ (out : Elements) (grows : (m : ℕ) → Grows (element out m)) (n : ℕ
         loops q (suc k) = step k ∙ q k
 
       -- an outcome that is settled at the new count
-      settled-said : (r : Work) (D : Said out n last body r) (h : codeOf r ≤ 3) (o : Outcome) → body (count last) ≡ o → o ≡ decoded (codeOf r) (valueOf r) →
+      settled-said : (r : Work) (D : Said out n last body r) (h : codeOf r ≤ 3) (o : Outcome) → body (count last) ≡ o →
+          o ≡ decoded (codeOf r) (valueOf r) →
           Right out n (noted last e (codeOf r) (valueOf r))
       settled-said r D h o q is = right-kept r D (λ _. settles r D h o q ∙ is) (λ l. absurd (omega (arith, h, l)))
 
       pub said-stored : (r : Work) → Said out n last body r → Said out n (noted last e (codeOf r) (valueOf r)) (element out e) r
       unfolding Says
-      said-stored Outside D = record { right = settled-said Outside D (omega arith) outside (D .says) refl; says = settles Outside D (omega arith) outside (D .says) }
-      said-stored (Value v) D = record { right = settled-said (Value v) D (omega arith) (value (v .v)) (D .says) refl; says = settles (Value v) D (omega arith) (value (v .v)) (D .says) }
-      said-stored DivZero D = record { right = settled-said DivZero D (omega arith) divzero (D .says) refl; says = settles DivZero D (omega arith) divzero (D .says) }
-      said-stored Overflow D = record { right = settled-said Overflow D (omega arith) overflow (D .says) refl; says = settles Overflow D (omega arith) overflow (D .says) }
-      said-stored Loop D = record { right = right-kept Loop D (λ h. absurd (omega arith)) (λ h. loops Loop D (D .says)); says = loops Loop D (D .says) }
+      said-stored Outside D =
+          record { right = settled-said Outside D (omega arith) outside (D .says) refl; says = settles Outside D (omega arith) outside (D .says) }
+      said-stored (Value v) D = record {
+        right = settled-said (Value v) D (omega arith) (value (v .v)) (D .says) refl;
+        says = settles (Value v) D (omega arith) (value (v .v))
+            (D .says);
+      }
+      said-stored DivZero D =
+          record { right = settled-said DivZero D (omega arith) divzero (D .says) refl; says = settles DivZero D (omega arith) divzero (D .says) }
+      said-stored Overflow D =
+          record { right = settled-said Overflow D (omega arith) overflow (D .says) refl; says = settles Overflow D (omega arith) overflow (D .says) }
+      said-stored Loop D =
+          record { right = right-kept Loop D (λ h. absurd (omega arith)) (λ h. loops Loop D (D .says)); says = loops Loop D (D .says) }
       said-stored (Deep d) D = record {
         right = right-kept (Deep d) D (λ h. absurd (omega arith)) (λ h. absurd (omega arith));
         says = λ k l. loop-down k (suc k) e (omega arith) (step k ∙ D .says k l);

@@ -49,7 +49,8 @@ module _ (s : Sheet) (ins : List ℤ) (z : Point) (k : ℕ) where
   unfolding eval
   one-is o a = refl
 
-  two-is : (o : Binary) (a b : Expr) → expression s ins (bin o a b) z k ≡ andThen (expression s ins a z k) (λ x. andThen (expression s ins b z k) (λ y. binary o x y))
+  two-is : (o : Binary) (a b : Expr) → expression s ins (bin o a b) z k
+      ≡ andThen (expression s ins a z k) (λ x. andThen (expression s ins b z k) (λ y. binary o x y))
   unfolding eval
   two-is o a b = refl
 
@@ -63,14 +64,17 @@ module _ (s : Sheet) (ins : List ℤ) (z : Point) (k : ℕ) where
   case-is es = first-outcome es s (outcome k s ins) z
 
 -- a case by the branch that it takes
-taken-is : (s : Sheet) (es : Exprs) (z : Point) (t : Expr) → firstHolding es s z ≡ some t → (ins : List ℤ) (k : ℕ) → expression s ins (kase es) z k ≡ expression s ins t z k
+taken-is : (s : Sheet) (es : Exprs) (z : Point) (t : Expr) → firstHolding es s z ≡ some t → (ins : List ℤ) (k : ℕ) →
+    expression s ins (kase es) z k ≡ expression s ins t z k
 taken-is s es z t h ins k = case-is s ins z k es ∙ ap (λ o. outcomeOf o s (outcome k s ins) z) h
 
-restricted-is : (s : Sheet) (d : ℕ) (cs : List _) (a : Expr) (z : Point) (ins : List ℤ) (k : ℕ) → expression s ins (restr d cs a) z k ≡ expression s ins a z k
+restricted-is : (s : Sheet) (d : ℕ) (cs : List _) (a : Expr) (z : Point) (ins : List ℤ) (k : ℕ) →
+    expression s ins (restr d cs a) z k ≡ expression s ins a z k
 unfolding eval
 restricted-is s d cs a z ins k = refl
 
-imaged-is : (s : Sheet) (f : _) (a : Expr) (z : Point) (ins : List ℤ) (k : ℕ) → expression s ins (dep f a) z k ≡ expression s ins a (image (f .rows) z) k
+imaged-is : (s : Sheet) (f : _) (a : Expr) (z : Point) (ins : List ℤ) (k : ℕ) →
+    expression s ins (dep f a) z k ≡ expression s ins a (image (f .rows) z) k
 unfolding eval
 imaged-is s f a z ins k = refl
 
@@ -84,14 +88,16 @@ module _ (bs : List ℕ) (p : ℕ) (z : List Int) where
   sheet = sheetOf bs
 
   -- an expression that is another one, ending at the same place
-  evaluated-same : (e f : Expr) (q : ℕ) (y x : Point) (memo last : Memo) (r : Worked) → ((ins : List ℤ) (k : ℕ) → expression sheet ins e y k ≡ expression sheet ins f x k) →
+  evaluated-same : (e f : Expr) (q : ℕ) (y x : Point) (memo last : Memo) (r : Worked) →
+      ((ins : List ℤ) (k : ℕ) → expression sheet ins e y k ≡ expression sheet ins f x k) →
       Evaluated bs f q x memo last r → Evaluated bs e q y memo last r
   evaluated-same e f q y x memo last r is E = record {
     done = done-same sheet memo last (λ ins. expression sheet ins e y) (λ ins. expression sheet ins f x) (r .out) is (E .done);
     ends = E .ends;
   }
 
-  evaluated-tree : (e f : Expr) (q : ℕ) (y : Point) (memo last : Memo) (r : Worked) → e ≡ f → Evaluated bs f q y memo last r → Evaluated bs e q y memo last r
+  evaluated-tree : (e f : Expr) (q : ℕ) (y : Point) (memo last : Memo) (r : Worked) → e ≡ f → Evaluated bs f q y memo last r →
+      Evaluated bs e q y memo last r
   evaluated-tree e f q y memo last r is E = subst (λ t. Evaluated bs t q y memo last r) (sym is) E
 
   -- ---- constants
@@ -108,7 +114,8 @@ module _ (bs : List ℕ) (p : ℕ) (z : List Int) where
       go (suc (suc (suc c))) is l u = absurd (omega arith)
 
   module _ (low : 1 ≤ natAbs (field bs p)) (high : natAbs (field bs p) < 3) where
-    constant-is : (e : Expr) (q : ℕ) (y : Point) → At e (varsOf bs) bs p q → (ins : List ℤ) (k : ℕ) → expression sheet ins e y k ≡ value (field bs (p + 8))
+    constant-is : (e : Expr) (q : ℕ) (y : Point) → At e (varsOf bs) bs p q → (ins : List ℤ) (k : ℕ) →
+        expression sheet ins e y k ≡ value (field bs (p + 8))
     unfolding eval
     constant-is e q y h ins k = go (natAbs (field bs p)) refl low high
       where
@@ -138,7 +145,9 @@ module _ (bs : List ℕ) (p : ℕ) (z : List Int) where
         let is : (ins : List ℤ) (k : ℕ) → expression sheet ins e (pointOf n z) k ≡ value (c .value .v) =
         λ ins k. constant-is e q (pointOf n z) h ins k ∙ ap value (sym (c .says)) in
         record {
-          done = rw (c .is) (done-same sheet memo memo (λ ins. expression sheet ins e (pointOf n z)) (λ ins k. value (c .value .v)) (Value (c .value)) is d);
+          done =
+              rw (c .is) (done-same sheet memo memo (λ ins. expression sheet ins e (pointOf n z)) (λ ins k. value (c .value .v)) (Value (c .value)) is
+              d);
           ends = λ x g. c .next ∙ sym (constant-ends e q h);
         }
 
@@ -158,13 +167,16 @@ module _ (bs : List ℕ) (p : ℕ) (z : List Int) where
           let x = here-one e q h in
           let y = pointOf n z in
           let E = A (x .child) q n (x .below) (fit-one e q n h f) in
-          let d = done-first sheet (λ ins. expression sheet ins (x .child) y) (λ ins. expression-grows sheet ins (x .child) y) (λ v ins k. unary (x .op) v) memo last (a .out) lacks (E .done) in
+          let d =
+          done-first sheet (λ ins. expression sheet ins (x .child) y) (λ ins. expression-grows sheet ins (x .child) y)
+          (λ v ins k. unary (x .op) v) memo last (a .out) lacks (E .done) in
           evaluated-tree e (un (x .op) (x .child)) q y memo last a (x .is) (record {
             done = done-same sheet memo last _ _ (a .out) (λ ins k. one-is sheet ins y k (x .op) (x .child)) d;
             ends = λ v g. absurd (lacks v g);
           })
 
-      pub one-way : (v : Int) (op : ℕ) (o : Outcomes.Outcome) → a .out ≡ Value v → op ≡ natAbs (field bs (p + 8)) → Range.Says o (unary (unaryOf op) (v .v)) →
+      pub one-way : (v : Int) (op : ℕ) (o : Outcomes.Outcome) → a .out ≡ Value v → op ≡ natAbs (field bs (p + 8)) →
+          Range.Says o (unary (unaryOf op) (v .v)) →
           EvaluatesAt bs p z memo last (record { out = workOf o; next = a .next })
       one-way v op o is number says e q n h f =
           let x = here-one e q h in
@@ -173,7 +185,9 @@ module _ (bs : List ℕ) (p : ℕ) (z : List Int) where
           let same : x .op ≡ unaryOf op = x .chosen .is ∙ ap unaryOf (sym number) in
           let said : Range.Says o (unary (x .op) (v .v)) = rw same says in
           let first = rw is at (E .done) in
-          let d = done-next sheet (λ ins. expression sheet ins (x .child) y) (λ ins. expression-grows sheet ins (x .child) y) (λ w ins k. unary (x .op) w) memo last last v (workOf o) first (done-known sheet last o (unary (x .op) (v .v)) said) in
+          let d =
+          done-next sheet (λ ins. expression sheet ins (x .child) y) (λ ins. expression-grows sheet ins (x .child) y) (λ w ins k. unary (x .op) w)
+          memo last last v (workOf o) first (done-known sheet last o (unary (x .op) (v .v)) said) in
           evaluated-tree e (un (x .op) (x .child)) q y memo last _ (x .is) (record {
             done = done-same sheet memo last _ _ (workOf o) (λ ins k. one-is sheet ins y k (x .op) (x .child)) d;
             ends = λ w g. E .ends v is;
@@ -210,7 +224,8 @@ module _ (bs : List ℕ) (p : ℕ) (z : List Int) where
           })
 
       module _ (v : Int) (is : a .out ≡ Value v) (last : Memo) (b : Worked) (B : EvaluatesAt bs (a .next) z mid last b) where
-        right-done : (e : Expr) (q n : ℕ) (h : At e (varsOf bs) bs p q) → fits e (headsOf bs) n ≡ true → Evaluated bs (here-two e q h .right) q (pointOf n z) mid last b
+        right-done : (e : Expr) (q n : ℕ) (h : At e (varsOf bs) bs p q) → fits e (headsOf bs) n ≡ true →
+            Evaluated bs (here-two e q h .right) q (pointOf n z) mid last b
         right-done e q n h f =
             let x = here-two e q h in
             let at : At (x .right) (varsOf bs) bs (a .next) q = rw (left-done e q n h f .ends v is) (x .after) in
@@ -218,7 +233,8 @@ module _ (bs : List ℕ) (p : ℕ) (z : List Int) where
 
         -- the tree, from what follows the left operand's value
         both-done : (e : Expr) (q n : ℕ) (h : At e (varsOf bs) bs p q) (f : fits e (headsOf bs) n ≡ true) (r : Worked) →
-            Done sheet mid last (λ ins k. andThen (expression sheet ins (here-two e q h .right) (pointOf n z) k) (λ w. binary (here-two e q h .op) (v .v) w)) (r .out) →
+            Done sheet mid last (λ ins k. andThen (expression sheet ins (here-two e q h .right) (pointOf n z) k)
+            (λ w. binary (here-two e q h .op) (v .v) w)) (r .out) →
             ((w : Int) → r .out ≡ Value w → r .next ≡ q) → Evaluated bs e q (pointOf n z) memo last r
         both-done e q n h f r d ends =
             let x = here-two e q h in
@@ -236,11 +252,13 @@ module _ (bs : List ℕ) (p : ℕ) (z : List Int) where
             let x = here-two e q h in
             let y = pointOf n z in
             both-done e q n h f b
-            (done-first sheet (λ ins. expression sheet ins (x .right) y) (λ ins. expression-grows sheet ins (x .right) y) (λ w ins k. binary (x .op) (v .v) w) mid last (b .out) lacks
+            (done-first sheet (λ ins. expression sheet ins (x .right) y) (λ ins. expression-grows sheet ins (x .right) y)
+            (λ w ins k. binary (x .op) (v .v) w) mid last (b .out) lacks
             (right-done e q n h f .done))
             (λ w g. absurd (lacks w g))
 
-        pub two-way : (w : Int) (op : ℕ) (o : Outcomes.Outcome) → b .out ≡ Value w → op ≡ natAbs (field bs (p + 8)) → Range.Says o (binary (binaryOf op) (v .v) (w .v)) →
+        pub two-way : (w : Int) (op : ℕ) (o : Outcomes.Outcome) → b .out ≡ Value w → op ≡ natAbs (field bs (p + 8)) →
+            Range.Says o (binary (binaryOf op) (v .v) (w .v)) →
             EvaluatesAt bs p z memo last (record { out = workOf o; next = b .next })
         two-way w op o has number says e q n h f =
             let x = here-two e q h in
@@ -249,7 +267,8 @@ module _ (bs : List ℕ) (p : ℕ) (z : List Int) where
             let said : Range.Says o (binary (x .op) (v .v) (w .v)) = rw same says in
             let second = rw has at (right-done e q n h f .done) in
             both-done e q n h f (record { out = workOf o; next = b .next })
-            (done-next sheet (λ ins. expression sheet ins (x .right) y) (λ ins. expression-grows sheet ins (x .right) y) (λ u ins k. binary (x .op) (v .v) u) mid last last w (workOf o) second
+            (done-next sheet (λ ins. expression sheet ins (x .right) y) (λ ins. expression-grows sheet ins (x .right) y)
+            (λ u ins k. binary (x .op) (v .v) u) mid last last w (workOf o) second
             (done-known sheet last o (binary (x .op) (v .v) (w .v)) said))
             (λ u g. right-done e q n h f .ends w has)
 
@@ -260,7 +279,8 @@ module _ (bs : List ℕ) (p : ℕ) (z : List Int) where
     here-three e q h = at-ite (varsOf bs) bs e p q h (code-field bs p e q 5 h code)
 
     fit-three : (e : Expr) (q n : ℕ) (h : At e (varsOf bs) bs p q) → fits e (headsOf bs) n ≡ true →
-        fits (here-three e q h .test) (headsOf bs) n && fits (here-three e q h .left) (headsOf bs) n && fits (here-three e q h .right) (headsOf bs) n ≡ true
+        fits (here-three e q h .test) (headsOf bs) n && fits (here-three e q h .left) (headsOf bs) n && fits (here-three e q h .right) (headsOf bs) n
+        ≡ true
     unfolding fits
     fit-three e q n h f = rw (here-three e q h .is) at f
 
@@ -284,7 +304,9 @@ module _ (bs : List ℕ) (p : ℕ) (z : List Int) where
       test-back lacks e q n h f =
           let x = here-three e q h in
           let y = pointOf n z in
-          let d = done-first sheet (λ ins. expression sheet ins (x .test) y) (λ ins. expression-grows sheet ins (x .test) y) (arms (x .left) (x .right) y) memo one (a .out) lacks
+          let d =
+          done-first sheet (λ ins. expression sheet ins (x .test) y) (λ ins. expression-grows sheet ins (x .test) y) (arms (x .left) (x .right) y)
+          memo one (a .out) lacks
           (test-done e q n h f .done) in
           evaluated-tree e (ite (x .test) (x .left) (x .right)) q y memo one a (x .is) (record {
             done = done-same sheet memo one _ _ (a .out) (λ ins k. three-is sheet ins y k (x .test) (x .left) (x .right)) d;
@@ -309,7 +331,9 @@ module _ (bs : List ℕ) (p : ℕ) (z : List Int) where
             let x = here-three e q h in
             let y = pointOf n z in
             let first = rw tested at (test-done e q n h f .done) in
-            let g = done-next sheet (λ ins. expression sheet ins (x .test) y) (λ ins. expression-grows sheet ins (x .test) y) (arms (x .left) (x .right) y) memo one last t (r .out) first d in
+            let g =
+            done-next sheet (λ ins. expression sheet ins (x .test) y) (λ ins. expression-grows sheet ins (x .test) y)
+            (arms (x .left) (x .right) y) memo one last t (r .out) first d in
             evaluated-tree e (ite (x .test) (x .left) (x .right)) q y memo last r (x .is) (record {
               done = done-same sheet memo last _ _ (r .out) (λ ins k. three-is sheet ins y k (x .test) (x .left) (x .right)) g;
               ends = ends;
@@ -320,15 +344,18 @@ module _ (bs : List ℕ) (p : ℕ) (z : List Int) where
             let x = here-three e q h in
             let y = pointOf n z in
             tested-done e q n h f two b
-            (done-first sheet (λ ins. expression sheet ins (x .left) y) (λ ins. expression-grows sheet ins (x .left) y) (arm (x .right) y (t .v)) one two (b .out) lacks (first-done e q n h f .done))
+            (done-first sheet (λ ins. expression sheet ins (x .left) y) (λ ins. expression-grows sheet ins (x .left) y) (arm (x .right) y (t .v)) one
+            two (b .out) lacks (first-done e q n h f .done))
             (λ w g. absurd (lacks w g))
 
         module _ (u : Int) (has : b .out ≡ Value u) (last : Memo) (c : Worked) (C : EvaluatesAt bs (b .next) z two last c) where
-          second-done : (e : Expr) (q n : ℕ) (h : At e (varsOf bs) bs p q) → fits e (headsOf bs) n ≡ true → Evaluated bs (here-three e q h .right) q (pointOf n z) two last c
+          second-done : (e : Expr) (q n : ℕ) (h : At e (varsOf bs) bs p q) → fits e (headsOf bs) n ≡ true →
+              Evaluated bs (here-three e q h .right) q (pointOf n z) two last c
           second-done e q n h f =
               let x = here-three e q h in
               let at : At (x .right) (varsOf bs) bs (b .next) q = rw (first-done e q n h f .ends u has) (x .after) in
-              C (x .right) q n at (&&-right (fits (x .test) (headsOf bs) n && fits (x .left) (headsOf bs) n) (fits (x .right) (headsOf bs) n) (fit-three e q n h f))
+              C (x .right) q n at (&&-right (fits (x .test) (headsOf bs) n && fits (x .left) (headsOf bs) n) (fits (x .right) (headsOf bs) n)
+              (fit-three e q n h f))
 
           -- the tree, from what follows the first arm's value
           armed-done : (e : Expr) (q n : ℕ) (h : At e (varsOf bs) bs p q) (f : fits e (headsOf bs) n ≡ true) (r : Worked) →
@@ -339,14 +366,16 @@ module _ (bs : List ℕ) (p : ℕ) (z : List Int) where
               let y = pointOf n z in
               let first = rw has at (first-done e q n h f .done) in
               tested-done e q n h f last r
-              (done-next sheet (λ ins. expression sheet ins (x .left) y) (λ ins. expression-grows sheet ins (x .left) y) (arm (x .right) y (t .v)) one two last u (r .out) first d) ends
+              (done-next sheet (λ ins. expression sheet ins (x .left) y) (λ ins. expression-grows sheet ins (x .left) y) (arm (x .right) y (t .v)) one
+              two last u (r .out) first d) ends
 
           pub second-back : None (c .out) → EvaluatesAt bs p z memo last c
           second-back lacks e q n h f =
               let x = here-three e q h in
               let y = pointOf n z in
               armed-done e q n h f c
-              (done-first sheet (λ ins. expression sheet ins (x .right) y) (λ ins. expression-grows sheet ins (x .right) y) (λ w ins k. choose (isTrue (t .v)) (u .v) w) two last (c .out) lacks
+              (done-first sheet (λ ins. expression sheet ins (x .right) y) (λ ins. expression-grows sheet ins (x .right) y)
+              (λ w ins k. choose (isTrue (t .v)) (u .v) w) two last (c .out) lacks
               (second-done e q n h f .done))
               (λ w g. absurd (lacks w g))
 
@@ -357,7 +386,8 @@ module _ (bs : List ℕ) (p : ℕ) (z : List Int) where
               let y = pointOf n z in
               let second = rw got at (second-done e q n h f .done) in
               armed-done e q n h f (record { out = workOf o; next = c .next })
-              (done-next sheet (λ ins. expression sheet ins (x .right) y) (λ ins. expression-grows sheet ins (x .right) y) (λ v ins k. choose (isTrue (t .v)) (u .v) v) two last last w (workOf o) second
+              (done-next sheet (λ ins. expression sheet ins (x .right) y) (λ ins. expression-grows sheet ins (x .right) y)
+              (λ v ins k. choose (isTrue (t .v)) (u .v) v) two last last w (workOf o) second
               (done-known sheet last o (choose (isTrue (t .v)) (u .v) (w .v)) says))
               (λ v g. second-done e q n h f .ends w got)
 
@@ -404,11 +434,14 @@ module _ (bs : List ℕ) (p : ℕ) (z : List Int) where
 
   -- ---- a restriction
 
-  pub restriction-way : (k : ℕ) → natAbs (field bs p) ≡ 7 → k ≡ nodeLen bs p → (memo last : Memo) (r : Worked) → EvaluatesAt bs (p + k) z memo last r → EvaluatesAt bs p z memo last r
+  pub restriction-way : (k : ℕ) → natAbs (field bs p) ≡ 7 → k ≡ nodeLen bs p → (memo last : Memo) (r : Worked) →
+      EvaluatesAt bs (p + k) z memo last r → EvaluatesAt bs p z memo last r
   restriction-way k code long memo last r R e q n h f =
       let x = at-restr (varsOf bs) bs e p q h (code-field bs p e q 7 h code) in
       let y = pointOf n z in
-      let E = R (x .child) q n (subst (λ i. At (x .child) (varsOf bs) bs (p + i) q) (sym long) (x .below)) (&&-right (eqb (x .dim) n) (fits (x .child) (headsOf bs) n) (parts x)) in
+      let E =
+      R (x .child) q n (subst (λ i. At (x .child) (varsOf bs) bs (p + i) q) (sym long) (x .below))
+      (&&-right (eqb (x .dim) n) (fits (x .child) (headsOf bs) n) (parts x)) in
       evaluated-tree e (restr (x .dim) (x .given) (x .child)) q y memo last r (x .is)
       (evaluated-same (restr (x .dim) (x .given) (x .child)) (x .child) q y y memo last r (restricted-is sheet (x .dim) (x .given) (x .child) y) E)
     where
@@ -429,7 +462,8 @@ module _ (bs : List ℕ) (p : ℕ) (z : List Int) where
       let E = R (x .child) q (length (x .by .rows)) (subst (λ i. At (x .child) (varsOf bs) bs (p + i) q) (sym long) (x .below))
       (&&-right (eqb (x .by .cols) n) (fits (x .child) (headsOf bs) (length (x .by .rows))) (parts x)) in
       evaluated-tree e (dep (x .by) (x .child)) q (pointOf n z) memo last r (x .is)
-      (evaluated-same (dep (x .by) (x .child)) (x .child) q (pointOf n z) (image (x .by .rows) (pointOf n z)) memo last r (imaged-is sheet (x .by) (x .child) (pointOf n z))
+      (evaluated-same (dep (x .by) (x .child)) (x .child) q (pointOf n z) (image (x .by .rows) (pointOf n z)) memo last r
+      (imaged-is sheet (x .by) (x .child) (pointOf n z))
       (subst (λ w. Evaluated bs (x .child) q w memo last r) point E))
     where
       parts : (x : DepAt e (varsOf bs) bs p q) → eqb (x .by .cols) n && fits (x .child) (headsOf bs) (length (x .by .rows)) ≡ true

@@ -86,7 +86,8 @@ pub record Done (s : Sheet) (memo last : Memo) (f : List ℤ → Thing) (r : Wor
   pub kept : Kept memo last
   pub wanted : Wanted (total s) last r
   pub small : Small r
-  pub said : (ins : List ℤ) → Right (outcomes s ins) (total s) memo → Waits (outcomes s ins) (total s) memo (f ins) → Said (outcomes s ins) (total s) last (f ins) r
+  pub said : (ins : List ℤ) → Right (outcomes s ins) (total s) memo → Waits (outcomes s ins) (total s) memo (f ins) →
+      Said (outcomes s ins) (total s) last (f ins) r
 
 -- z is the point of element e, of variable v
 pub record ElementIs (bs : List ℕ) (v e : ℕ) (z : List Int) : Type 0 where

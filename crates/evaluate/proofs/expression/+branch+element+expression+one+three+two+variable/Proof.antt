@@ -74,12 +74,15 @@ use Rattle.evaluate.specs.Memo.{busy, Memo, noted}
 use Rattle.evaluate.specs.Working.{memoOf, outcomes, Ready, Done, EvaluatesAt}
 use Rattle.evaluate.proofs.Entries.{no-value, noted-is}
 use Rattle.evaluate.proofs.Doing.{ready-kept}
-use Rattle.evaluate.proofs.Operands.{not-zero, case-code, some-variable, walk-noded, walk-some, there, one-few, two-few, ready-after, small-value, operand-ends}
+use Rattle.evaluate.proofs.Operands.{not-zero, case-code, some-variable, walk-noded, walk-some, there, one-few, two-few, ready-after}
+use Rattle.evaluate.proofs.Operands.{small-value, operand-ends}
 use Rattle.evaluate.proofs.Operands.{one-walk, left-walk, right-walk, test-walk, first-walk, second-walk}
 use Rattle.evaluate.proofs.Operands.{one-held, left-held, right-held, test-held, first-held, second-held}
-use Rattle.evaluate.proofs.Ways.{constant-way, one-back, one-way, left-back, right-back, two-way, test-back, first-back, second-back, three-way, branch-back, branch-way}
+use Rattle.evaluate.proofs.Ways.{constant-way, one-back, one-way, left-back, right-back, two-way, test-back, first-back, second-back}
+use Rattle.evaluate.proofs.Ways.{three-way, branch-back, branch-way}
 use Rattle.evaluate.proofs.Lowering.{lowered-there, lowered-fits, lowered-walk, lowered-held, lowered-way}
-use Rattle.evaluate.proofs.Elements.{element-low, known-way, deep-way, ready-marked, walk-body, held-body, body-done, worked-way, variable-known, off-way, named-element, number-few, variable-way}
+use Rattle.evaluate.proofs.Elements.{element-low, known-way, deep-way, ready-marked, walk-body, held-body, body-done, worked-way}
+use Rattle.evaluate.proofs.Elements.{variable-known, off-way, named-element, number-few, variable-way}
 
 -- a depth is worth more than all nodes of a body
 abbrev μ-branch : Measures 5 branch-kinds.ps ℕ
@@ -333,7 +336,8 @@ element-returns t c =
     let at-then1 = at-of32-arg .before in
     let s = at-then1 .before .before .before in
     let p = s .pre .1 in
-    known-way _ _ (p .0) _ _ _ (p .3) _ (p .2) _ _ (at-then1 .if1 .taken) (at-of32 .of32 .ensures .0 ∙ toZ-ofZ (sfits-of (at-of32-arg .of32-arg .given))) (c .known .ensures .0) (c .known .ensures .1)
+    known-way _ _ (p .0) _ _ _ (p .3) _ (p .2) _ _ (at-then1 .if1 .taken)
+    (at-of32 .of32 .ensures .0 ∙ toZ-ofZ (sfits-of (at-of32-arg .of32-arg .given))) (c .known .ensures .0) (c .known .ensures .1)
 
 element-returns-2 : (t : ℕ) → element-lts.Need-returns-2 (element-uses t) (element-at t) element.Post
 element-returns-2 t c =
@@ -376,7 +380,7 @@ element-expression-requires t c κs =
     let is = s .pre .0 in
     let some = at-else2 .if2 .left in
     let late = at-else1 .if1 .left in
-    let ready = subst (Ready (sheetOf (now (s .args .s)))) (sym (element-marked t (at-note))) (ready-marked _ _ (p .0) _ _ _ (p .3) _ (p .2) late) in
+    let ready = subst (Ready (sheetOf (now (s .args .s)))) (sym (element-marked t at-note)) (ready-marked _ _ (p .0) _ _ _ (p .3) _ (p .2) late) in
     let walk = walk-body _ _ (p .0) _ _ _ (p .3) _ (p .2) late _ (at-body-place .body-place .ensures) in
     let held = held-body _ _ (p .0) _ _ _ (p .3) _ (p .2) late _ (at-body-place .body-place .ensures) in
     (omega arith, (p .0, p .1, ready, walk, omega arith, held))
@@ -396,9 +400,10 @@ element-body : (t : ℕ) (c : element-lts.After-expression (element-uses t) (ele
     (noted (memoOf (now (s .args .codes)) (now (s .args .values))) (s .args .e) busy (pos 0)) (element-after t c) (c .expression .result)
 element-body t c =
     let place = c .before .before .before in
-    let s = c .before .before .before .before .before .before .before .before .before .before .before .before in
+    let at-note = place .before in
+    let s = at-note .before .before .before .before .before .before .before .before in
     subst (λ m. EvaluatesAt (now (s .args .s)) (place .body-place .result) (s .args .z) m (element-after t c) (c .expression .result))
-    (element-marked t (place .before)) (c .expression .ensures)
+    (element-marked t at-note) (c .expression .ensures)
 
 element-value-of-requires : (t : ℕ) → element-lts.Need-value-of-requires (element-uses t) (element-at t) element.Post
 element-value-of-requires t c κs =
@@ -409,7 +414,7 @@ element-value-of-requires t c κs =
     let p = s .pre .1 in
     let late = at-else1 .if1 .left in
     let place = at-body-place .body-place .ensures in
-    let body = element-body t (at-expression) in
+    let body = element-body t at-expression in
     body-done _ _ (p .0) _ _ _ (p .3) _ (p .2) late _ place _ _ body .small
 
 element-note-requires-2 : (t : ℕ) → element-lts.Need-note-requires-2 (element-uses t) (element-at t) element.Post
@@ -421,8 +426,10 @@ element-note-requires-2 t c κs =
     let p = s .pre .1 in
     let late = at-else1 .if1 .left in
     let place = at-body-place .body-place .ensures in
-    let body = element-body t (at-expression) in
-    let ready = ready-kept _ _ _ (ready-marked _ _ (p .0) _ _ _ (p .3) _ (p .2) late) (body-done _ _ (p .0) _ _ _ (p .3) _ (p .2) late _ place _ _ body .kept) in
+    let body = element-body t at-expression in
+    let ready =
+    ready-kept _ _ _ (ready-marked _ _ (p .0) _ _ _ (p .3) _ (p .2) late)
+    (body-done _ _ (p .0) _ _ _ (p .3) _ (p .2) late _ place _ _ body .kept) in
     (omega (arith, element-low _ _ (p .0) _ _ _ (p .3), p .2 .few), ready .codes-long, ready .values-long, c .value-of .ensures .1)
 
 element-returns-3 : (t : ℕ) → element-lts.Need-returns-3 (element-uses t) (element-at t) element.Post
@@ -436,14 +443,15 @@ element-returns-3 t c =
     let p = s .pre .1 in
     let late = at-else1 .if1 .left in
     let place = at-body-place .body-place .ensures in
-    let body = element-body t (at-expression) in
+    let body = element-body t at-expression in
     let worked = worked-way _ _ (p .0) _ _ _ (p .3) _ (p .2) late _ place _ _ body in
-    let kept = element-after t (at-expression) in
+    let kept = element-after t at-expression in
     let code = c .note2 .ensures .0 ∙ ap (set (kept .codes) (s .args .e)) (at-code-of .code-of .ensures) in
     let stored = noted-is kept _ _ _ _ _ _ code (c .note2 .ensures .1) (at-value-of .value-of .ensures .0) in
     let sheet = sheetOf (now (s .args .s)) in
     let memo = memoOf (now (s .args .codes)) (now (s .args .values)) in
-    subst (λ m. Done sheet memo m (λ ins. Memo.element (outcomes sheet ins) (s .args .e)) (at-expression .expression .result .out)) (sym stored) worked
+    subst (λ m. Done sheet memo m (λ ins. Memo.element (outcomes sheet ins) (s .args .e)) (at-expression .expression .result .out)) (sym stored)
+    worked
 
 -- what is worked out of the node that is reached is what the tree gives
 abbrev expression-Inv-loop : expression-lts.InvT-loop
@@ -453,12 +461,14 @@ expression-Inv-loop s tab inside codes values at left depth p₀ n₀ y₀ p n y
 abbrev expression-μ-loop : expression-lts.MeasureT-loop
 expression-μ-loop s tab inside codes values at left depth p₀ n₀ y₀ p n y = n
 
-expression-loop-holds : (t : ℕ) → expression-lts.Need-loop-holds (expression-uses t) (expression-at t) expression.Post expression-Inv-loop expression-μ-loop
+expression-loop-holds : (t : ℕ) →
+    expression-lts.Need-loop-holds (expression-uses t) (expression-at t) expression.Post expression-Inv-loop expression-μ-loop
 expression-loop-holds t c =
     let p = c .before .pre .1 in
     (p .3, omega arith, p .5, λ memo last r h. h)
 
-expression-natural-requires : (t : ℕ) → expression-lts.Need-natural-requires (expression-uses t) (expression-at t) expression.Post expression-Inv-loop expression-μ-loop
+expression-natural-requires : (t : ℕ) →
+    expression-lts.Need-natural-requires (expression-uses t) (expression-at t) expression.Post expression-Inv-loop expression-μ-loop
 expression-natural-requires t c κs = code-there _ _ _ (walk-noded _ _ _ _ (c .loop .inv .0))
 
 -- its code is past the others where the loop goes on
@@ -466,30 +476,42 @@ expression-high : (t : ℕ) (c : expression-lts.Then1 (expression-uses t) (expre
     6 < natAbs (field (now (c .before .before .before .before .args .s)) (c .before .before .loop .p))
 expression-high t c = omega (arith, c .before .natural .ensures, c .if1 .taken)
 
-expression-lowered-requires : (t : ℕ) → expression-lts.Need-lowered-requires (expression-uses t) (expression-at t) expression.Post expression-Inv-loop expression-μ-loop
+expression-lowered-requires : (t : ℕ) →
+    expression-lts.Need-lowered-requires (expression-uses t) (expression-at t) expression.Post expression-Inv-loop expression-μ-loop
 expression-lowered-requires t c κs =
     let w = c .before .before .loop .inv .0 in
     (lowered-there _ _ _ _ w (expression-high t c), lowered-fits _ _ _ _ w (expression-high t c))
 
-expression-node-len-requires : (t : ℕ) → expression-lts.Need-node-len-requires (expression-uses t) (expression-at t) expression.Post expression-Inv-loop expression-μ-loop
-expression-node-len-requires t c κs = walk-noded _ _ _ _ (c .before .before .before .loop .inv .0)
+expression-node-len-requires : (t : ℕ) →
+    expression-lts.Need-node-len-requires (expression-uses t) (expression-at t) expression.Post expression-Inv-loop expression-μ-loop
+expression-node-len-requires t c κs =
+    let at-loop = c .before .before .before in
+    walk-noded _ _ _ _ (at-loop .loop .inv .0)
 
 expression-add-p : (t : ℕ) → expression-lts.Need-add-p (expression-uses t) (expression-at t) expression.Post expression-Inv-loop expression-μ-loop
 expression-add-p t c =
-    let w = c .before .before .before .before .loop .inv .0 in
+    let at-loop = c .before .before .before .before in
+    let w = at-loop .loop .inv .0 in
     omega (arith, standing-there _ _ _ _ (walk-standing _ _ _ _ w), c .node-len .ensures)
 
 expression-sub-n : (t : ℕ) → expression-lts.Need-sub-n (expression-uses t) (expression-at t) expression.Post expression-Inv-loop expression-μ-loop
-expression-sub-n t c = omega (arith, walk-some _ _ _ _ (c .before .before .before .before .loop .inv .0))
+expression-sub-n t c =
+    let at-loop = c .before .before .before .before in
+    omega (arith, walk-some _ _ _ _ (at-loop .loop .inv .0))
 
-expression-loop-less : (t : ℕ) → expression-lts.Need-loop-less (expression-uses t) (expression-at t) expression.Post expression-Inv-loop expression-μ-loop
-expression-loop-less t c = omega (arith, walk-some _ _ _ _ (c .before .before .before .before .loop .inv .0))
+expression-loop-less : (t : ℕ) →
+    expression-lts.Need-loop-less (expression-uses t) (expression-at t) expression.Post expression-Inv-loop expression-μ-loop
+expression-loop-less t c =
+    let at-loop = c .before .before .before .before in
+    omega (arith, walk-some _ _ _ _ (at-loop .loop .inv .0))
 
-expression-loop-again : (t : ℕ) → expression-lts.Need-loop-again (expression-uses t) (expression-at t) expression.Post expression-Inv-loop expression-μ-loop
+expression-loop-again : (t : ℕ) →
+    expression-lts.Need-loop-again (expression-uses t) (expression-at t) expression.Post expression-Inv-loop expression-μ-loop
 expression-loop-again t c =
     let at-lowered = c .before in
     let at-then = at-lowered .before in
-    let inv = at-then .before .before .loop .inv in
+    let at-loop = at-then .before .before in
+    let inv = at-loop .loop .inv in
     let high = expression-high t at-then in
     let long = c .node-len .ensures in
     let y = at-lowered .lowered .ensures in (
@@ -499,10 +521,12 @@ expression-loop-again t c =
       λ memo last r h. inv .3 memo last r (lowered-way _ _ _ _ (inv .0) high _ long _ y memo last r h),
     )
 
-expression-natural-requires-2 : (t : ℕ) → expression-lts.Need-natural-requires-2 (expression-uses t) (expression-at t) expression.Post expression-Inv-loop expression-μ-loop
+expression-natural-requires-2 : (t : ℕ) →
+    expression-lts.Need-natural-requires-2 (expression-uses t) (expression-at t) expression.Post expression-Inv-loop expression-μ-loop
 expression-natural-requires-2 t c κs = code-there _ _ _ (walk-noded _ _ _ _ (c .before .before .loop .inv .0))
 
-expression-variable-requires : (t : ℕ) → expression-lts.Need-variable-requires (expression-uses t) (expression-at t) expression.Post expression-Inv-loop expression-μ-loop
+expression-variable-requires : (t : ℕ) →
+    expression-lts.Need-variable-requires (expression-uses t) (expression-at t) expression.Post expression-Inv-loop expression-μ-loop
 expression-variable-requires t c κs =
     let at-match-keys1 = c .before .before in
     let at-natural2 = at-match-keys1 .before in
@@ -514,7 +538,8 @@ expression-variable-requires t c κs =
     let code = sym (at-natural2 .natural2 .ensures) ∙ at-match-keys1 .match .keys1 in
     (omega (arith, inv .1), (p .0, p .1, p .2, inv .0, omega (arith, p .4, inv .1), code, inv .2))
 
-expression-one-requires : (t : ℕ) → expression-lts.Need-one-requires (expression-uses t) (expression-at t) expression.Post expression-Inv-loop expression-μ-loop
+expression-one-requires : (t : ℕ) →
+    expression-lts.Need-one-requires (expression-uses t) (expression-at t) expression.Post expression-Inv-loop expression-μ-loop
 expression-one-requires t c κs =
     let at-match-keys2 = c .before .before in
     let at-natural2 = at-match-keys2 .before in
@@ -526,7 +551,8 @@ expression-one-requires t c κs =
     let code = sym (at-natural2 .natural2 .ensures) ∙ at-match-keys2 .match .keys2 in
     (omega (arith, inv .1), (p .0, p .1, p .2, inv .0, omega (arith, p .4, inv .1), code, inv .2))
 
-expression-two-requires : (t : ℕ) → expression-lts.Need-two-requires (expression-uses t) (expression-at t) expression.Post expression-Inv-loop expression-μ-loop
+expression-two-requires : (t : ℕ) →
+    expression-lts.Need-two-requires (expression-uses t) (expression-at t) expression.Post expression-Inv-loop expression-μ-loop
 expression-two-requires t c κs =
     let at-match-keys3 = c .before .before in
     let at-natural2 = at-match-keys3 .before in
@@ -538,7 +564,8 @@ expression-two-requires t c κs =
     let code = sym (at-natural2 .natural2 .ensures) ∙ at-match-keys3 .match .keys3 in
     (omega (arith, inv .1), (p .0, p .1, p .2, inv .0, omega (arith, p .4, inv .1), code, inv .2))
 
-expression-three-requires : (t : ℕ) → expression-lts.Need-three-requires (expression-uses t) (expression-at t) expression.Post expression-Inv-loop expression-μ-loop
+expression-three-requires : (t : ℕ) →
+    expression-lts.Need-three-requires (expression-uses t) (expression-at t) expression.Post expression-Inv-loop expression-μ-loop
 expression-three-requires t c κs =
     let at-match-keys4 = c .before .before in
     let at-natural2 = at-match-keys4 .before in
@@ -550,56 +577,76 @@ expression-three-requires t c κs =
     let code = sym (at-natural2 .natural2 .ensures) ∙ at-match-keys4 .match .keys4 in
     (omega (arith, inv .1), (p .0, p .1, p .2, inv .0, omega (arith, p .4, inv .1), code, inv .2))
 
-expression-constant-requires : (t : ℕ) → expression-lts.Need-constant-requires (expression-uses t) (expression-at t) expression.Post expression-Inv-loop expression-μ-loop
+expression-constant-requires : (t : ℕ) →
+    expression-lts.Need-constant-requires (expression-uses t) (expression-at t) expression.Post expression-Inv-loop expression-μ-loop
 expression-constant-requires t c κs =
     let at-natural2 = c .before .before in
-    let inv = at-natural2 .before .before .before .loop .inv in
+    let at-loop = at-natural2 .before .before .before in
+    let inv = at-loop .loop .inv in
     let code = at-natural2 .natural2 .ensures in
     there _ _ _ _ (inv .0) _ refl (λ e. omega (arith, c .if2 .taken))
 
-expression-branch-requires : (t : ℕ) → expression-lts.Need-branch-requires (expression-uses t) (expression-at t) expression.Post expression-Inv-loop expression-μ-loop
+expression-branch-requires : (t : ℕ) →
+    expression-lts.Need-branch-requires (expression-uses t) (expression-at t) expression.Post expression-Inv-loop expression-μ-loop
 expression-branch-requires t c κs =
     let at-else2 = c .before .before in
     let at-match-rest = at-else2 .before in
     let at-natural2 = at-match-rest .before in
     let at-else1 = at-natural2 .before in
-    let at-loop = at-else1 .before .before in
+    let at-natural = at-else1 .before in
+    let at-loop = at-natural .before in
     let s = at-loop .before .before in
     let p = s .pre .1 in
     let is = s .pre .0 in
     let inv = at-loop .loop .inv in
     let code = at-natural2 .natural2 .ensures in
-    let last = at-else1 .before .natural .ensures in
+    let last = at-natural .natural .ensures in
     let no = at-match-rest .match .rest in
     let n = at-natural2 .natural2 .result in
     let six = case-code n (omega (arith, at-else2 .if2 .left)) (omega (arith, code, last, at-else1 .if1 .left)) (no .0 .0 .1) (no .0 .1) (no .1) in
     (omega (arith, inv .1), (p .0, p .1, p .2, inv .0, omega (arith, p .4, inv .1), sym code ∙ six, inv .2))
 
 expression-returns : (t : ℕ) → expression-lts.Need-returns (expression-uses t) (expression-at t) expression.Post expression-Inv-loop expression-μ-loop
-expression-returns t c = c .before .before .before .before .before .before .before .loop .inv .3 _ _ _ (c .variable .ensures)
+expression-returns t c =
+    let at-loop = c .before .before .before .before .before .before .before in
+    at-loop .loop .inv .3 _ _ _ (c .variable .ensures)
 
-expression-returns-2 : (t : ℕ) → expression-lts.Need-returns-2 (expression-uses t) (expression-at t) expression.Post expression-Inv-loop expression-μ-loop
-expression-returns-2 t c = c .before .before .before .before .before .before .before .loop .inv .3 _ _ _ (c .one .ensures)
+expression-returns-2 : (t : ℕ) →
+    expression-lts.Need-returns-2 (expression-uses t) (expression-at t) expression.Post expression-Inv-loop expression-μ-loop
+expression-returns-2 t c =
+    let at-loop = c .before .before .before .before .before .before .before in
+    at-loop .loop .inv .3 _ _ _ (c .one .ensures)
 
-expression-returns-3 : (t : ℕ) → expression-lts.Need-returns-3 (expression-uses t) (expression-at t) expression.Post expression-Inv-loop expression-μ-loop
-expression-returns-3 t c = c .before .before .before .before .before .before .before .loop .inv .3 _ _ _ (c .two .ensures)
+expression-returns-3 : (t : ℕ) →
+    expression-lts.Need-returns-3 (expression-uses t) (expression-at t) expression.Post expression-Inv-loop expression-μ-loop
+expression-returns-3 t c =
+    let at-loop = c .before .before .before .before .before .before .before in
+    at-loop .loop .inv .3 _ _ _ (c .two .ensures)
 
-expression-returns-4 : (t : ℕ) → expression-lts.Need-returns-4 (expression-uses t) (expression-at t) expression.Post expression-Inv-loop expression-μ-loop
-expression-returns-4 t c = c .before .before .before .before .before .before .before .loop .inv .3 _ _ _ (c .three .ensures)
+expression-returns-4 : (t : ℕ) →
+    expression-lts.Need-returns-4 (expression-uses t) (expression-at t) expression.Post expression-Inv-loop expression-μ-loop
+expression-returns-4 t c =
+    let at-loop = c .before .before .before .before .before .before .before in
+    at-loop .loop .inv .3 _ _ _ (c .three .ensures)
 
-expression-returns-5 : (t : ℕ) → expression-lts.Need-returns-5 (expression-uses t) (expression-at t) expression.Post expression-Inv-loop expression-μ-loop
+expression-returns-5 : (t : ℕ) →
+    expression-lts.Need-returns-5 (expression-uses t) (expression-at t) expression.Post expression-Inv-loop expression-μ-loop
 expression-returns-5 t c =
     let at-then2 = c .before in
     let at-match-rest = at-then2 .before in
     let at-natural2 = at-match-rest .before in
-    let loop = at-natural2 .before .before .before .loop in
+    let at-loop = at-natural2 .before .before .before in
+    let loop = at-loop .loop in
     let is = at-natural2 .natural2 .ensures in
     let no = at-match-rest .match .rest in
     let low = not-zero _ (no .0 .0 .0 .1) in
     loop .inv .3 _ _ _ (constant-way _ _ (loop .y) (omega arith) (omega (arith, at-then2 .if2 .taken)) _ _ (c .constant .ensures))
 
-expression-returns-6 : (t : ℕ) → expression-lts.Need-returns-6 (expression-uses t) (expression-at t) expression.Post expression-Inv-loop expression-μ-loop
-expression-returns-6 t c = c .before .before .before .before .before .before .before .before .loop .inv .3 _ _ _ (c .branch .ensures)
+expression-returns-6 : (t : ℕ) →
+    expression-lts.Need-returns-6 (expression-uses t) (expression-at t) expression.Post expression-Inv-loop expression-μ-loop
+expression-returns-6 t c =
+    let at-loop = c .before .before .before .before .before .before .before .before in
+    at-loop .loop .inv .3 _ _ _ (c .branch .ensures)
 
 one-add-expression : (t : ℕ) → one-lts.Need-add-expression (one-uses t) (one-at t) one.Post
 one-add-expression t c =
@@ -661,7 +708,9 @@ one-returns-2 t c =
     let s = at-expression .before .before .before .before in
     let p = s .pre .1 in
     let o = at-o .o .given in
-    let way = one-way _ _ (s .args .z) (p .5) _ _ _ (at-expression .expression .ensures) _ _ _ (o .1) (at-natural .natural .ensures) (at-unary .unary .ensures) in
+    let way =
+    one-way _ _ (s .args .z) (p .5) _ _ _ (at-expression .expression .ensures) _ _ _ (o .1) (at-natural .natural .ensures)
+    (at-unary .unary .ensures) in
     rw (c .work-of .ensures) way
 
 three-add-expression : (t : ℕ) → three-lts.Need-add-expression (three-uses t) (three-at t) three.Post
@@ -722,7 +771,8 @@ three-returns-2 t c =
     let at-expression = at-o .before .before in
     let s = at-expression .before .before .before .before in
     let p = s .pre .1 in
-    first-back _ _ (s .args .z) (p .5) _ _ _ (at-expression .expression .ensures) _ (at-o .o .given .1) _ _ (at-expression2 .expression2 .ensures) (no-value _ (c .match2 .keys2))
+    first-back _ _ (s .args .z) (p .5) _ _ _ (at-expression .expression .ensures) _ (at-o .o .given .1) _ _ (at-expression2 .expression2 .ensures)
+    (no-value _ (c .match2 .keys2))
 
 three-sub-expression-3 : (t : ℕ) → three-lts.Need-sub-expression-3 (three-uses t) (three-at t) three.Post
 three-sub-expression-3 t c =
@@ -763,7 +813,8 @@ three-returns-3 t c =
     let p = s .pre .1 in
     let a = at-expression .expression .ensures in
     let b = at-expression2 .expression2 .ensures in
-    second-back _ _ (s .args .z) (p .5) _ _ _ a _ (at-o .o .given .1) _ _ b _ (at-p .p .given .1) _ _ (at-expression3 .expression3 .ensures) (no-value _ (c .match3 .keys2))
+    second-back _ _ (s .args .z) (p .5) _ _ _ a _ (at-o .o .given .1) _ _ b _ (at-p .p .given .1) _ _ (at-expression3 .expression3 .ensures)
+    (no-value _ (c .match3 .keys2))
 
 three-is-true-requires : (t : ℕ) → three-lts.Need-is-true-requires (three-uses t) (three-at t) three.Post
 three-is-true-requires t c κs = search needs
@@ -867,7 +918,8 @@ two-returns-2 t c =
     let at-expression = at-o .before .before in
     let s = at-expression .before .before .before .before in
     let p = s .pre .1 in
-    right-back _ _ (s .args .z) (p .5) _ _ _ (at-expression .expression .ensures) _ (at-o .o .given .1) _ _ (at-expression2 .expression2 .ensures) (no-value _ (c .match2 .keys2))
+    right-back _ _ (s .args .z) (p .5) _ _ _ (at-expression .expression .ensures) _ (at-o .o .given .1) _ _ (at-expression2 .expression2 .ensures)
+    (no-value _ (c .match2 .keys2))
 
 two-add-natural : (t : ℕ) → two-lts.Need-add-natural (two-uses t) (two-at t) two.Post
 two-add-natural t c =
@@ -891,8 +943,11 @@ two-binary-requires t c κs =
     let a = at-expression .expression .ensures in
     let o = at-o .o .given in
     let v = right-walk _ _ _ _ (p .3) (p .5) _ (operand-ends _ _ _ _ w _ _ _ a _ (o .1)) in
-    let b = at-expression2 .expression2 .ensures in
-    (omega (arith, two-few _ _ _ _ (p .3) (p .5), c .natural .ensures), small-value _ _ _ _ w _ _ _ a _ (o .1), small-value _ _ _ _ v _ _ _ b _ (at-p .p .given .1))
+    let b = at-expression2 .expression2 .ensures in (
+      omega (arith, two-few _ _ _ _ (p .3) (p .5), c .natural .ensures),
+      small-value _ _ _ _ w _ _ _ a _ (o .1),
+      small-value _ _ _ _ v _ _ _ b _ (at-p .p .given .1),
+    )
 
 two-work-of-requires : (t : ℕ) → two-lts.Need-work-of-requires (two-uses t) (two-at t) two.Post
 two-work-of-requires t c κs = search needs
@@ -909,7 +964,9 @@ two-returns-3 t c =
     let p = s .pre .1 in
     let a = at-expression .expression .ensures in
     let b = at-expression2 .expression2 .ensures in
-    let way = two-way _ _ (s .args .z) (p .5) _ _ _ a _ (at-o .o .given .1) _ _ b _ _ _ (at-p .p .given .1) (at-natural .natural .ensures) (at-binary .binary .ensures) in
+    let way =
+    two-way _ _ (s .args .z) (p .5) _ _ _ a _ (at-o .o .given .1) _ _ b _ _ _ (at-p .p .given .1) (at-natural .natural .ensures)
+    (at-binary .binary .ensures) in
     rw (c .work-of .ensures) way
 
 -- a sheet that is formed has a variable
@@ -917,7 +974,8 @@ variable-some : (t : ℕ) (s : variable-lts.Start (variable-uses t) (variable-at
 variable-some t s = some-variable _ _ (s .pre .1 .0)
 
 -- the number in its field is a variable's
-variable-number : (t : ℕ) (c : variable-lts.After-natural (variable-uses t) (variable-at t) variable.Post) → c .natural .result < varsOf (now (c .before .before .args .s))
+variable-number : (t : ℕ) (c : variable-lts.After-natural (variable-uses t) (variable-at t) variable.Post) →
+    c .natural .result < varsOf (now (c .before .before .args .s))
 variable-number t c =
     let p = c .before .before .pre .1 in
     variable-known _ _ (p .0) _ _ _ (p .3) (p .5) _ (c .natural .ensures) (variable-some t (c .before .before))
@@ -973,7 +1031,7 @@ variable-returns t c =
 variable-first-element-requires : (t : ℕ) → variable-lts.Need-first-element-requires (variable-uses t) (variable-at t) variable.Post
 variable-first-element-requires t c κs =
     let at-natural = c .before .before .before .before .before in
-    omega (arith, variable-laid t (at-natural) .low)
+    omega (arith, variable-laid t at-natural .low)
 
 variable-add-e : (t : ℕ) → variable-lts.Need-add-e (variable-uses t) (variable-at t) variable.Post
 variable-add-e t c =

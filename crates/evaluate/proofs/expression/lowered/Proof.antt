@@ -10,10 +10,14 @@ natural-requires : tie.Need-natural-requires
 natural-requires c κs = omega (arith, c .before .pre .0)
 
 add-image-at : tie.Need-add-image-at
-add-image-at c = omega (arith, c .before .before .before .pre .0)
+add-image-at c =
+    let s = c .before .before .before in
+    omega (arith, s .pre .0)
 
 image-at-requires : tie.Need-image-at-requires
-image-at-requires c κs = c .before .before .before .pre .1 (sym (c .before .natural .ensures) ∙ c .if1 .taken)
+image-at-requires c κs =
+    let s = c .before .before .before in
+    s .pre .1 (sym (c .before .natural .ensures) ∙ c .if1 .taken)
 
 returns : tie.Need-returns
 returns c = inl (sym (c .before .before .natural .ensures) ∙ c .before .if1 .taken, c .image-at .ensures)

@@ -18,7 +18,8 @@ returns-4 : tie.Need-returns-4
 returns-4 c = search needs
 
 returns-5 : tie.Need-returns-5
-returns-5 c = let no = c .match .rest in (loop-entry (c .before .args .code) (c .before .args .x) (no .0 .0 .0 .1) (no .0 .0 .1) (no .0 .1) (no .1), tt)
+returns-5 c =
+    let no = c .match .rest in (loop-entry (c .before .args .code) (c .before .args .x) (no .0 .0 .0 .1) (no .0 .0 .1) (no .0 .1) (no .1), tt)
 
 pub known-spec : {M : Type 1} → statement M
 known-spec = tie.close (tie.spec returns returns-2 returns-3 returns-4 returns-5)

@@ -40,22 +40,34 @@ of-requires-5 : tie.Need-of-requires-5
 of-requires-5 c κs = search needs
 
 returns : tie.Need-returns
-returns c = zero-is (c .before .before .before .args .r) _ (c .of .ensures) (ap valueOf (c .before .enum-told .given .1))
+returns c =
+    let s = c .before .before .before in
+    zero-is (s .args .r) _ (c .of .ensures) (ap valueOf (c .before .enum-told .given .1))
 
 returns-2 : tie.Need-returns-2
-returns-2 c = value-is _ _ (c .before .r .given .1) (c .before .before .before .pre)
+returns-2 c =
+    let s = c .before .before .before in
+    value-is _ _ (c .before .r .given .1) (s .pre)
 
 returns-3 : tie.Need-returns-3
-returns-3 c = zero-is (c .before .before .before .args .r) _ (c .of2 .ensures) (ap valueOf (c .before .enum-told2 .given .1))
+returns-3 c =
+    let s = c .before .before .before in
+    zero-is (s .args .r) _ (c .of2 .ensures) (ap valueOf (c .before .enum-told2 .given .1))
 
 returns-4 : tie.Need-returns-4
-returns-4 c = zero-is (c .before .before .before .args .r) _ (c .of3 .ensures) (ap valueOf (c .before .enum-told3 .given .1))
+returns-4 c =
+    let s = c .before .before .before in
+    zero-is (s .args .r) _ (c .of3 .ensures) (ap valueOf (c .before .enum-told3 .given .1))
 
 returns-5 : tie.Need-returns-5
-returns-5 c = zero-is (c .before .before .before .args .r) _ (c .of4 .ensures) (ap valueOf (c .before .enum-told4 .given .1))
+returns-5 c =
+    let s = c .before .before .before in
+    zero-is (s .args .r) _ (c .of4 .ensures) (ap valueOf (c .before .enum-told4 .given .1))
 
 returns-6 : tie.Need-returns-6
-returns-6 c = zero-is (c .before .before .before .args .r) _ (c .of5 .ensures) (ap valueOf (c .before .enum-told5 .given .1))
+returns-6 c =
+    let s = c .before .before .before in
+    zero-is (s .args .r) _ (c .of5 .ensures) (ap valueOf (c .before .enum-told5 .given .1))
 
 pub value-of-spec : {M : Type 1} → statement M
 value-of-spec =

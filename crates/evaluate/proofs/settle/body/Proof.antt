@@ -21,16 +21,22 @@ first-element-requires : tie.Need-first-element-requires
 first-element-requires c κs = omega (arith, owned-low _ _ (c .before .before .pre .0) _ _ (c .owner .ensures))
 
 add-first-element : tie.Need-add-first-element
-add-first-element c = omega (arith, owned-low _ _ (c .before .before .before .pre .0) _ _ (c .before .owner .ensures))
+add-first-element c =
+    let s = c .before .before .before in
+    omega (arith, owned-low _ _ (s .pre .0) _ _ (c .before .owner .ensures))
 
 first-element-requires-2 : tie.Need-first-element-requires-2
-first-element-requires-2 c κs = omega (arith, owned-low _ _ (c .before .before .before .pre .0) _ _ (c .before .owner .ensures))
+first-element-requires-2 c κs =
+    let s = c .before .before .before in
+    omega (arith, owned-low _ _ (s .pre .0) _ _ (c .before .owner .ensures))
 
 sub-size : tie.Need-sub-size
 sub-size c = search needs
 
 record-place-requires : tie.Need-record-place-requires
-record-place-requires c κs = owned-low _ _ (c .before .before .before .before .pre .0) _ _ (c .before .before .owner .ensures)
+record-place-requires c κs =
+    let s = c .before .before .before .before in
+    owned-low _ _ (s .pre .0) _ _ (c .before .before .owner .ensures)
 
 sub-point : tie.Need-sub-point
 sub-point c = search needs
@@ -38,8 +44,9 @@ sub-point c = search needs
 point-requires : tie.Need-point-requires
 point-requires c κs =
     let o = c .before .before .before in
+    let s = o .before .before in
     let owns = o .owner .ensures in
-    let f = o .before .before .pre .0 in
+    let f = s .pre .0 in
     let l = laid-variable _ _ (f .placed) _ (owns .known) in
     let first = c .before .before .first-element .ensures in
     let next = c .before .first-element2 .ensures in
@@ -48,16 +55,21 @@ point-requires c κs =
     rw (c .record-place .ensures, first, next) (l .recorded, rw (l .box-is) size, omega (arith, l .few, size), omega (arith, low, size))
 
 body-place-requires : tie.Need-body-place-requires
-body-place-requires c κs = omega (arith, owned-low _ _ (c .before .before .before .before .before .before .pre .0) _ _ (c .before .before .before .before .owner .ensures))
+body-place-requires c κs =
+    let at-owner = c .before .before .before .before in
+    let s = at-owner .before .before in
+    omega (arith, owned-low _ _ (s .pre .0) _ _ (at-owner .owner .ensures))
 
 -- the element's point
 here : (c : tie.After-point) →
     let o = c .before .before .before .before in
     ElementIs (o .before .before .args .s .now) (o .owner .result) (o .before .before .args .e) (c .point .result)
 here c =
-    let o = c .before .before .before .before in
-    let place = rw (c .before .record-place .ensures, c .before .before .before .first-element .ensures) at (c .point .ensures) in
-    owned-element _ _ (o .before .before .pre .0) _ _ (o .owner .ensures) _ place
+    let at-first-element = c .before .before .before in
+    let o = at-first-element .before in
+    let s = o .before .before in
+    let place = rw (c .before .record-place .ensures, at-first-element .first-element .ensures) at (c .point .ensures) in
+    owned-element _ _ (s .pre .0) _ _ (o .owner .ensures) _ place
 
 abbrev start : tie.After-body-place → tie.Start
 start c = c .before .before .before .before .before .before .before
@@ -69,17 +81,19 @@ bodied c = let p = start c .pre in p .2 .opens _ (p .3) (omega (arith, p .4))
 expression-requires : tie.Need-expression-requires
 expression-requires c κs =
     let a = c .before .before in
+    let at-point = a .before in
     let s = start a in
-    let walk = element-walk _ _ (s .pre .0) _ _ _ (here (a .before)) (bodied a) _ (a .body-place .ensures) in
-    let held = element-held _ _ (s .pre .0) _ _ _ (here (a .before)) (bodied a) _ (a .body-place .ensures) in
+    let walk = element-walk _ _ (s .pre .0) _ _ _ (here at-point) (bodied a) _ (a .body-place .ensures) in
+    let held = element-held _ _ (s .pre .0) _ _ _ (here at-point) (bodied a) _ (a .body-place .ensures) in
     (s .pre .0, s .pre .1, s .pre .2, walk, omega arith, held)
 
 returns : tie.Need-returns
 returns c =
     let a = c .before .before .before in
+    let at-point = a .before in
     let s = start a in
-    let done = body-evaluated _ _ (s .pre .0) _ _ _ (here (a .before)) (bodied a) _ (a .body-place .ensures) _ _ _ (c .expression .ensures) in
-    body-by-number _ _ (s .pre .0) _ _ _ (here (a .before)) (bodied a) _ _ _ done
+    let done = body-evaluated _ _ (s .pre .0) _ _ _ (here at-point) (bodied a) _ (a .body-place .ensures) _ _ _ (c .expression .ensures) in
+    body-by-number _ _ (s .pre .0) _ _ _ (here at-point) (bodied a) _ _ _ done
 
 pub body-spec : {M : Type 1} → statement M
 body-spec =

@@ -35,12 +35,14 @@ loop-less c = let r = c .before .before .loop .inv .known in omega arith
 
 loop-again : tie.Need-loop-again Inv-loop μ-loop
 loop-again c =
-    let p = c .before .before .before .before .pre in
+    let s = c .before .before .before .before in
+    let p = s .pre in
     reached-next _ _ (p .0) _ (p .1) _ (c .before .before .loop .inv) (rw (c .before .first-element .ensures) at (c .if1 .taken))
 
 returns : tie.Need-returns Inv-loop μ-loop
 returns c =
-    reached-owns _ _ (c .before .before .before .before .pre .0) _ _ (c .before .before .loop .inv) (rw (c .before .first-element .ensures) at (c .if1 .left))
+    let s = c .before .before .before .before in
+    reached-owns _ _ (s .pre .0) _ _ (c .before .before .loop .inv) (rw (c .before .first-element .ensures) at (c .if1 .left))
 
 pub owner-spec : {M : Type 1} → statement M
 owner-spec =

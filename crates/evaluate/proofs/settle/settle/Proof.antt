@@ -15,7 +15,8 @@ use Rattle.evaluate.proofs.settle.settle.Statement.{statement}
 use Rattle.evaluate.proofs.settle.settle.Tie as tie
 
 abbrev Inv-loop : tie.InvT-loop
-Inv-loop s tab inside codes₀ values₀ stack₀ e high₀ codes values stack high = Going (sheetOf s) e (memoOf codes₀ values₀) (memoOf codes values) stack high
+Inv-loop s tab inside codes₀ values₀ stack₀ e high₀ codes values stack high =
+    Going (sheetOf s) e (memoOf codes₀ values₀) (memoOf codes values) stack high
 
 abbrev μ-loop : tie.MeasureT-loop
 μ-loop s tab inside codes₀ values₀ stack₀ e high₀ codes values stack high = sum toDo codes
@@ -25,7 +26,8 @@ element-copy-out-if1 c = omega (arith, c .before .pre .5, c .before .pre .2 .few
 
 returns : tie.Need-returns Inv-loop μ-loop
 returns c =
-    let p = c .before .before .before .pre in
+    let s = c .before .before .before in
+    let p = s .pre in
     (settled-before _ _ _ (p .2) (p .3) (p .5) (c .if1 .taken), p .4)
 
 of-requires : tie.Need-of-requires Inv-loop μ-loop
@@ -33,7 +35,8 @@ of-requires c κs = tt
 
 note-requires : tie.Need-note-requires Inv-loop μ-loop
 note-requires c κs =
-    let p = c .before .before .before .before .before .before .pre in
+    let s = c .before .before .before .before .before .before in
+    let p = s .pre in
     (omega (arith, p .5, p .2 .few), p .2 .codes-long, p .2 .values-long, rw (c .of .ensures) (omega arith))
 
 -- the memo in which the element is marked
@@ -45,35 +48,47 @@ marked c =
     noted-is (memoOf (s .args .codes .now) (s .args .values .now)) _ _ _ _ _ _ (c .note .ensures .0) (c .note .ensures .1) (c .before .of .ensures)
 
 cast-stack : tie.Need-cast-stack Inv-loop μ-loop
-cast-stack c = let p = c .before .before .before .before .before .before .before .pre in let low = p .5 in let all = p .2 .few in search needs
+cast-stack c =
+    let s = c .before .before .before .before .before .before .before in
+    let p = s .pre in let low = p .5 in let all = p .2 .few in search needs
 
 element-write-stack : tie.Need-element-write-stack Inv-loop μ-loop
 element-write-stack c = search needs
 
 loop-holds : tie.Need-loop-holds Inv-loop μ-loop
 loop-holds c =
-    let s = c .before .before .before .before .before .before .before in
+    let at-else1 = c .before .before .before .before in
+    let s = at-else1 .before .before .before in
     let p = s .pre in
-    let first = going-first _ _ _ (p .2) (p .3) (p .5) (c .before .before .before .before .if1 .left) (s .args .stack .now) (p .4) in
+    let first = going-first _ _ _ (p .2) (p .3) (p .5) (at-else1 .if1 .left) (s .args .stack .now) (p .4) in
     rw (marked c) first
 
 turn-requires : tie.Need-turn-requires Inv-loop μ-loop
 turn-requires c κs =
-    let p = c .before .before .before .before .before .before .before .before .before .before .before .before .pre in
-    let g = c .before .before .before .before .loop .inv in
-    (p .0, p .1, g .ready, g .stacked, c .before .before .before .loop-test .taken)
+    let in-loop = c .before .before .before in
+    let at-loop = in-loop .before in
+    let s = at-loop .before .before .before .before .before .before .before .before in
+    let p = s .pre in
+    let g = at-loop .loop .inv in
+    (p .0, p .1, g .ready, g .stacked, in-loop .loop-test .taken)
 
 loop-less : tie.Need-loop-less Inv-loop μ-loop
 loop-less c = c .turn .ensures .less
 
 loop-again : tie.Need-loop-again Inv-loop μ-loop
-loop-again c = going-on _ _ _ _ _ _ _ _ _ (c .before .before .before .before .before .loop .inv) (c .turn .ensures)
+loop-again c =
+    let at-loop = c .before .before .before .before .before in
+    going-on _ _ _ _ _ _ _ _ _ (at-loop .loop .inv) (c .turn .ensures)
 
 returns-2 : tie.Need-returns-2 Inv-loop μ-loop
 returns-2 c =
-    let p = c .before .before .before .before .before .before .before .before .before .pre in
-    let g = c .before .loop .inv in
-    (going-last _ _ _ (p .2) (p .3) (p .5) (c .before .before .before .before .before .before .if1 .left) _ _ _ (rw (marked (c .before .before)) at g) (omega (arith, c .loop-test .left)), g .stacked .sized)
+    let at-else1 = c .before .before .before .before .before .before in
+    let s = at-else1 .before .before .before in
+    let p = s .pre in
+    let g = c .before .loop .inv in (
+      going-last _ _ _ (p .2) (p .3) (p .5) (at-else1 .if1 .left) _ _ _ (rw (marked (c .before .before)) at g) (omega (arith, c .loop-test .left)),
+      g .stacked .sized,
+    )
 
 pub settle-spec : {M : Type 1} → statement M
 settle-spec =

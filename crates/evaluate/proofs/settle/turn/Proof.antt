@@ -11,7 +11,8 @@ use Rattle.evaluate.specs.Memo.{Memo, busy}
 use Rattle.evaluate.specs.Working.{memoOf, Done}
 use Rattle.evaluate.specs.Settling.{bodyOf, standing, Turned}
 use Rattle.evaluate.proofs.Entries.{noted-is, not-deep}
-use Rattle.evaluate.proofs.Stacks.{high-few, top-element, top-marked, codes-last, values-last, popped-turn, wanted-element, high-low, pushed-turn}
+use Rattle.evaluate.proofs.Stacks.{high-few, top-element, top-marked, codes-last, values-last, popped-turn, wanted-element, high-low}
+use Rattle.evaluate.proofs.Stacks.{pushed-turn}
 use borrow.Author.Needs.{needs}
 use Rattle.evaluate.proofs.settle.turn.Statement.{statement}
 use Rattle.evaluate.proofs.settle.turn.Tie as tie
@@ -44,7 +45,8 @@ cast-top c =
 
 body-requires : tie.Need-body-requires
 body-requires c κs =
-    let p = c .before .before .before .before .pre in
+    let s = c .before .before .before .before in
+    let p = s .pre in
     (p .0, p .1, p .2, top-element _ _ (p .2) _ _ (p .3) (p .4), top-marked _ _ (p .2) _ _ (p .3) (p .4))
 
 enum-known-r : tie.Need-enum-known-r
@@ -70,20 +72,33 @@ tall c = let p = start (c .before .before) .pre in high-low _ _ (p .2) _ _ (p .3
 note-requires : tie.Need-note-requires
 note-requires c κs =
     let r = c .before .before .before .before in
-    let p = start (r .before .before) .pre in
-    (deep-low r, codes-last _ _ (p .2) _ _ (p .3) (p .4) _ _ (deep r), values-last _ _ (p .2) _ _ (p .3) (p .4) _ _ (deep r), rw (c .of .ensures) (omega arith))
+    let at-body = r .before .before in
+    let p = start at-body .pre in (
+      deep-low r,
+      codes-last _ _ (p .2) _ _ (p .3) (p .4) _ _ (deep r),
+      values-last _ _ (p .2) _ _ (p .3) (p .4) _ _ (deep r),
+      rw (c .of .ensures) (omega arith),
+    )
 
 cast-stack : tie.Need-cast-stack
-cast-stack c = let low = deep-low (c .before .before .before .before .before) in search needs
+cast-stack c =
+    let at-r = c .before .before .before .before .before in
+    let low = deep-low at-r in search needs
 
 mul-stack : tie.Need-mul-stack
-mul-stack c = let h = tall (c .before .before .before .before .before) in search needs
+mul-stack c =
+    let at-r = c .before .before .before .before .before in
+    let h = tall at-r in search needs
 
 element-write-stack : tie.Need-element-write-stack
-element-write-stack c = tall (c .before .before .before .before .before)
+element-write-stack c =
+    let at-r = c .before .before .before .before .before in
+    tall at-r
 
 add-result : tie.Need-add-result
-add-result c = let h = tall (c .before .before .before .before .before) in search needs
+add-result c =
+    let at-r = c .before .before .before .before .before in
+    let h = tall at-r in search needs
 
 returns : tie.Need-returns
 returns c =
@@ -106,22 +121,28 @@ note-requires-2 : tie.Need-note-requires-2
 note-requires-2 c κs =
     let b = c .before .before .before .before .before in
     let p = start b .pre in
-    let D = b .body .ensures in
-    (omega (arith, top-element _ _ (p .2) _ _ (p .3) (p .4), p .2 .few), codes-last _ _ (p .2) _ _ (p .3) (p .4) _ _ D, values-last _ _ (p .2) _ _ (p .3) (p .4) _ _ D, c .value-of .ensures .1)
+    let D = b .body .ensures in (
+      omega (arith, top-element _ _ (p .2) _ _ (p .3) (p .4), p .2 .few),
+      codes-last _ _ (p .2) _ _ (p .3) (p .4) _ _ D,
+      values-last _ _ (p .2) _ _ (p .3) (p .4) _ _ D,
+      c .value-of .ensures .1,
+    )
 
 sub-result : tie.Need-sub-result
 sub-result c = search needs
 
 returns-2 : tie.Need-returns-2
 returns-2 c =
-    let b = c .before .before .before .before .before .before in
+    let at-match-keys2 = c .before .before .before .before .before in
+    let b = at-match-keys2 .before in
     let s = start b in
     let p = s .pre in
     let top = standing (s .args .stack .now) (s .args .high - 1) in
-    let turned = popped-turn _ _ (p .2) _ _ (p .3) (p .4) _ _ (b .body .ensures) (not-deep _ (c .before .before .before .before .before .match .keys2)) in
+    let turned = popped-turn _ _ (p .2) _ _ (p .3) (p .4) _ _ (b .body .ensures) (not-deep _ (at-match-keys2 .match .keys2)) in
     let code = c .note2 .ensures .0 ∙ ap (set (after b .codes) top) (c .before .before .code-of .ensures) in
     let stored = noted-is (after b) _ _ _ _ _ _ code (c .note2 .ensures .1) (c .before .value-of .ensures .0) in
-    subst (λ m. Turned (sheetOf (s .args .s .now)) (memoOf (s .args .codes .now) (s .args .values .now)) (s .args .stack .now) (s .args .high) m (s .args .stack .now) (s .args .high - 1)) (sym stored) turned
+    subst (λ m. Turned (sheetOf (s .args .s .now)) (memoOf (s .args .codes .now) (s .args .values .now)) (s .args .stack .now) (s .args .high) m
+    (s .args .stack .now) (s .args .high - 1)) (sym stored) turned
 
 pub turn-spec : {M : Type 1} → statement M
 turn-spec =
