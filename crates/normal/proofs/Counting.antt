@@ -1,8 +1,8 @@
--- Counting branches: a tree's count by its children's, counts that stop at 65, and the ways through the walks that count and choose.
+-- Counting branches: a tree's count by its children's, counts that stop at 65, and the ways through what counts, chooses and splits.
 -- Assumes nothing.
 use mathlib.Core.Path.{_≡_, refl, sym, ap, _∙_, subst}
-use Prim.Native.Nat.{ℕ, zero, suc, _+_, _*_, _-_, _≤_, _<_, min}
-use native.Mathlib.Nat.{mul-one, one-mul, mul-zero, mul-assoc, mul-comm, mul-suc}
+use Prim.Native.Nat.{ℕ, zero, suc, _+_, _*_, _-_, _/_, _%_, _≤_, _<_, min}
+use native.Mathlib.Nat.{mul-one, one-mul, mul-zero, mul-assoc, mul-comm, mul-suc, div-one, mod-one, le-mul-of-pos-right, mul-div-cancel-left}
 use native.Mathlib.Omega.{arith}
 use mathlib.Core.Bool.{Bool, true, false}
 use mathlib.Core.List.{List}
@@ -21,12 +21,13 @@ use Rattle.laws.specs.Children.{childrenOf, arity}
 use Rattle.laws.specs.Sheets.{varsOf}
 use Rattle.laws.proofs.Shapes.{allAt-none, MoreAt}
 use Rattle.affine.proofs.Several.{lt-or-le}
-use Rattle.tree.specs.Standing.{StandingAll}
+use Rattle.tree.specs.Standing.{Standing, StandingAll}
 use Rattle.tree.proofs.Standings.{children-at, children-counted, one-more}
 use Rattle.domain.proofs.Walks.{tree-code}
 use Rattle.normal.specs.declared.Chosen.{Chosen}
 use Rattle.normal.specs.Count.{countOf, sumOf, productOf, alone, joined, countsOf, capped, Picked, pick}
-use Rattle.normal.specs.Counted.{Counts, CountsAll, Ends, EndsAll, ChildrenAt, Picks}
+use Rattle.normal.specs.Counted.{Counts, CountsAll, Ends, EndsAll, ChildrenAt, PicksOf, Picks, OperandAt, SplitsOf, Splits}
+use Rattle.normal.proofs.Numbered.{positive}
 
 -- ---- by the children
 
@@ -149,20 +150,44 @@ module _ (e : Expr) (es : Exprs) (b : ℕ) where
   unfolding pick
   pick-later l = ap {B = Picked} (λ t. ifb t (λ _. record { child = e; branch = b }) (λ _. pick es (b - countOf e))) (le-ltb b (countOf e) l)
 
+sum-none : (es : Exprs) → es ≡ none → sumOf es ≡ 0
+unfolding countOf
+sum-none es e = ap sumOf e
+
 sum-more : (es : Exprs) (f : Expr) (fs : Exprs) → es ≡ more f fs → sumOf es ≡ countOf f + sumOf fs
 unfolding countOf
 sum-more es f fs e = ap sumOf e
 
-module _ (bs : List ℕ) (p left many b : ℕ) (h : ChildrenAt bs p left many b) where
+module _ (bs : List ℕ) (p left many b of : ℕ) (h : ChildrenAt bs p left many b of) where
   pub children-some : 1 ≤ many
-  children-some = go (h .trees) (h .some) (h .count)
+  children-some = go (h .trees) (h .sum) (h .count)
     where
-      go : (es : Exprs) → b < sumOf es → branchCount es ≡ many → 1 ≤ many
-      go none l e = unfold countOf in absurd (omega arith)
-      go (more f fs) l e = omega arith
+      go : (es : Exprs) → sumOf es ≡ of → branchCount es ≡ many → 1 ≤ many
+      go none s e = absurd (omega (arith, h .some, sum-none none refl))
+      go (more f fs) s e = omega arith
 
   pub children-standing : StandingAll (varsOf bs) bs p left many
   children-standing = record { trees = h .trees; end = h .end; at = h .at; few = h .few; many = h .count }
+
+  -- a branch of the first child
+  picks-first : (es : Exprs) (q k : ℕ) (x : MoreAt es (varsOf bs) bs p q (many - 1)) → countOf (x .first) ≡ k → b < k →
+      PicksOf bs es b (record { at = p; b = b; of = k })
+  picks-first es q k x count low =
+      let is = ap (λ t. pick t b) (x .is) ∙ pick-first (x .first) (x .rest) b (omega arith) in
+      record {
+        end = x .middle;
+        at = subst (λ t. At (t .child) (varsOf bs) bs p (x .middle)) (sym is) (x .before);
+        branch = ap (λ t. t .branch) (sym is);
+        count = ap (λ t. countOf (t .child)) is ∙ count;
+      }
+
+  -- the last child has all the branches that are left
+  pub last-way : many < 2 → Picks bs p many b of (record { at = p; b = b; of = of })
+  last-way few es q at m sum =
+      let x = one-more (varsOf bs) bs es p q many children-some at m in
+      let last = allAt-none (varsOf bs) bs (x .rest) (x .middle) q (x .after) (omega (arith, x .many)) in
+      let count : countOf (x .first) ≡ of = omega (arith, sum-more es (x .first) (x .rest) (x .is), sum-none (x .rest) (last .is)) in
+      picks-first es q of x count (h .some)
 
   module _ (n : ℕ) (counted : Counts bs p n) where
     split : MoreAt (h .trees) (varsOf bs) bs p (h .end) (many - 1)
@@ -172,51 +197,134 @@ module _ (bs : List ℕ) (p left many b : ℕ) (h : ChildrenAt bs p left many b)
     unfolding nodeCounts
     nodes = ap nodeCounts (split .is)
 
+    -- the count did not stop at 65
+    exact : (e : Expr) (q : ℕ) → At e (varsOf bs) bs p q → n ≡ countOf e
+    exact e q at =
+        let sum = sum-more (h .trees) (split .first) (split .rest) (split .is) in
+        omega (arith, counted .1 e q at, counted .1 (split .first) (split .middle) (split .before), sum, h .sum, h .low)
+
     -- the first child's branches come first
-    pub first-way : b < n → Picks bs p many b (record { at = p; b = b })
-    first-way l es q at m some =
+    pub first-way : b < n → Picks bs p many b of (record { at = p; b = b; of = n })
+    first-way l es q at m sum =
         let x = one-more (varsOf bs) bs es p q many children-some at m in
-        let low : b < countOf (x .first) = omega (arith, counted .1 (x .first) (x .middle) (x .before)) in
-        let is = ap (λ t. pick t b) (x .is) ∙ pick-first (x .first) (x .rest) b low in
-        record {
-          end = x .middle;
-          at = subst (λ t. At (t .child) (varsOf bs) bs p (x .middle)) (sym is) (x .before);
-          branch = ap (λ t. t .branch) (sym is);
-        }
+        picks-first es q n x (sym (exact (x .first) (x .middle) (x .before))) l
 
     module _ (past : n ≤ b) where
-      below : (e : Expr) (q : ℕ) → At e (varsOf bs) bs p q → n ≡ countOf e
-      below e q at = let c = counted .1 e q at in omega (arith, h .low)
-
       -- the others, from where the first ends
-      pub children-rest : (next : ℕ) → ((e : Expr) (q : ℕ) → At e (varsOf bs) bs p q → next ≡ q) → ChildrenAt bs next left (many - 1) (b - n)
-      children-rest next ends = record {
-        trees = split .rest;
-        end = h .end;
-        at = rw (ends (split .first) (split .middle) (split .before)) (split .after);
-        few = omega (arith, nodes, h .few);
-        count = split .many;
-        low = omega (arith, h .low);
-        some =
-            omega (
-              arith,
-              h .some,
-              sum-more (h .trees) (split .first) (split .rest) (split .is),
-              below (split .first) (split .middle) (split .before),
-            );
-      }
+      pub children-rest : (next : ℕ) → Ends bs p next → ChildrenAt bs next left (many - 1) (b - n) (of - n)
+      children-rest next ends =
+          let sum = sum-more (h .trees) (split .first) (split .rest) (split .is) in
+          record {
+            trees = split .rest;
+            end = h .end;
+            at = rw (ends (split .first) (split .middle) (split .before)) (split .after);
+            few = omega (arith, nodes, h .few);
+            count = split .many;
+            sum = omega (arith, sum, h .sum, exact (split .first) (split .middle) (split .before));
+            low = omega (arith, h .low);
+            some = omega (arith, h .some);
+          }
 
-      pub later-way : (next : ℕ) (r : Chosen) → ((e : Expr) (q : ℕ) → At e (varsOf bs) bs p q → next ≡ q) → Picks bs next (many - 1) (b - n) r →
-          Picks bs p many b r
-      later-way next r ends rest es q at m some =
+      pub later-way : (next : ℕ) (r : Chosen) → Ends bs p next → Picks bs next (many - 1) (b - n) (of - n) r → Picks bs p many b of r
+      later-way next r ends rest es q at m sum =
           let x = one-more (varsOf bs) bs es p q many children-some at m in
-          let same = below (x .first) (x .middle) (x .before) in
-          let more : b - n < sumOf (x .rest) = omega (arith, sum-more es (x .first) (x .rest) (x .is)) in
+          let same = exact (x .first) (x .middle) (x .before) in
+          let others : sumOf (x .rest) ≡ of - n = omega (arith, sum-more es (x .first) (x .rest) (x .is)) in
           let after = subst (λ i. AllAt (x .rest) (varsOf bs) bs i q) (sym (ends (x .first) (x .middle) (x .before))) (x .after) in
-          let found = rest (x .rest) q after (x .many) more in
+          let found = rest (x .rest) q after (x .many) others in
           let is = ap (λ t. pick t b) (x .is) ∙ pick-later (x .first) (x .rest) b (omega arith) ∙ ap (λ i. pick (x .rest) (b - i)) (sym same) in
           record {
             end = found .end;
             at = subst (λ t. At (t .child) (varsOf bs) bs (r .at) (found .end)) (sym is) (found .at);
             branch = found .branch ∙ ap (λ t. t .branch) (sym is);
+            count = ap (λ t. countOf (t .child)) is ∙ found .count;
           }
+
+-- ---- the ways through the split
+
+-- two numbers with a product are no larger than it
+pub record Factors (x y z : ℕ) : Type 0 where
+  pub left-some : 0 < x
+  pub right-some : 0 < y
+  pub left-low : x ≤ z
+  pub right-low : y ≤ z
+
+pub factors : (x y z : ℕ) → x * y ≡ z → 0 < z → Factors x y z
+factors x y z e some =
+    let right = positive {b = 0} x y (subst (λ i. 0 < i) (sym e) some) in
+    let left = positive {b = 0} y x (subst (λ i. 0 < i) (sym e ∙ mul-comm x y) some) in
+    record {
+      left-some = left;
+      right-some = right;
+      left-low = subst (λ i. x ≤ i) e (le-mul-of-pos-right x right);
+      right-low = subst (λ i. y ≤ i) (mul-comm y x ∙ e) (le-mul-of-pos-right y left);
+    }
+
+-- an operand alone: its branch of the combination's number
+pub only-split : (e : Expr) (others : Exprs) (q b of : ℕ) → others ≡ none → countOf e * productOf others ≡ of →
+    SplitsOf e others q b (record { b = b; of = of; next = q; rest = 0; among = 1 })
+only-split e others q b of none-are product =
+    let one = ap productOf none-are ∙ counts-none false in
+    record {
+      ends = refl;
+      first-count = sym (mul-one (countOf e)) ∙ ap (λ n. countOf e * n) (sym one) ∙ product;
+      rest-count = one;
+      first-branch = sym (ap (λ n. b / n) one ∙ div-one b);
+      rest-branch = sym (ap (λ n. b % n) one ∙ mod-one b);
+    }
+
+module _ (bs : List ℕ) (p left b of : ℕ) (h : OperandAt bs p left b of) where
+  pub operand-standing : Standing (varsOf bs) bs p left
+  operand-standing = record { tree = h .tree; end = h .end; at = h .at; few = h .few }
+
+  some : 0 < of
+  some = omega (arith, h .some)
+
+  -- where there is one combination, each operand has one branch
+  pub one-split : of < 2 → (next : ℕ) → Ends bs p next → Splits bs p b of (record { b = b; of = of; next = next; rest = b; among = of })
+  one-split few next ends e others q at product =
+      let f = factors (countOf e) (productOf others) of product some in
+      let one : productOf others ≡ 1 = omega (arith, f .right-some, f .right-low) in
+      let first : b ≡ 0 = omega (arith, h .some) in
+      record {
+        ends = ends e q at;
+        first-count = omega (arith, f .left-some, f .left-low);
+        rest-count = omega (arith, f .right-some, f .right-low);
+        first-branch = sym (ap (λ n. b / n) one ∙ div-one b);
+        rest-branch = first ∙ sym (ap (λ n. b % n) one ∙ mod-one b);
+      }
+
+  module _ (n : ℕ) (counted : Counts bs p n) where
+    -- the count did not stop at 65
+    operand-exact : (e : Expr) (q : ℕ) → At e (varsOf bs) bs p q → n ≡ countOf e
+    operand-exact e q at =
+        let f = factors (countOf (h .tree)) (productOf (h .others)) of (h .product) some in
+        omega (arith, counted .1 e q at, counted .1 (h .tree) (h .end) (h .at), f .left-low, h .low)
+
+    rest-is : (e : Expr) (others : Exprs) (q : ℕ) → At e (varsOf bs) bs p q → countOf e * productOf others ≡ of → of / n ≡ productOf others
+    rest-is e others q at product =
+        let f = factors (countOf e) (productOf others) of product some in
+        ap (λ i. i / n) (sym product) ∙ ap (λ i. countOf e * productOf others / i) (operand-exact e q at)
+        ∙ mul-div-cancel-left (productOf others) (f .left-some)
+
+    pub first-some : 0 < n
+    first-some =
+        let f = factors (countOf (h .tree)) (productOf (h .others)) of (h .product) some in
+        omega (arith, f .left-some, operand-exact (h .tree) (h .end) (h .at))
+
+    pub rest-some : 0 < of / n
+    rest-some =
+        let f = factors (countOf (h .tree)) (productOf (h .others)) of (h .product) some in
+        omega (arith, f .right-some, rest-is (h .tree) (h .others) (h .end) (h .at) (h .product))
+
+    pub counted-split : (next : ℕ) → Ends bs p next →
+        Splits bs p b of (record { b = b / (of / n); of = n; next = next; rest = b % (of / n); among = of / n })
+    counted-split next ends e others q at product =
+        let rest = rest-is e others q at product in
+        record {
+          ends = ends e q at;
+          first-count = sym (operand-exact e q at);
+          rest-count = sym rest;
+          first-branch = ap (λ i. b / i) rest;
+          rest-branch = ap (λ i. b % i) rest;
+        }

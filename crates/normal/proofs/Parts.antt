@@ -1,7 +1,7 @@
 -- A branch's parts by the node and its children: the children's combinations, the child that a case picks, and lengths. Assumes nothing.
 use mathlib.Core.Path.{_≡_, refl, sym, ap, _∙_}
 use Prim.Native.Nat.{ℕ, _+_, _*_, _-_, _/_, _%_, _^_, _≤_, _<_, max, min}
-use native.Mathlib.Nat.{mul-one, one-mul, div-one, div-eq-of-lt, mod-eq-of-lt}
+use native.Mathlib.Nat.{mul-one, div-one}
 use native.Mathlib.Omega.{arith}
 use mathlib.Core.Logic.{⊎-elim}
 use mathlib.Core.Bool.{Bool, true, false}
@@ -24,7 +24,7 @@ use Rattle.laws.proofs.Tests.{&&-left, &&-right}
 use Rattle.laws.proofs.Written.{sets-append}
 use Rattle.affine.proofs.Several.{lt-or-le}
 use Rattle.normal.specs.declared.Pen.{Pen}
-use Rattle.normal.specs.Count.{countOf, sumOf, productOf, countsOf, capped, joined, Picked, pick}
+use Rattle.normal.specs.Count.{countOf, sumOf, productOf, countsOf, Picked, pick}
 use Rattle.normal.specs.Part.{Part, nothing, beside, own, levelBelow, partOf, chosenOf, partsOf}
 use Rattle.normal.specs.Followed.{advance, laid, roomOf, Wrote}
 use Rattle.normal.proofs.Counting.{count-children}
@@ -81,12 +81,12 @@ pub record PickKept (es : Exprs) (b : ℕ) : Type 0 where
   pub fits-too : (hs : List Head) (n : ℕ) → allFit es hs n ≡ true → fits (pick es b .child) hs n ≡ true
   pub reaches-too : (r : ℕ) → reachAll es r ≡ true → reach (pick es b .child) r ≡ true
   pub few : nodeCount (pick es b .child) ≤ nodeCounts es
-  pub low : pick es b .branch ≤ b
+  pub no-more : countOf (pick es b .child) ≤ sumOf es
   pub some : pick es b .branch < countOf (pick es b .child)
   pub part-is : (t : Bool) (m : Map) (l : ℕ) → chosenOf t es m l b ≡ partOf t (pick es b .child) m l (pick es b .branch)
 
 first-kept : (e : Expr) (es : Exprs) (b : ℕ) → b < countOf e → PickKept (more e es) b
-unfolding pick fits reach nodeCounts partOf
+unfolding pick fits reach nodeCounts countOf partOf
 first-kept e es b h =
     let is : pick (more e es) b ≡ record { child = e; branch = b } =
     ap {B = Picked} (λ t. ifb t (λ _. record { child = e; branch = b }) (λ _. pick es (b - countOf e))) (lt-ltb b (countOf e) h) in
@@ -94,18 +94,18 @@ first-kept e es b h =
       fits-too = λ hs n f. rw (lt-ltb b (countOf e) h) (&&-left (fits e hs n) (allFit es hs n) f);
       reaches-too = λ r f. rw (lt-ltb b (countOf e) h) (&&-left (reach e r) (reachAll es r) f);
       few = rw (lt-ltb b (countOf e) h) (omega arith);
-      low = rw (lt-ltb b (countOf e) h) (omega arith);
+      no-more = rw (lt-ltb b (countOf e) h) (omega arith);
       some = rw (lt-ltb b (countOf e) h) h;
       part-is = λ t m l. rw (lt-ltb b (countOf e) h) refl;
     }
 
 later-kept : (e : Expr) (es : Exprs) (b : ℕ) → countOf e ≤ b → PickKept es (b - countOf e) → PickKept (more e es) b
-unfolding pick fits reach nodeCounts partOf
+unfolding pick fits reach nodeCounts countOf partOf
 later-kept e es b h k = record {
   fits-too = λ hs n f. rw (le-ltb b (countOf e) h) (k .fits-too hs n (&&-right (fits e hs n) (allFit es hs n) f));
   reaches-too = λ r f. rw (le-ltb b (countOf e) h) (k .reaches-too r (&&-right (reach e r) (reachAll es r) f));
   few = rw (le-ltb b (countOf e) h) (omega (arith, k .few));
-  low = rw (le-ltb b (countOf e) h) (omega (arith, k .low));
+  no-more = rw (le-ltb b (countOf e) h) (omega (arith, k .no-more));
   some = rw (le-ltb b (countOf e) h) (k .some);
   part-is = λ t m l. rw (le-ltb b (countOf e) h) (k .part-is t m l);
 }
@@ -115,25 +115,6 @@ unfolding countOf
 pick-kept none b h = absurd (omega arith)
 pick-kept (more e es) b h =
     ⊎-elim (λ lt. first-kept e es b lt) (λ le. later-kept e es b le (pick-kept es (b - countOf e) (omega arith))) (lt-or-le b (countOf e))
-
--- ---- the operands' numbers, by counts that stop at 65
-
-module _ (b p n : ℕ) (low : b ≤ 64) (some : 0 < p) (is : n ≡ capped (joined false 1 p)) where
-  count-is : n ≡ min 65 p
-  count-is = is ∙ ap capped (one-mul p)
-
-  pub capped-some : 1 ≤ n
-  capped-some = omega (arith, count-is)
-
-  pub capped-div : b / n ≡ b / p
-  capped-div = ⊎-elim (λ lt. let e : n ≡ p = omega (arith, count-is) in ap (λ k. b / k) e)
-      (λ le. let e : n ≡ 65 = omega (arith, count-is) in
-      let lt : b < n = omega arith in let lt2 : b < p = omega arith in div-eq-of-lt lt ∙ sym (div-eq-of-lt lt2)) (lt-or-le p 65)
-
-  pub capped-mod : b % n ≡ b % p
-  capped-mod = ⊎-elim (λ lt. let e : n ≡ p = omega (arith, count-is) in ap (λ k. b % k) e)
-      (λ le. let e : n ≡ 65 = omega (arith, count-is) in
-      let lt : b < n = omega arith in let lt2 : b < p = omega arith in mod-eq-of-lt lt ∙ sym (mod-eq-of-lt lt2)) (lt-or-le p 65)
 
 -- ---- the pen, part after part
 

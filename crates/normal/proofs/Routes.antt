@@ -2,9 +2,9 @@
 -- the maps composed, and at operands one after another; and that no sum on the way leaves an i64 or the room. Assumes nothing.
 use mathlib.Core.Path.{_≡_, sym, ap, ap₂, _∙_, subst}
 use Prim.Native.Nat.{ℕ, suc, _+_, _*_, _-_, _/_, _%_, _≤_, _<_}
-use native.Mathlib.Nat.{le-trans, mod-lt, mod-le, div-le-self, div-lt-iff-lt-mul, div-one}
+use native.Mathlib.Nat.{le-trans, mod-lt, div-lt-iff-lt-mul}
 use native.Mathlib.Omega.{arith}
-use mathlib.Core.Bool.{Bool, true, false, _&&_}
+use mathlib.Core.Bool.{Bool, true, _&&_}
 use mathlib.Core.List.{List, [], _∷_}
 use lib.ListN.{length, length-append}
 use lib.IntN.{natAbs}
@@ -23,7 +23,6 @@ use Rattle.laws.specs.Children.{childrenOf, arity, reachBelow, reachHere}
 use Rattle.laws.specs.Sheets.{headsOf, varsOf}
 use Rattle.laws.proofs.Tests.{&&-left, &&-right}
 use Rattle.laws.proofs.Readers.{counted-is}
-use Rattle.laws.proofs.Trees.{at-unique}
 use Rattle.laws.proofs.Nodes.{restr-constraint}
 use Rattle.laws.proofs.Shapes.{at-got, at-node, at-kase, at-dep, at-restr, KaseAt, DepAt, RestrAt, MoreAt, allAt-none}
 use Rattle.laws.proofs.Children.{arity-few, children-count, reach-children}
@@ -36,20 +35,19 @@ use Rattle.affine.proofs.Meaning.{height-length, width-cols}
 use Rattle.affine.proofs.Bounds.{rowReach-more, compose-fits}
 use Rattle.domain.proofs.Walks.{tree-code, code-field, same-below, children-fit}
 use Rattle.domain.proofs.Restrictions.{Each, each-first, each-rest, constraint-is}
-use Rattle.tree.specs.Standing.{Standing, StandingAll}
+use Rattle.tree.specs.Standing.{Standing}
 use Rattle.tree.proofs.Standings.{children-at, children-counted, one-more}
 use Rattle.normal.specs.declared.Chosen.{Chosen}
 use Rattle.normal.specs.declared.Pen.{Pen}
-use Rattle.normal.specs.Count.{countOf, sumOf, productOf, capped, joined, pick}
-use Rattle.normal.specs.Counted.{CountsAll, ChildrenAt, Picks}
+use Rattle.normal.specs.declared.Split.{Split}
+use Rattle.normal.specs.Count.{countOf, sumOf, productOf, pick}
+use Rattle.normal.specs.Counted.{ChildrenAt, Picks, OperandAt, SplitsOf, Splits}
 use Rattle.normal.specs.Part.{nothing, beside, own, levelBelow, partOf, chosenOf, partsOf}
 use Rattle.normal.specs.Rows.{AllComposable}
 use Rattle.normal.specs.Spot.{Limits, Spot}
 use Rattle.normal.specs.Followed.{roomOf, Route, RouteAll, Wrote, Visits, Follows, FollowsAll}
-use Rattle.normal.proofs.Numbered.{positive}
-use Rattle.normal.proofs.Counting as Counting
-use Rattle.normal.proofs.Parts.{part-children, count-operands, pick-kept, capped-some, capped-div, capped-mod, wrote-nothing}
-use Rattle.normal.proofs.Parts.{wrote-then, room-same, things-low, part-things}
+use Rattle.normal.proofs.Counting.{Factors, factors, only-split}
+use Rattle.normal.proofs.Parts.{part-children, count-operands, pick-kept, wrote-nothing, wrote-then, room-same, things-low, part-things}
 use Rattle.normal.proofs.Spots.{own-out, own-things}
 
 -- ---- reaches
@@ -74,7 +72,7 @@ composable n bs m bound (c ∷ cs) p w h r =
     )
 
 module _ (bs : List ℕ) where
-  module _ (p left : ℕ) (m : Map) (b : ℕ) (t : Bool) (level to room : ℕ) (h : Route bs p left m b t level to room) where
+  module _ (p left : ℕ) (m : Map) (b of : ℕ) (t : Bool) (level to room : ℕ) (h : Route bs p left m b of t level to room) where
     pub route-standing : Standing (varsOf bs) bs p left
     route-standing = record { tree = h .tree; end = h .end; at = h .at; few = h .few }
 
@@ -117,21 +115,22 @@ module _ (bs : List ℕ) where
         case-many =
             ap (λ e. branchCount (childrenOf e)) (sym (cases .is)) ∙ children-counted (varsOf bs) bs p k n long many (h .tree) (h .end) (h .at)
 
-        pub route-choice : ChildrenAt bs (p + k) (left - 1) n b
+        pub route-choice : ChildrenAt bs (p + k) (left - 1) n b of
         route-choice = record {
           trees = cases .branches;
           end = h .end;
           at = case-at;
           few = omega (arith, h .few, case-nodes);
           count = case-many;
+          sum = sym case-count ∙ h .branches;
           low = h .low;
-          some = omega (arith, h .some, case-count);
+          some = h .some;
         }
 
-        pub route-chosen : (r : Chosen) → Picks bs (p + k) n b r → Route bs (r .at) (left - 1) m (r .b) t level to room
+        pub route-chosen : (r : Chosen) → Picks bs (p + k) n b of r → Route bs (r .at) (left - 1) m (r .b) (r .of) t level to room
         route-chosen r picks =
-            let some : b < sumOf (cases .branches) = omega (arith, h .some, case-count) in
-            let found = picks (cases .branches) (h .end) case-at case-many some in
+            let some : b < sumOf (cases .branches) = omega (arith, h .some, h .branches, case-count) in
+            let found = picks (cases .branches) (h .end) case-at case-many (sym case-count ∙ h .branches) in
             let kept = pick-kept (cases .branches) b some in
             let same =
             case-part ∙ kept .part-is t (mapOf m) level ∙ ap (partOf t (pick (cases .branches) b .child) (mapOf m) level) (sym (found .branch)) in
@@ -144,8 +143,9 @@ module _ (bs : List ℕ) where
               fitting = kept .fits-too (headsOf bs) (m .height) case-fits;
               reaches = kept .reaches-too (h .bound) case-reaches;
               carried = h .carried;
-              low = omega (arith, found .branch, kept .low, h .low);
-              some = omega (arith, found .branch, kept .some);
+              branches = found .count;
+              low = omega (arith, found .count, kept .no-more, case-count, h .branches, h .low);
+              some = omega (arith, found .branch, kept .some, found .count);
               fits-room = subst (λ x. to + length (x .out) ≤ room) same (h .fits-room);
             }
 
@@ -198,7 +198,7 @@ module _ (bs : List ℕ) where
         by-is : mapOf w ≡ mapAfter (mapOf m) (below .by)
         by-is = is ∙ ap (mapAfter (mapOf m)) map-is
 
-        pub route-below : Route bs (p + k) (left - 1) w b t level to room
+        pub route-below : Route bs (p + k) (left - 1) w b of t level to room
         route-below = record {
           tree = below .child;
           end = h .end;
@@ -215,8 +215,9 @@ module _ (bs : List ℕ) where
                 (le-trans (map-reach (mapOf m) (below .by .rows) topReach) (mapReach-more (below .by .rows) (h .carried .within)));
             high = dep-limit;
           };
+          branches = sym dep-count ∙ h .branches;
           low = h .low;
-          some = omega (arith, h .some, dep-count);
+          some = h .some;
           fits-room = subst (λ x. to + length (x .out) ≤ room) (dep-part ∙ ap (λ f. partOf t (below .child) f level b) (sym by-is)) (h .fits-room);
         }
 
@@ -273,7 +274,7 @@ module _ (bs : List ℕ) where
           (level-is : (nd : Node) → codeOf nd ≡ natAbs (field bs p) → l ≡ levelBelow nd level) (dry : Bool) (pen after : Pen) (out out′ : List ℕ)
           (from : pen .to ≡ to)
           (visited : Visits bs p m t level dry pen out out′ after) where
-        pub route-children : RouteAll bs (p + k) (left - 1) n m b t l (after .to) room
+        pub route-children : RouteAll bs (p + k) (left - 1) n m b of t l (after .to) room
         route-children =
             let e = h .tree in
             let same = same-below e (m .height) (h .bound) no-dep in
@@ -293,17 +294,18 @@ module _ (bs : List ℕ) where
                   (&&-right (reachHere (nodeOf e) (h .bound)) (reachAll (childrenOf e) (reachBelow (nodeOf e) (h .bound)))
                   (sym (reach-children e (h .bound)) ∙ h .reaches));
               carried = h .carried;
+              combinations = sym (count-operands e no-case) ∙ h .branches;
               low = h .low;
-              some = omega (arith, h .some, count-operands e no-case);
+              some = h .some;
               fits-room = omega (arith, h .fits-room, lengths);
             }
 
         first-wrote : Wrote dry pen out out′ after (own t (nodeOf (h .tree)) (mapOf m) level)
         first-wrote = visited (nodeOf (h .tree)) (p + nodeLen bs p) (at-got (varsOf bs) bs (h .tree) p (h .end) (h .at))
 
-        pub route-after : room ≡ roomOf dry out → RouteAll bs (p + k) (left - 1) n m b t l (after .to) (roomOf dry out′)
+        pub route-after : room ≡ roomOf dry out → RouteAll bs (p + k) (left - 1) n m b of t l (after .to) (roomOf dry out′)
         route-after e =
-            subst (RouteAll bs (p + k) (left - 1) n m b t l (after .to))
+            subst (RouteAll bs (p + k) (left - 1) n m b of t l (after .to))
             (e ∙ sym (room-same dry pen out (own t (nodeOf (h .tree)) (mapOf m) level) first-wrote)) route-children
 
         pub visited-things : pen .things ≤ pen .to → after .things ≤ after .to
@@ -319,151 +321,159 @@ module _ (bs : List ℕ) where
 
   -- ---- so many operands
 
-  module _ (p left many : ℕ) (m : Map) (b : ℕ) (t : Bool) (level to room : ℕ) (some : 1 ≤ many) (h : RouteAll bs p left many m b t level to room)
-    where
-      split : MoreAt (h .trees) (varsOf bs) bs p (h .end) (many - 1)
-      split = one-more (varsOf bs) bs (h .trees) p (h .end) many some (h .at) (h .count)
+  module _ (p left many : ℕ) (m : Map) (b of : ℕ) (t : Bool) (level to room : ℕ) (some : 1 ≤ many)
+      (h : RouteAll bs p left many m b of t level to room) where
+    split : MoreAt (h .trees) (varsOf bs) bs p (h .end) (many - 1)
+    split = one-more (varsOf bs) bs (h .trees) p (h .end) many some (h .at) (h .count)
 
-      pub operands-standing : StandingAll (varsOf bs) bs p left many
-      operands-standing = record { trees = h .trees; end = h .end; at = h .at; few = h .few; many = h .count }
+    nodes : nodeCounts (h .trees) ≡ nodeCount (split .first) + nodeCounts (split .rest)
+    unfolding nodeCounts
+    nodes = ap nodeCounts (split .is)
 
-      nodes : nodeCounts (h .trees) ≡ nodeCount (split .first) + nodeCounts (split .rest)
-      unfolding nodeCounts
-      nodes = ap nodeCounts (split .is)
+    product : countOf (split .first) * productOf (split .rest) ≡ of
+    unfolding productOf
+    product = ap productOf (sym (split .is)) ∙ h .combinations
 
-      product : productOf (h .trees) ≡ countOf (split .first) * productOf (split .rest)
-      unfolding productOf
-      product = ap productOf (split .is)
+    pub route-operand : OperandAt bs p left b of
+    route-operand = record {
+      tree = split .first;
+      others = split .rest;
+      end = split .middle;
+      at = split .before;
+      few = omega (arith, nodes, h .few);
+      product = product;
+      low = h .low;
+      some = h .some;
+    }
 
-      all-fit : fits (split .first) (headsOf bs) (m .height) && allFit (split .rest) (headsOf bs) (m .height) ≡ true
-      unfolding allFit
-      all-fit = rw (split .is) at (h .fitting)
+    all-fit : fits (split .first) (headsOf bs) (m .height) && allFit (split .rest) (headsOf bs) (m .height) ≡ true
+    unfolding allFit
+    all-fit = rw (split .is) at (h .fitting)
 
-      all-reach : reach (split .first) (h .bound) && reachAll (split .rest) (h .bound) ≡ true
-      unfolding reachAll
-      all-reach = rw (split .is) at (h .reaches)
+    all-reach : reach (split .first) (h .bound) && reachAll (split .rest) (h .bound) ≡ true
+    unfolding reachAll
+    all-reach = rw (split .is) at (h .reaches)
 
-      low-product : b < countOf (split .first) * productOf (split .rest)
-      low-product = subst (λ i. b < i) product (h .some)
+    each : Factors (countOf (split .first)) (productOf (split .rest)) of
+    each = factors (countOf (split .first)) (productOf (split .rest)) of product (omega (arith, h .some))
 
-      rest-some : 0 < productOf (split .rest)
-      rest-some = positive (countOf (split .first)) (productOf (split .rest)) low-product
+    both-parts : partsOf t (h .trees) (mapOf m) level b
+        ≡ beside (partOf t (split .first) (mapOf m) level (b / productOf (split .rest)))
+        (partsOf t (split .rest) (mapOf m) level (b % productOf (split .rest)))
+    unfolding partsOf
+    both-parts = ap (λ es. partsOf t es (mapOf m) level b) (split .is)
 
-      both-parts : partsOf t (h .trees) (mapOf m) level b
-          ≡ beside (partOf t (split .first) (mapOf m) level (b / productOf (split .rest)))
-          (partsOf t (split .rest) (mapOf m) level (b % productOf (split .rest)))
-      unfolding partsOf
-      both-parts = ap (λ es. partsOf t es (mapOf m) level b) (split .is)
+    both-long : length (partsOf t (h .trees) (mapOf m) level b .out)
+        ≡ length (partOf t (split .first) (mapOf m) level (b / productOf (split .rest)) .out)
+        + length (partsOf t (split .rest) (mapOf m) level (b % productOf (split .rest)) .out)
+    both-long = ap (λ x. length (x .out)) both-parts ∙ length-append (partOf t (split .first) (mapOf m) level (b / productOf (split .rest)) .out)
+        (partsOf t (split .rest) (mapOf m) level (b % productOf (split .rest)) .out)
 
-      both-long : length (partsOf t (h .trees) (mapOf m) level b .out)
-          ≡ length (partOf t (split .first) (mapOf m) level (b / productOf (split .rest)) .out)
-          + length (partsOf t (split .rest) (mapOf m) level (b % productOf (split .rest)) .out)
-      both-long = ap (λ x. length (x .out)) both-parts ∙ length-append (partOf t (split .first) (mapOf m) level (b / productOf (split .rest)) .out)
-          (partsOf t (split .rest) (mapOf m) level (b % productOf (split .rest)) .out)
+    module _ (r : Split) (taken : SplitsOf (split .first) (split .rest) (split .middle) b r) where
+      after-first : AllAt (split .rest) (varsOf bs) bs (r .next) (h .end)
+      after-first = subst (λ i. AllAt (split .rest) (varsOf bs) bs i (h .end)) (sym (taken .ends)) (split .after)
 
-      module _ (next n : ℕ) (ends : (e : Expr) (q : ℕ) → At e (varsOf bs) bs p q → next ≡ q) (counted : CountsAll bs next (many - 1) false 1 n) where
-        after-first : AllAt (split .rest) (varsOf bs) bs next (h .end)
-        after-first =
-            subst (λ i. AllAt (split .rest) (varsOf bs) bs i (h .end)) (sym (ends (split .first) (split .middle) (split .before))) (split .after)
+      route-part : Route bs p left m (r .b) (r .of) t level to room
+      route-part = record {
+        tree = split .first;
+        end = split .middle;
+        bound = h .bound;
+        at = split .before;
+        few = omega (arith, nodes, h .few);
+        fitting = &&-left (fits (split .first) (headsOf bs) (m .height)) (allFit (split .rest) (headsOf bs) (m .height)) all-fit;
+        reaches = &&-left (reach (split .first) (h .bound)) (reachAll (split .rest) (h .bound)) all-reach;
+        carried = h .carried;
+        branches = taken .first-count;
+        low = omega (arith, taken .first-count, each .left-low, h .low);
+        some = rw (taken .first-branch, ← taken .first-count) (div-lt-iff-lt-mul (each .right-some) .1 (subst (λ i. b < i) (sym product) (h .some)));
+        fits-room =
+            subst (λ i. to + length (partOf t (split .first) (mapOf m) level i .out) ≤ room) (sym (taken .first-branch))
+            (omega (arith, h .fits-room, both-long));
+      }
 
-        count-is : n ≡ capped (joined false 1 (productOf (split .rest)))
-        count-is = counted .1 (split .rest) (h .end) after-first (split .many)
+      module _ (dry : Bool) (pen after : Pen) (out out′ : List ℕ) (from : pen .to ≡ to)
+          (followed : Follows bs p m (r .b) (r .of) t level dry pen out out′ after) where
+        wrote : Wrote dry pen out out′ after (partOf t (split .first) (mapOf m) level (r .b))
+        wrote = followed (split .first) (split .middle) (split .before) (taken .first-count)
 
-        pub count-some : 1 ≤ n
-        count-some = capped-some b (productOf (split .rest)) n (h .low) rest-some count-is
+        after-things : pen .things ≤ pen .to → after .things ≤ after .to
+        after-things low =
+            things-low dry pen out (partOf t (split .first) (mapOf m) level (r .b)) wrote low (part-things t (split .first) (mapOf m) level (r .b))
 
-        quotient : b / n ≡ b / productOf (split .rest)
-        quotient = capped-div b (productOf (split .rest)) n (h .low) rest-some count-is
+        route-rest : RouteAll bs (r .next) left (many - 1) m (r .rest) (r .among) t level (after .to) room
+        route-rest =
+            let to-is = ap (λ z. z .to) (wrote .pen-is) in
+            let first-long = ap (λ i. length (partOf t (split .first) (mapOf m) level i .out)) (taken .first-branch) in
+            record {
+              trees = split .rest;
+              end = h .end;
+              bound = h .bound;
+              at = after-first;
+              few = omega (arith, nodes, h .few);
+              count = split .many;
+              fitting = &&-right (fits (split .first) (headsOf bs) (m .height)) (allFit (split .rest) (headsOf bs) (m .height)) all-fit;
+              reaches = &&-right (reach (split .first) (h .bound)) (reachAll (split .rest) (h .bound)) all-reach;
+              carried = h .carried;
+              combinations = taken .rest-count;
+              low = omega (arith, taken .rest-count, each .right-low, h .low);
+              some = rw (taken .rest-branch, ← taken .rest-count) (mod-lt b (each .right-some));
+              fits-room =
+                  subst (λ i. after .to + length (partsOf t (split .rest) (mapOf m) level i .out) ≤ room) (sym (taken .rest-branch))
+                  (omega (arith, h .fits-room, both-long));
+            }
 
-        remainder : b % n ≡ b % productOf (split .rest)
-        remainder = capped-mod b (productOf (split .rest)) n (h .low) rest-some count-is
+        rest-after : room ≡ roomOf dry out → RouteAll bs (r .next) left (many - 1) m (r .rest) (r .among) t level (after .to) (roomOf dry out′)
+        rest-after e =
+            subst (RouteAll bs (r .next) left (many - 1) m (r .rest) (r .among) t level (after .to))
+            (e ∙ sym (room-same dry pen out (partOf t (split .first) (mapOf m) level (r .b)) wrote)) route-rest
 
-        first-some : b / n < countOf (split .first)
-        first-some = subst (λ i. i < countOf (split .first)) (sym quotient) (div-lt-iff-lt-mul rest-some .1 low-product)
+    -- one operand alone has the branch that the combination has
+    pub route-only : many < 2 → Route bs p left m b of t level to room
+    route-only few =
+        let last = allAt-none (varsOf bs) bs (split .rest) (split .middle) (h .end) (split .after) (omega (arith, split .many)) in
+        route-part _ (only-split (split .first) (split .rest) (split .middle) b of (last .is) product)
 
-        pub route-first : Route bs p left m (b / n) t level to room
-        route-first = record {
-          tree = split .first;
-          end = split .middle;
-          bound = h .bound;
-          at = split .before;
-          few = omega (arith, nodes, h .few);
-          fitting = &&-left (fits (split .first) (headsOf bs) (m .height)) (allFit (split .rest) (headsOf bs) (m .height)) all-fit;
-          reaches = &&-left (reach (split .first) (h .bound)) (reachAll (split .rest) (h .bound)) all-reach;
-          carried = h .carried;
-          low = le-trans (div-le-self b n) (h .low);
-          some = first-some;
-          fits-room =
-              subst (λ i. to + length (partOf t (split .first) (mapOf m) level i .out) ≤ room) (sym quotient) (omega (arith, h .fits-room, both-long));
-        }
+    -- the first operand, and then the others from where it ends
+    module _ (r : Split) (splits : Splits bs p b of r) where
+      first-taken : SplitsOf (split .first) (split .rest) (split .middle) b r
+      first-taken = splits (split .first) (split .rest) (split .middle) (split .before) product
 
-        module _ (dry : Bool) (pen after : Pen) (out out′ : List ℕ) (from : pen .to ≡ to)
-            (followed : Follows bs p m (b / n) t level dry pen out out′ after) where
-          wrote : Wrote dry pen out out′ after (partOf t (split .first) (mapOf m) level (b / n))
-          wrote = followed (split .first) (split .middle) (split .before) first-some
+      pub route-first : Route bs p left m (r .b) (r .of) t level to room
+      route-first = route-part r first-taken
 
-          pub followed-things : pen .things ≤ pen .to → after .things ≤ after .to
-          followed-things low =
-              things-low dry pen out (partOf t (split .first) (mapOf m) level (b / n)) wrote low (part-things t (split .first) (mapOf m) level (b / n))
+      module _ (dry : Bool) (pen after : Pen) (out out′ : List ℕ) (from : pen .to ≡ to)
+          (followed : Follows bs p m (r .b) (r .of) t level dry pen out out′ after) where
+        pub followed-things : pen .things ≤ pen .to → after .things ≤ after .to
+        followed-things = after-things r first-taken dry pen after out out′ from followed
 
-          route-rest : RouteAll bs next left (many - 1) m (b % n) t level (after .to) room
-          route-rest =
-              let to-is = ap (λ z. z .to) (wrote .pen-is) in
-              let first-long = ap (λ i. length (partOf t (split .first) (mapOf m) level i .out)) quotient in
-              record {
-                trees = split .rest;
-                end = h .end;
-                bound = h .bound;
-                at = after-first;
-                few = omega (arith, nodes, h .few);
-                count = split .many;
-                fitting = &&-right (fits (split .first) (headsOf bs) (m .height)) (allFit (split .rest) (headsOf bs) (m .height)) all-fit;
-                reaches = &&-right (reach (split .first) (h .bound)) (reachAll (split .rest) (h .bound)) all-reach;
-                carried = h .carried;
-                low = le-trans (mod-le b n) (h .low);
-                some = subst (λ i. i < productOf (split .rest)) (sym remainder) (mod-lt b rest-some);
-                fits-room =
-                    subst (λ i. after .to + length (partsOf t (split .rest) (mapOf m) level i .out) ≤ room) (sym remainder)
-                    (omega (arith, h .fits-room, both-long));
-              }
-
-          pub route-next : room ≡ roomOf dry out → RouteAll bs next left (many - 1) m (b % n) t level (after .to) (roomOf dry out′)
-          route-next e =
-              subst (RouteAll bs next left (many - 1) m (b % n) t level (after .to))
-              (e ∙ sym (room-same dry pen out (partOf t (split .first) (mapOf m) level (b / n)) wrote)) route-rest
-
-      -- one operand alone has the branch that the combination has
-      pub route-only : many < 2 → Route bs p left m b t level to room
-      route-only few =
-          let ends : (e : Expr) (q : ℕ) → At e (varsOf bs) bs p q → split .middle ≡ q =
-          λ e q x. at-unique (varsOf bs) bs p (split .first) e (split .middle) q (split .before) x .end-is in
-          subst (λ i. Route bs p left m i t level to room) (div-one b)
-          (route-first (split .middle) 1 ends (Counting.none-way bs (split .middle) (many - 1) false 1 (omega arith) (omega arith)))
+        pub route-next : room ≡ roomOf dry out → RouteAll bs (r .next) left (many - 1) m (r .rest) (r .among) t level (after .to) (roomOf dry out′)
+        route-next = rest-after r first-taken dry pen after out out′ from followed
 
 -- ---- the ways through the walk
 
-module _ (bs : List ℕ) (p : ℕ) (m : Map) (b : ℕ) (t : Bool) (level : ℕ) (dry : Bool) (pen : Pen) (out : List ℕ) where
+module _ (bs : List ℕ) (p : ℕ) (m : Map) (b of : ℕ) (t : Bool) (level : ℕ) (dry : Bool) (pen : Pen) (out : List ℕ) where
   coded-as : (e : Expr) (q : ℕ) → At e (varsOf bs) bs p q → natAbs (field bs p) ≡ codeNumber e
   coded-as e q h = tree-code bs p e q h
 
   module _ (k : ℕ) (long : k ≡ nodeLen bs p) where
     module _ (n : ℕ) (many : (nd : Node) (q : ℕ) → node (varsOf bs) bs p ≡ got nd q → n ≡ arity nd) where
       -- a case: the branch of the child that it picks
-      pub case-way : (r : Chosen) {out′ : List ℕ} {z : Pen} → natAbs (field bs p) ≡ 6 → Picks bs (p + k) n b r →
-          Follows bs (r .at) m (r .b) t level dry pen out out′ z →
-          Follows bs p m b t level dry pen out out′ z
-      case-way r {out′} {z} six picks followed e q h lt =
+      pub case-way : (r : Chosen) {out′ : List ℕ} {z : Pen} → natAbs (field bs p) ≡ 6 → b < of → Picks bs (p + k) n b of r →
+          Follows bs (r .at) m (r .b) (r .of) t level dry pen out out′ z →
+          Follows bs p m b of t level dry pen out out′ z
+      case-way r {out′} {z} six low picks followed e q h has =
           let x = at-kase (varsOf bs) bs e p q h (code-field bs p e q 6 h six) in
           let es = x .branches in
-          let some : b < sumOf es = subst (λ i. b < i) (counts es (x .is)) lt in
+          let sum : sumOf es ≡ of = sym (counts es (x .is)) ∙ has in
+          let some : b < sumOf es = omega arith in
           let below = subst (λ f. AllAt (childrenOf f) (varsOf bs) bs (p + k) q) (x .is) (children-at (varsOf bs) bs p k n long many e q h) in
           let count = ap (λ f. branchCount (childrenOf f)) (sym (x .is)) ∙ children-counted (varsOf bs) bs p k n long many e q h in
-          let found = picks es q below count some in
+          let found = picks es q below count sum in
           let kept = pick-kept es b some in
           let part =
           ap (partOf t (pick es b .child) (mapOf m) level) (found .branch) ∙ sym (kept .part-is t (mapOf m) level) ∙ sym (parted es (x .is)) in
           subst (Wrote dry pen out out′ z) part
-          (followed (pick es b .child) (found .end) (found .at) (omega (arith, found .branch, kept .some)))
+          (followed (pick es b .child) (found .end) (found .at) (found .count))
         where
           counts : (es : Exprs) → e ≡ kase es → countOf e ≡ sumOf es
           counts es i = unfold countOf in ap countOf i
@@ -474,9 +484,9 @@ module _ (bs : List ℕ) (p : ℕ) (m : Map) (b : ℕ) (t : Bool) (level : ℕ) 
       -- any other node: its own part, and then its operands'
       pub node-way : (l : ℕ) {a out′ : List ℕ} {y z : Pen} → (natAbs (field bs p) ≡ 6 → ⊥) → (natAbs (field bs p) ≡ 8 → ⊥) →
           ((nd : Node) → codeOf nd ≡ natAbs (field bs p) → l ≡ levelBelow nd level) → Visits bs p m t level dry pen out a y →
-          FollowsAll bs (p + k) n m b t l dry y a out′ z →
-          Follows bs p m b t level dry pen out out′ z
-      node-way l {a} {out′} {y} {z} six eight level-is visited followed e q h lt =
+          FollowsAll bs (p + k) n m b of t l dry y a out′ z →
+          Follows bs p m b of t level dry pen out out′ z
+      node-way l {a} {out′} {y} {z} six eight level-is visited followed e q h has =
           let c = coded-as e q h in
           let no-case : codeNumber e ≡ 6 → ⊥ = λ i. six (c ∙ i) in
           let no-dep : codeNumber e ≡ 8 → ⊥ = λ i. eight (c ∙ i) in
@@ -484,7 +494,7 @@ module _ (bs : List ℕ) (p : ℕ) (m : Map) (b : ℕ) (t : Bool) (level : ℕ) 
           let first = visited (nodeOf e) (p + nodeLen bs p) (at-got (varsOf bs) bs e p q h) in
           let rest =
           followed (childrenOf e) q (children-at (varsOf bs) bs p k n long many e q h) (children-counted (varsOf bs) bs p k n long many e q h)
-          (subst (λ i. b < i) (count-operands e no-case) lt) in
+          (sym (count-operands e no-case) ∙ has) in
           let both = wrote-then dry pen out own-part (partsOf t (childrenOf e) (mapOf m) l b) first rest in
           let same =
           ap (λ i. beside own-part (partsOf t (childrenOf e) (mapOf m) i b)) (level-is (nodeOf e) (sym c))
@@ -493,13 +503,13 @@ module _ (bs : List ℕ) (p : ℕ) (m : Map) (b : ℕ) (t : Bool) (level : ℕ) 
 
     -- a dependence: the child's branch, with the maps composed
     pub dep-way : (g w : Map) {out′ : List ℕ} {z : Pen} → natAbs (field bs p) ≡ 8 → MapRead bs (p + 8) g → mapOf w ≡ mapAfter (mapOf m) (mapOf g) →
-        Follows bs (p + k) w b t level dry pen out out′ z → Follows bs p m b t level dry pen out out′ z
-    dep-way g w {out′} {z} eight read is followed e q h lt =
+        Follows bs (p + k) w b of t level dry pen out out′ z → Follows bs p m b of t level dry pen out out′ z
+    dep-way g w {out′} {z} eight read is followed e q h has =
         let x = at-dep (varsOf bs) bs e p q h (code-field bs p e q 8 h eight) in
         let map-is = read .is (x .by) (p + nodeLen bs p) (x .fields .read) in
         let part = ap (λ f. partOf t (x .child) f level b) (is ∙ ap (mapAfter (mapOf m)) map-is) ∙ sym (parted x) in
         subst (Wrote dry pen out out′ z) part
-        (followed (x .child) q (subst (λ i. At (x .child) (varsOf bs) bs (p + i) q) (sym long) (x .below)) (subst (λ i. b < i) (counts x) lt))
+        (followed (x .child) q (subst (λ i. At (x .child) (varsOf bs) bs (p + i) q) (sym long) (x .below)) (sym (counts x) ∙ has))
       where
         counts : (x : DepAt e (varsOf bs) bs p q) → countOf e ≡ countOf (x .child)
         counts x = unfold countOf in ap countOf (x .is)
@@ -507,8 +517,8 @@ module _ (bs : List ℕ) (p : ℕ) (m : Map) (b : ℕ) (t : Bool) (level : ℕ) 
         parted : (x : DepAt e (varsOf bs) bs p q) → partOf t e (mapOf m) level b ≡ partOf t (x .child) (mapAfter (mapOf m) (x .by)) level b
         parted x = unfold partOf in ap (λ f. partOf t f (mapOf m) level b) (x .is)
 
-  pub none-way : (many : ℕ) → many < 1 → FollowsAll bs p many m b t level dry pen out out pen
-  none-way many l es q h c lt =
+  pub none-way : (many : ℕ) → many < 1 → FollowsAll bs p many m b of t level dry pen out out pen
+  none-way many l es q h c has =
       let x = allAt-none (varsOf bs) bs es p q h (omega arith) in
       subst (Wrote dry pen out out pen) (parted (x .is)) (wrote-nothing dry pen out)
     where
@@ -516,42 +526,43 @@ module _ (bs : List ℕ) (p : ℕ) (m : Map) (b : ℕ) (t : Bool) (level : ℕ) 
       parted i = unfold partsOf in ap (λ f. partsOf t f (mapOf m) level b) (sym i)
 
   -- the first operand, and then the others from where it ends
-  pub more-way : (many next n : ℕ) {a out′ : List ℕ} {y z : Pen} → 1 ≤ many → b ≤ 64 → ((e : Expr) (q : ℕ) → At e (varsOf bs) bs p q → next ≡ q) →
-      CountsAll bs next (many - 1) false 1 n →
-      Follows bs p m (b / n) t level dry pen out a y → FollowsAll bs next (many - 1) m (b % n) t level dry y a out′ z →
-      FollowsAll bs p many m b t level dry pen out out′ z
-  more-way many next n {a} {out′} {y} {z} some low ends counted first rest es q h c lt =
-      let x = one-more (varsOf bs) bs es p q many some h c in
+  split-way : (es : Exprs) (many q : ℕ) (x : MoreAt es (varsOf bs) bs p q (many - 1)) (r : Split) {a out′ : List ℕ} {y z : Pen} →
+      SplitsOf (x .first) (x .rest) (x .middle) b r → Follows bs p m (r .b) (r .of) t level dry pen out a y →
+      FollowsAll bs (r .next) (many - 1) m (r .rest) (r .among) t level dry y a out′ z →
+      Wrote dry pen out out′ z (partsOf t es (mapOf m) level b)
+  split-way es many q x r {out′ = out′} {z = z} taken first rest =
       let e = x .first in
       let fs = x .rest in
-      let product : b < countOf e * productOf fs = subst (λ i. b < i) (products x) lt in
-      let rest-some = positive (countOf e) (productOf fs) product in
-      let after = subst (λ i. AllAt fs (varsOf bs) bs i q) (sym (ends e (x .middle) (x .before))) (x .after) in
-      let count = counted .1 fs q after (x .many) in
-      let quotient = capped-div b (productOf fs) n low rest-some count in
-      let remainder = capped-mod b (productOf fs) n low rest-some count in
-      let one = first e (x .middle) (x .before) (subst (λ i. i < countOf e) (sym quotient) (div-lt-iff-lt-mul rest-some .1 product)) in
-      let others = rest fs q after (x .many) (subst (λ i. i < productOf fs) (sym remainder) (mod-lt b rest-some)) in
-      let both = wrote-then dry pen out (partOf t e (mapOf m) level (b / n)) (partsOf t fs (mapOf m) level (b % n)) one others in
-      let same = ap₂ (λ i j. beside (partOf t e (mapOf m) level i) (partsOf t fs (mapOf m) level j)) quotient remainder ∙ sym (parted x) in
+      let after = subst (λ i. AllAt fs (varsOf bs) bs i q) (sym (taken .ends)) (x .after) in
+      let one = first e (x .middle) (x .before) (taken .first-count) in
+      let others = rest fs q after (x .many) (taken .rest-count) in
+      let both = wrote-then dry pen out (partOf t e (mapOf m) level (r .b)) (partsOf t fs (mapOf m) level (r .rest)) one others in
+      let same =
+      ap₂ (λ i j. beside (partOf t e (mapOf m) level i) (partsOf t fs (mapOf m) level j)) (taken .first-branch) (taken .rest-branch) ∙ sym parted in
       subst (Wrote dry pen out out′ z) same both
     where
-      products : (x : MoreAt es (varsOf bs) bs p q (many - 1)) → productOf es ≡ countOf (x .first) * productOf (x .rest)
-      products x = unfold productOf in ap productOf (x .is)
-
-      parted : (x : MoreAt es (varsOf bs) bs p q (many - 1)) → partsOf t es (mapOf m) level b
+      parted : partsOf t es (mapOf m) level b
           ≡ beside (partOf t (x .first) (mapOf m) level (b / productOf (x .rest))) (partsOf t (x .rest) (mapOf m) level (b % productOf (x .rest)))
-      parted x = unfold partsOf in ap (λ f. partsOf t f (mapOf m) level b) (x .is)
+      parted = unfold partsOf in ap (λ f. partsOf t f (mapOf m) level b) (x .is)
 
-module _ (bs : List ℕ) (p : ℕ) (m : Map) (b : ℕ) (t : Bool) (level : ℕ) (dry : Bool) (pen : Pen) (out : List ℕ) where
-  -- one operand alone: its branch of the combination's number
-  pub one-way : (many : ℕ) {out′ : List ℕ} {z : Pen} → 1 ≤ many → many < 2 → b ≤ 64 → Follows bs p m b t level dry pen out out′ z →
-      FollowsAll bs p many m b t level dry pen out out′ z
-  one-way many {out′} {z} some few low only es q h c lt =
+  products : (es : Exprs) (n q : ℕ) (x : MoreAt es (varsOf bs) bs p q n) → productOf es ≡ of → countOf (x .first) * productOf (x .rest) ≡ of
+  unfolding productOf
+  products es n q x has = ap productOf (sym (x .is)) ∙ has
+
+  pub more-way : (many : ℕ) (r : Split) {a out′ : List ℕ} {y z : Pen} → 1 ≤ many → Splits bs p b of r →
+      Follows bs p m (r .b) (r .of) t level dry pen out a y → FollowsAll bs (r .next) (many - 1) m (r .rest) (r .among) t level dry y a out′ z →
+      FollowsAll bs p many m b of t level dry pen out out′ z
+  more-way many r some splits first rest es q h c has =
       let x = one-more (varsOf bs) bs es p q many some h c in
-      let ends : (e : Expr) (r : ℕ) → At e (varsOf bs) bs p r → x .middle ≡ r =
-      λ e r y. at-unique (varsOf bs) bs p (x .first) e (x .middle) r (x .before) y .end-is in
-      more-way bs p m b t level dry pen out many (x .middle) 1 some low ends
-      (Counting.none-way bs (x .middle) (many - 1) false 1 (omega arith) (omega arith))
-      (subst (λ i. Follows bs p m i t level dry pen out out′ z) (sym (div-one b)) only)
-      (none-way bs (x .middle) m (b % 1) t level dry z out′ (many - 1) (omega arith)) es q h c lt
+      split-way es many q x r (splits (x .first) (x .rest) (x .middle) (x .before) (products es (many - 1) q x has)) first rest
+
+module _ (bs : List ℕ) (p : ℕ) (m : Map) (b of : ℕ) (t : Bool) (level : ℕ) (dry : Bool) (pen : Pen) (out : List ℕ) where
+  -- one operand alone: its branch of the combination's number
+  pub one-way : (many : ℕ) {out′ : List ℕ} {z : Pen} → 1 ≤ many → many < 2 → Follows bs p m b of t level dry pen out out′ z →
+      FollowsAll bs p many m b of t level dry pen out out′ z
+  one-way many {out′} {z} some few only es q h c has =
+      let x = one-more (varsOf bs) bs es p q many some h c in
+      let last = allAt-none (varsOf bs) bs (x .rest) (x .middle) q (x .after) (omega (arith, x .many)) in
+      let product = products bs p m b of t level dry pen out es (many - 1) q x has in
+      split-way bs p m b of t level dry pen out es many q x _ (only-split (x .first) (x .rest) (x .middle) b of (last .is) product) only
+      (none-way bs (x .middle) m 0 1 t level dry z out′ (many - 1) (omega arith))

@@ -45,8 +45,8 @@ pub record Carried (m : Map) (bound : ℕ) : Type 0 where
 
 -- ---- what is required
 
--- a tree of at most `left` nodes stands at p and has a branch b, whose part keeps within the room; t says which part
-pub record Route (bs : List ℕ) (p left : ℕ) (m : Map) (b : ℕ) (t : Bool) (level to room : ℕ) : Type 0 where
+-- a tree of at most `left` nodes stands at p and has `of` branches, at most 64; the part of branch b keeps within the room; t says which part
+pub record Route (bs : List ℕ) (p left : ℕ) (m : Map) (b of : ℕ) (t : Bool) (level to room : ℕ) : Type 0 where
   pub tree : Expr
   pub end : ℕ
   pub bound : ℕ
@@ -55,12 +55,13 @@ pub record Route (bs : List ℕ) (p left : ℕ) (m : Map) (b : ℕ) (t : Bool) (
   pub fitting : fits tree (headsOf bs) (m .height) ≡ true
   pub reaches : reach tree bound ≡ true
   pub carried : Carried m bound
-  pub low : b ≤ 64
-  pub some : b < countOf tree
+  pub branches : countOf tree ≡ of
+  pub low : of ≤ 64
+  pub some : b < of
   pub fits-room : to + length (partOf t tree (mapOf m) level b .out) ≤ room
 
--- so many operands, which have a combination b
-pub record RouteAll (bs : List ℕ) (p left many : ℕ) (m : Map) (b : ℕ) (t : Bool) (level to room : ℕ) : Type 0 where
+-- so many operands, which have `of` combinations
+pub record RouteAll (bs : List ℕ) (p left many : ℕ) (m : Map) (b of : ℕ) (t : Bool) (level to room : ℕ) : Type 0 where
   pub trees : Exprs
   pub end : ℕ
   pub bound : ℕ
@@ -70,8 +71,9 @@ pub record RouteAll (bs : List ℕ) (p left many : ℕ) (m : Map) (b : ℕ) (t :
   pub fitting : allFit trees (headsOf bs) (m .height) ≡ true
   pub reaches : reachAll trees bound ≡ true
   pub carried : Carried m bound
-  pub low : b ≤ 64
-  pub some : b < productOf trees
+  pub combinations : productOf trees ≡ of
+  pub low : of ≤ 64
+  pub some : b < of
   pub fits-room : to + length (partsOf t trees (mapOf m) level b .out) ≤ room
 
 -- ---- what is answered
@@ -86,13 +88,13 @@ abbrev pub Visits : List ℕ → ℕ → Map → Bool → ℕ → Bool → Pen �
 Visits bs p m t level dry pen out out′ r =
     (nd : Node) (q : ℕ) → node (varsOf bs) bs p ≡ got nd q → Wrote dry pen out out′ r (own t nd (mapOf m) level)
 
--- of branch b of the tree at p
-abbrev pub Follows : List ℕ → ℕ → Map → ℕ → Bool → ℕ → Bool → Pen → List ℕ → List ℕ → Pen → Type 0
-Follows bs p m b t level dry pen out out′ r =
-    (e : Expr) (q : ℕ) → At e (varsOf bs) bs p q → b < countOf e → Wrote dry pen out out′ r (partOf t e (mapOf m) level b)
+-- of branch b of the tree at p, which has `of`
+abbrev pub Follows : List ℕ → ℕ → Map → ℕ → ℕ → Bool → ℕ → Bool → Pen → List ℕ → List ℕ → Pen → Type 0
+Follows bs p m b of t level dry pen out out′ r =
+    (e : Expr) (q : ℕ) → At e (varsOf bs) bs p q → countOf e ≡ of → Wrote dry pen out out′ r (partOf t e (mapOf m) level b)
 
--- of combination b of so many operands
-abbrev pub FollowsAll : List ℕ → ℕ → ℕ → Map → ℕ → Bool → ℕ → Bool → Pen → List ℕ → List ℕ → Pen → Type 0
-FollowsAll bs p many m b t level dry pen out out′ r =
-    (es : Exprs) (q : ℕ) → AllAt es (varsOf bs) bs p q → branchCount es ≡ many → b < productOf es →
+-- of combination b of so many operands, which have `of`
+abbrev pub FollowsAll : List ℕ → ℕ → ℕ → Map → ℕ → ℕ → Bool → ℕ → Bool → Pen → List ℕ → List ℕ → Pen → Type 0
+FollowsAll bs p many m b of t level dry pen out out′ r =
+    (es : Exprs) (q : ℕ) → AllAt es (varsOf bs) bs p q → branchCount es ≡ many → productOf es ≡ of →
     Wrote dry pen out out′ r (partsOf t es (mapOf m) level b)

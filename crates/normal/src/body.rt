@@ -22,8 +22,8 @@ fn measure(s: &[u8], at: usize, n: usize, many: usize, b: usize) -> Taken
         things: 0,
         deep: 0,
     };
-    let given = follow(s, at, 2048, b, m, false, true, 0, &mut none, start);
-    let term = follow(s, at, 2048, b, m, true, true, 0, &mut none, start);
+    let given = follow(s, at, 2048, b, many, m, false, true, 0, &mut none, start);
+    let term = follow(s, at, 2048, b, many, m, true, true, 0, &mut none, start);
     Taken {
         nodes: term.things + 1,
         bytes: 24 + given.to + term.to,
@@ -79,14 +79,14 @@ fn put_branch(
         things: 0,
         deep: 0,
     };
-    let given = follow(s, at, 2048, b, m, false, false, 0, out, start);
+    let given = follow(s, at, 2048, b, many, m, false, false, 0, out, start);
     put_nat(out, to + 16, given.things);
     let next = Pen {
         to: given.to,
         things: 0,
         deep: 0,
     };
-    let term = follow(s, at, 2048, b, m, true, false, 0, out, next);
+    let term = follow(s, at, 2048, b, many, m, true, false, 0, out, next);
     term.to
 }
 

@@ -1,19 +1,54 @@
-// The child of a case that a branch comes from. Assumes nothing.
+// What a branch is made of: the child of a case that it comes from, or a branch of each operand. Assumes nothing.
 use super::Chosen;
+use super::Split;
 use super::count::count_tree;
+use tree::skip::skip;
 ghost use Prim.Native.Nat.{_≤_};
-ghost use Rattle.normal.specs.Counted.{ChildrenAt, Picks};
+ghost use Rattle.normal.specs.Counted.{ChildrenAt, Picks, OperandAt, Splits};
 
-// Branch b of a case whose `many` children stand from `at` on: the branches of the first child come first.
-pub fn choose(s: &[u8], at: usize, left: usize, many: usize, b: usize) -> Chosen
-    requires { ⌜ ChildrenAt (now s) at left many b × (left ≤ 2048) ⌝ }
-    ensures { λ r. ⌜ Picks (now (s .entry)) at many b r ⌝ }
+// Branch b of a case whose `many` children stand from `at` on and have `of` branches: the branches of the first child come first. The last
+// child has those that are left.
+pub fn choose(s: &[u8], at: usize, left: usize, many: usize, b: usize, of: usize) -> Chosen
+    requires { ⌜ ChildrenAt (now s) at left many b of × (left ≤ 2048) ⌝ }
+    ensures { λ r. ⌜ Picks (now (s .entry)) at many b of r ⌝ }
 {
+    if many < 2 {
+        return Chosen { at, b, of };
+    }
     let first = count_tree(s, at, left);
     let n = first.many;
     let next = first.next;
     if b < n {
-        return Chosen { at, b };
+        return Chosen { at, b, of: n };
     }
-    choose(s, next, left, many - 1, b - n)
+    choose(s, next, left, many - 1, b - n, of - n)
+}
+
+// Combination b of operands that have `of`, the first of them at `at`: the first one's branch changes slowest. Where they have one, each
+// operand has one branch, and nothing is counted.
+pub fn split(s: &[u8], at: usize, left: usize, b: usize, of: usize) -> Split
+    requires { ⌜ OperandAt (now s) at left b of × (left ≤ 2048) ⌝ }
+    ensures { λ r. ⌜ Splits (now (s .entry)) at b of r ⌝ }
+{
+    if of < 2 {
+        let next = skip(s, at, left);
+        return Split {
+            b,
+            of,
+            next,
+            rest: b,
+            among: of,
+        };
+    }
+    let first = count_tree(s, at, left);
+    let n = first.many;
+    let next = first.next;
+    let among = of / n;
+    Split {
+        b: b / among,
+        of: n,
+        next,
+        rest: b % among,
+        among,
+    }
 }

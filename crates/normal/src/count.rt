@@ -5,7 +5,6 @@ use tree::node::children;
 use tree::node::natural;
 use tree::node::node_len;
 ghost use mathlib.Core.Path.{_≡_};
-ghost use mathlib.Core.Bool.{false};
 ghost use Prim.Native.Nat.{_≤_};
 ghost use Rattle.laws.specs.Sheets.{varsOf};
 ghost use Rattle.tree.specs.Standing.{Standing, StandingAll};
@@ -87,14 +86,5 @@ pub fn count(s: &[u8], at: usize, left: usize) -> usize
     ensures { λ r. ⌜ Counts (now (s .entry)) at r ⌝ }
 {
     let c = count_tree(s, at, left);
-    c.many
-}
-
-// How many combinations `many` operands have.
-pub fn count_all(s: &[u8], at: usize, left: usize, many: usize) -> usize
-    requires { ⌜ StandingAll (varsOf (now s)) (now s) at left many × (left ≤ 2048) × (many ≤ 64) ⌝ }
-    ensures { λ r. ⌜ CountsAll (now (s .entry)) at many false 1 r ⌝ }
-{
-    let c = count_trees(s, at, left, many, false, 1);
     c.many
 }

@@ -2,7 +2,7 @@
 // stored node by node. Assumes nothing.
 use super::Pen;
 use super::choose::choose;
-use super::count::count_all;
+use super::choose::split;
 use super::node::visit;
 use affine::Map;
 use affine::compose;
@@ -10,7 +10,6 @@ use affine::map_read;
 use tree::node::children;
 use tree::node::natural;
 use tree::node::node_len;
-use tree::skip::skip;
 ghost use mathlib.Core.Path.{_≡_};
 ghost use Prim.Native.Nat.{_+_, _≤_};
 ghost use Rattle.alpha.specs.Sheet.{Node};
@@ -32,12 +31,13 @@ fn level_below(code: usize, level: usize) -> usize
     level + 1
 }
 
-// Branch b of the tree at `at`, of at most `left` nodes, below `level` nodes of the branch's own tree.
+// Branch b of the tree at `at`, which has `of` branches and at most `left` nodes, below `level` nodes of the branch's own tree.
 pub fn follow(
     s: &[u8],
     at: usize,
     left: usize,
     b: usize,
+    of: usize,
     m: Map,
     tree: bool,
     dry: bool,
@@ -45,34 +45,36 @@ pub fn follow(
     out: &mut [u8],
     pen: Pen,
 ) -> Pen
-    requires { ⌜ Route (now s) at left m b tree level (pen .to) (roomOf dry (now out)) × (left ≤ 2048) × (level + left ≤ 4096) × (pen .things ≤ pen .to) ⌝ }
-    ensures { λ r. ⌜ Follows (now (s .entry)) at m b tree level dry pen (now (out .entry)) (now (out .exit)) r ⌝ }
+    requires { ⌜ Route (now s) at left m b of tree level (pen .to) (roomOf dry (now out)) × (left ≤ 2048) × (level + left ≤ 4096) × (pen .things ≤ pen .to) ⌝ }
+    ensures { λ r. ⌜ Follows (now (s .entry)) at m b of tree level dry pen (now (out .entry)) (now (out .exit)) r ⌝ }
 {
     let code = natural(s, at);
     let next = at + node_len(s, at);
     let many = children(s, at);
     if code == 6 {
-        let c = choose(s, next, left - 1, many, b);
+        let c = choose(s, next, left - 1, many, b, of);
         let child = c.at;
-        let branch = c.b;
-        return follow(s, child, left - 1, branch, m, tree, dry, level, out, pen);
+        let i = c.b;
+        let n = c.of;
+        return follow(s, child, left - 1, i, n, m, tree, dry, level, out, pen);
     }
     if code == 8 {
         let w = compose(map_read(s, at + 8), m);
-        return follow(s, next, left - 1, b, w, tree, dry, level, out, pen);
+        return follow(s, next, left - 1, b, of, w, tree, dry, level, out, pen);
     }
-    let after = visit(s, at, m, tree, dry, level, out, pen);
-    let below = level_below(code, level);
-    follow_all(s, next, left - 1, many, b, m, tree, dry, below, out, after)
+    let pen = visit(s, at, m, tree, dry, level, out, pen);
+    let down = level_below(code, level);
+    follow_all(s, next, left - 1, many, b, of, m, tree, dry, down, out, pen)
 }
 
-// Combination b of `many` operands one after another, the leftmost operand's branch changing slowest.
+// Combination b of `many` operands one after another, which have `of`, the leftmost operand's branch changing slowest.
 fn follow_all(
     s: &[u8],
     at: usize,
     left: usize,
     many: usize,
     b: usize,
+    of: usize,
     m: Map,
     tree: bool,
     dry: bool,
@@ -80,29 +82,22 @@ fn follow_all(
     out: &mut [u8],
     pen: Pen,
 ) -> Pen
-    requires { ⌜ RouteAll (now s) at left many m b tree level (pen .to) (roomOf dry (now out)) × (left ≤ 2048) × (level + left ≤ 4096) × (many ≤ 64) × (pen .things ≤ pen .to) ⌝ }
-    ensures { λ r. ⌜ FollowsAll (now (s .entry)) at many m b tree level dry pen (now (out .entry)) (now (out .exit)) r ⌝ }
+    requires { ⌜ RouteAll (now s) at left many m b of tree level (pen .to) (roomOf dry (now out)) × (left ≤ 2048) × (level + left ≤ 4096) × (many ≤ 64) × (pen .things ≤ pen .to) ⌝ }
+    ensures { λ r. ⌜ FollowsAll (now (s .entry)) at many m b of tree level dry pen (now (out .entry)) (now (out .exit)) r ⌝ }
 {
     if many < 1 {
         return pen;
     }
     if many < 2 {
-        return follow(s, at, left, b, m, tree, dry, level, out, pen);
+        return follow(s, at, left, b, of, m, tree, dry, level, out, pen);
     }
-    let next = skip(s, at, left);
-    let n = count_all(s, next, left, many - 1);
-    let after = follow(s, at, left, b / n, m, tree, dry, level, out, pen);
-    follow_all(
-        s,
-        next,
-        left,
-        many - 1,
-        b % n,
-        m,
-        tree,
-        dry,
-        level,
-        out,
-        after,
-    )
+    let c = split(s, at, left, b, of);
+    let branch = c.b;
+    let first = c.of;
+    let pen = follow(s, at, left, branch, first, m, tree, dry, level, out, pen);
+    let next = c.next;
+    let more = many - 1;
+    let rest = c.rest;
+    let n = c.among;
+    follow_all(s, next, left, more, rest, n, m, tree, dry, level, out, pen)
 }

@@ -18,10 +18,21 @@ mod rows;
 mod totals;
 mod write;
 
-// A branch of a case: where the child stands that it comes from, and which of the child's branches it is.
+// A branch of a case: where the child stands that it comes from, which of the child's branches it is, and how many the child has.
 pub struct Chosen {
     pub at: usize,
     pub b: usize,
+    pub of: usize,
+}
+
+// A combination of operands: which branch of the first, and how many that has; where the others start, which combination of them, and among
+// how many.
+pub struct Split {
+    pub b: usize,
+    pub of: usize,
+    pub next: usize,
+    pub rest: usize,
+    pub among: usize,
 }
 
 // How many branches a tree has, or several have, up to 65; and where they end.

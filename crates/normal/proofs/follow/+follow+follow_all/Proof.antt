@@ -10,13 +10,12 @@ use Rattle.normal.proofs.follow.+follow+follow_all.Lts-follow_all as fo
 use Rattle.affine.proofs.compose.Reads as compose-reads
 use Rattle.affine.proofs.map_read.Reads as map-read-reads
 use Rattle.normal.proofs.choose.choose.Reads as choose-reads
-use Rattle.normal.proofs.count.count_all.Reads as count-all-reads
+use Rattle.normal.proofs.choose.split.Reads as split-reads
 use Rattle.normal.proofs.follow.level_below.Reads as level-below-reads
 use Rattle.normal.proofs.node.visit.Reads as visit-reads
 use Rattle.tree.proofs.node.children.Reads as children-reads
 use Rattle.tree.proofs.node.natural.Reads as natural-reads
 use Rattle.tree.proofs.node.node_len.Reads as node-len-reads
-use Rattle.tree.proofs.skip.skip.Reads as skip-reads
 use Rattle.normal.proofs.follow.+follow+follow_all.{statement}
 use Rattle.normal.proofs.follow.+follow+follow_all.Tie.{close}
 use Prim.Native.Nat.{ℕ, _+_, _*_, _≤_, _<_}
@@ -28,10 +27,10 @@ use Rattle.alpha.specs.Field.{field}
 use Rattle.laws.specs.Sheets.{varsOf}
 use Rattle.tree.specs.Standing.{Noded}
 use Rattle.tree.proofs.Noding.{code-there}
-use Rattle.tree.proofs.Standings.{standing-noded, standing-some, standing-there, first-standing, rest-standing}
+use Rattle.tree.proofs.Standings.{standing-noded, standing-some, standing-there}
 use Rattle.normal.proofs.Routes.{route-standing, route-choice, route-chosen, dep-dims, dep-composes, route-below, route-spot, route-after}
 use Rattle.normal.proofs.Routes.{visited-things, route-many}
-use Rattle.normal.proofs.Routes.{operands-standing, count-some, route-first, followed-things, route-next, case-way, node-way, dep-way}
+use Rattle.normal.proofs.Routes.{route-operand, route-first, followed-things, route-next, case-way, node-way, dep-way}
 use Rattle.normal.proofs.Routes.{none-way, one-way, more-way, route-only}
 
 abbrev μ-follow : Measures 2 follow-kinds.ps ℕ
@@ -82,21 +81,19 @@ abbrev follow-all-uses : ℕ → follow-all-lts.Claims
 follow-all-uses t = (
   follow-below t,
   follow.Post,
-  skip-reads.Asked,
-  skip-reads.Learnt,
-  count-all-reads.Asked,
-  count-all-reads.Learnt,
+  split-reads.Asked,
+  split-reads.Learnt,
   follow-all-below t,
   follow-all.Post,
 )
 
 -- the node
 noded : (t : ℕ) (c : follow-lts.Start (follow-uses t) (follow-at t) follow.Post) → Noded (varsOf (c .args .s .now)) (c .args .s .now) (c .args .at)
-noded t c = standing-noded _ _ _ _ (route-standing _ _ _ _ _ _ _ _ _ (c .pre .1 .0))
+noded t c = standing-noded _ _ _ _ (route-standing _ _ _ _ _ _ _ _ _ _ (c .pre .1 .0))
 
 -- there is a node left
 some : (t : ℕ) (c : follow-lts.Start (follow-uses t) (follow-at t) follow.Post) → 1 ≤ c .args .left
-some t c = standing-some _ _ _ _ (route-standing _ _ _ _ _ _ _ _ _ (c .pre .1 .0))
+some t c = standing-some _ _ _ _ (route-standing _ _ _ _ _ _ _ _ _ _ (c .pre .1 .0))
 
 follow-natural-requires : (t : ℕ) → follow-lts.Need-natural-requires (follow-uses t) (follow-at t) follow.Post
 follow-natural-requires t c κs = code-there _ _ _ (noded t (c .before .before))
@@ -109,7 +106,7 @@ follow-node-len-requires t c κs =
 follow-add-next : (t : ℕ) → follow-lts.Need-add-next (follow-uses t) (follow-at t) follow.Post
 follow-add-next t c =
     let s = c .before .before .before .before in
-    omega (arith, standing-there _ _ _ _ (route-standing _ _ _ _ _ _ _ _ _ (s .pre .1 .0)), c .node-len .ensures)
+    omega (arith, standing-there _ _ _ _ (route-standing _ _ _ _ _ _ _ _ _ _ (s .pre .1 .0)), c .node-len .ensures)
 
 follow-children-requires : (t : ℕ) → follow-lts.Need-children-requires (follow-uses t) (follow-at t) follow.Post
 follow-children-requires t c κs =
@@ -126,7 +123,7 @@ follow-choose-requires t c κs =
     let after-natural = c .before .before .before in
     let s = after-natural .before .before .before in
     let six = sym (after-natural .natural .ensures) ∙ c .if1 .taken in (
-      route-choice _ _ _ _ _ _ _ _ _ (s .pre .1 .0) six _ _ (c .before .before .node-len .ensures) (c .before .children .ensures),
+      route-choice _ _ _ _ _ _ _ _ _ _ (s .pre .1 .0) six _ _ (c .before .before .node-len .ensures) (c .before .children .ensures),
       omega (arith, s .pre .1 .1),
     )
 
@@ -146,7 +143,7 @@ follow-follow-requires t c κs =
     let is = s .pre .0 in (
       omega arith,
       (
-        route-chosen _ _ _ _ _ _ _ _ _ (s .pre .1 .0) six _ _ (after-node-len .node-len .ensures) (after-children .children .ensures) _
+        route-chosen _ _ _ _ _ _ _ _ _ _ (s .pre .1 .0) six _ _ (after-node-len .node-len .ensures) (after-children .children .ensures) _
             (c .before .choose .ensures),
         omega (arith, s .pre .1 .1),
         omega (arith, s .pre .1 .2),
@@ -166,9 +163,9 @@ follow-returns t c =
     let after-natural = after-node-len .before in
     let s = after-natural .before .before .before in
     let six = sym (after-natural .natural .ensures) ∙ then1 .if1 .taken in
-    case-way _ _ (s .args .m) (s .args .b) (s .args .tree) (s .args .level) (s .args .dry) (s .args .pen) _ _ (after-node-len .node-len .ensures) _
+    case-way _ _ (s .args .m) (s .args .b) (s .args .of) (s .args .tree) (s .args .level) (s .args .dry) (s .args .pen) _ _ (after-node-len .node-len .ensures) _
     (after-children .children .ensures)
-    _ six (after-choose .choose .ensures) (c .before .before .follow .ensures)
+    _ six (s .pre .1 .0 .some) (after-choose .choose .ensures) (c .before .before .follow .ensures)
 
 follow-add-map-read : (t : ℕ) → follow-lts.Need-add-map-read (follow-uses t) (follow-at t) follow.Post
 follow-add-map-read t c =
@@ -186,8 +183,8 @@ follow-compose-requires t c κs =
     let read = c .map-read .ensures in (
       read .neat,
       s .pre .1 .0 .carried .neat,
-      dep-dims _ _ _ _ _ _ _ _ _ (s .pre .1 .0) eight _ read,
-      dep-composes _ _ _ _ _ _ _ _ _ (s .pre .1 .0) eight _ read,
+      dep-dims _ _ _ _ _ _ _ _ _ _ (s .pre .1 .0) eight _ read,
+      dep-composes _ _ _ _ _ _ _ _ _ _ (s .pre .1 .0) eight _ read,
     )
 
 follow-sub-follow-2 : (t : ℕ) → follow-lts.Need-sub-follow-2 (follow-uses t) (follow-at t) follow.Post
@@ -208,7 +205,7 @@ follow-follow-requires-2 t c κs =
     let is = s .pre .0 in (
       omega arith,
       (
-        route-below _ _ _ _ _ _ _ _ _ (s .pre .1 .0) eight _ read _ (after-node-len .node-len .ensures) _ (w .0) (w .1) (w .2),
+        route-below _ _ _ _ _ _ _ _ _ _ (s .pre .1 .0) eight _ read _ (after-node-len .node-len .ensures) _ (w .0) (w .1) (w .2),
         omega (arith, s .pre .1 .1),
         omega (arith, s .pre .1 .2),
         s .pre .1 .3,
@@ -227,7 +224,7 @@ follow-returns-2 t c =
     let after-natural = after-node-len .before in
     let s = after-natural .before .before .before in
     let eight = sym (after-natural .natural .ensures) ∙ then2 .if2 .taken in
-    dep-way _ _ (s .args .m) (s .args .b) (s .args .tree) (s .args .level) (s .args .dry) (s .args .pen) _ _ (after-node-len .node-len .ensures)
+    dep-way _ _ (s .args .m) (s .args .b) (s .args .of) (s .args .tree) (s .args .level) (s .args .dry) (s .args .pen) _ _ (after-node-len .node-len .ensures)
     (after-map-read .map-read .result) (after-compose .compose .result) eight (after-map-read .map-read .ensures)
     (after-compose .compose .ensures .0) (c .before .before .follow2 .ensures)
 
@@ -249,7 +246,7 @@ eight t c e =
 follow-visit-requires : (t : ℕ) → follow-lts.Need-visit-requires (follow-uses t) (follow-at t) follow.Post
 follow-visit-requires t c κs =
     let s = c .before .before .before .before .before .before .before .before in
-    (route-spot _ _ _ _ _ _ _ _ _ (s .pre .1 .0) (six t (c .before)) (eight t (c .before)), omega (arith, s .pre .1 .2), s .pre .1 .3)
+    (route-spot _ _ _ _ _ _ _ _ _ _ (s .pre .1 .0) (six t (c .before)) (eight t (c .before)), omega (arith, s .pre .1 .2), s .pre .1 .3)
 
 follow-level-below-requires : (t : ℕ) → follow-lts.Need-level-below-requires (follow-uses t) (follow-at t) follow.Post
 follow-level-below-requires t c κs =
@@ -279,13 +276,13 @@ follow-follow-all-requires t c κs =
     let not-eight = eight t (else2) in
     let left = some t s in
     let is = s .pre .0 in
-    let few = route-many _ _ _ _ _ _ _ _ _ h not-six not-eight _ _ long many _ (λ nd e. below .0 nd (e ∙ sym code)) _ _ _ _ _ refl visited in
+    let few = route-many _ _ _ _ _ _ _ _ _ _ h not-six not-eight _ _ long many _ (λ nd e. below .0 nd (e ∙ sym code)) _ _ _ _ _ refl visited in
     let things =
-    visited-things _ _ _ _ _ _ _ _ _ h not-six not-eight _ _ long many _ (λ nd e. below .0 nd (e ∙ sym code)) _ _ _ _ _ refl visited
+    visited-things _ _ _ _ _ _ _ _ _ _ h not-six not-eight _ _ long many _ (λ nd e. below .0 nd (e ∙ sym code)) _ _ _ _ _ refl visited
     (s .pre .1 .3) in (
       omega arith,
       (
-        route-after _ _ _ _ _ _ _ _ _ h not-six not-eight _ _ long many _ (λ nd e. below .0 nd (e ∙ sym code)) _ _ _ _ _ refl visited refl,
+        route-after _ _ _ _ _ _ _ _ _ _ h not-six not-eight _ _ long many _ (λ nd e. below .0 nd (e ∙ sym code)) _ _ _ _ _ refl visited refl,
         omega (arith, s .pre .1 .1),
         omega (arith, s .pre .1 .2, below .1),
         few,
@@ -307,14 +304,14 @@ follow-returns-3 t c =
     let s = after-natural .before .before .before in
     let code = after-natural .natural .ensures in
     let below = after-level-below .level-below .ensures in
-    node-way _ _ (s .args .m) (s .args .b) (s .args .tree) (s .args .level) (s .args .dry) (s .args .pen) _ _ (after-node-len .node-len .ensures) _
+    node-way _ _ (s .args .m) (s .args .b) (s .args .of) (s .args .tree) (s .args .level) (s .args .dry) (s .args .pen) _ _ (after-node-len .node-len .ensures) _
     (after-children .children .ensures)
     _ (six t (else2)) (eight t (else2)) (λ nd e. below .0 nd (e ∙ sym code)) (after-visit .visit .ensures) (c .before .before .follow-all .ensures)
 
 follow-all-returns : (t : ℕ) → follow-all-lts.Need-returns (follow-all-uses t) (follow-all-at t) follow-all.Post
 follow-all-returns t c =
     let s = c .before .before .before in
-    none-way _ _ (s .args .m) (s .args .b) (s .args .tree) (s .args .level) (s .args .dry) (s .args .pen) _ _ (c .if1 .taken)
+    none-way _ _ (s .args .m) (s .args .b) (s .args .of) (s .args .tree) (s .args .level) (s .args .dry) (s .args .pen) _ _ (c .if1 .taken)
 
 follow-all-follow-requires : (t : ℕ) → follow-all-lts.Need-follow-requires (follow-all-uses t) (follow-all-at t) follow-all.Post
 follow-all-follow-requires t c κs =
@@ -323,7 +320,7 @@ follow-all-follow-requires t c κs =
     let is = s .pre .0 in (
       omega arith,
       (
-        route-only _ _ _ _ _ _ _ _ _ _ (then2 .before .if1 .left) (s .pre .1 .0) (then2 .if2 .taken),
+        route-only _ _ _ _ _ _ _ _ _ _ _ (then2 .before .if1 .left) (s .pre .1 .0) (then2 .if2 .taken),
         s .pre .1 .1,
         s .pre .1 .2,
         s .pre .1 .4,
@@ -338,78 +335,48 @@ follow-all-returns-2 t c =
     let after-follow = c .before .before in
     let then2 = after-follow .before .before in
     let s = then2 .before .before .before .before in
-    one-way _ _ (s .args .m) (s .args .b) (s .args .tree) (s .args .level) (s .args .dry) (s .args .pen) _ _ (then2 .before .if1 .left)
-    (then2 .if2 .taken) (s .pre .1 .0 .low) (after-follow .follow .ensures)
+    one-way _ _ (s .args .m) (s .args .b) (s .args .of) (s .args .tree) (s .args .level) (s .args .dry) (s .args .pen) _ _ (then2 .before .if1 .left)
+    (then2 .if2 .taken) (after-follow .follow .ensures)
 
-follow-all-skip-requires : (t : ℕ) → follow-all-lts.Need-skip-requires (follow-all-uses t) (follow-all-at t) follow-all.Post
-follow-all-skip-requires t c κs =
+follow-all-split-requires : (t : ℕ) → follow-all-lts.Need-split-requires (follow-all-uses t) (follow-all-at t) follow-all.Post
+follow-all-split-requires t c κs =
     let else1 = c .before in
     let s = else1 .before .before .before in
-    let more = else1 .if1 .left in
-    (first-standing _ _ _ _ _ more (operands-standing _ _ _ _ _ _ _ _ _ _ more (s .pre .1 .0)), s .pre .1 .1)
-
-follow-all-count-all-requires : (t : ℕ) → follow-all-lts.Need-count-all-requires (follow-all-uses t) (follow-all-at t) follow-all.Post
-follow-all-count-all-requires t c κs =
-    let else1 = c .before .before in
-    let s = else1 .before .before .before in
-    let more = else1 .if1 .left in (
-      rest-standing _ _ _ _ _ more (operands-standing _ _ _ _ _ _ _ _ _ _ more (s .pre .1 .0)) _ (c .skip .ensures),
-      s .pre .1 .1,
-      omega (arith, s .pre .1 .3),
-    )
-
-follow-all-div-follow : (t : ℕ) → follow-all-lts.Need-div-follow (follow-all-uses t) (follow-all-at t) follow-all.Post
-follow-all-div-follow t c =
-    let else1 = c .before .before .before in
-    let s = else1 .before .before .before in
-    omega (arith, count-some _ _ _ _ _ _ _ _ _ _ (else1 .if1 .left) (s .pre .1 .0) _ _ (c .before .skip .ensures) (c .count-all .ensures))
+    (route-operand _ _ _ _ _ _ _ _ _ _ _ (else1 .if1 .left) (s .pre .1 .0), s .pre .1 .1)
 
 follow-all-follow-requires-2 : (t : ℕ) → follow-all-lts.Need-follow-requires-2 (follow-all-uses t) (follow-all-at t) follow-all.Post
 follow-all-follow-requires-2 t c κs =
-    let else1 = c .before .before .before .before in
+    let after-split = c .before in
+    let else1 = after-split .before .before in
     let s = else1 .before .before .before in
     let is = s .pre .0 in (
       omega arith,
       (
-        route-first _ _ _ _ _ _ _ _ _ _ (else1 .if1 .left) (s .pre .1 .0) _ _ (c .before .before .skip .ensures) (c .before .count-all .ensures),
+        route-first _ _ _ _ _ _ _ _ _ _ _ (else1 .if1 .left) (s .pre .1 .0) _ (after-split .split .ensures),
         s .pre .1 .1,
         s .pre .1 .2,
         s .pre .1 .4,
       ),
     )
 
-follow-all-rem-follow-all : (t : ℕ) → follow-all-lts.Need-rem-follow-all (follow-all-uses t) (follow-all-at t) follow-all.Post
-follow-all-rem-follow-all t c =
-    let after-count-all = c .before .before .before .before in
-    let after-skip = after-count-all .before in
-    let else1 = after-skip .before .before in
-    let s = else1 .before .before .before in
-    omega (
-      arith,
-      count-some _ _ _ _ _ _ _ _ _ _ (else1 .if1 .left) (s .pre .1 .0) _ _ (after-skip .skip .ensures)
-          (after-count-all .count-all .ensures),
-    )
-
 follow-all-follow-all-requires : (t : ℕ) → follow-all-lts.Need-follow-all-requires (follow-all-uses t) (follow-all-at t) follow-all.Post
 follow-all-follow-all-requires t c κs =
     let after-follow = c .before .before .before in
-    let after-count-all = after-follow .before .before in
-    let after-skip = after-count-all .before in
-    let else1 = after-skip .before .before in
+    let after-split = after-follow .before .before in
+    let else1 = after-split .before .before in
     let s = else1 .before .before .before in
     let h = s .pre .1 .0 in
     let more = else1 .if1 .left in
-    let ends = after-skip .skip .ensures in
-    let counted = after-count-all .count-all .ensures in
+    let splits = after-split .split .ensures in
     let followed = after-follow .follow2 .ensures in
     let is = s .pre .0 in (
       omega arith,
       (
-        route-next _ _ _ _ _ _ _ _ _ _ more h _ _ ends counted _ _ _ _ _ refl followed refl,
+        route-next _ _ _ _ _ _ _ _ _ _ _ more h _ splits _ _ _ _ _ refl followed refl,
         s .pre .1 .1,
         s .pre .1 .2,
         omega (arith, s .pre .1 .3),
-        followed-things _ _ _ _ _ _ _ _ _ _ more h _ _ ends counted _ _ _ _ _ refl followed (s .pre .1 .4),
+        followed-things _ _ _ _ _ _ _ _ _ _ _ more h _ splits _ _ _ _ _ refl followed (s .pre .1 .4),
       ),
     )
 
@@ -419,13 +386,11 @@ follow-all-same-length-2 t c = search needs
 follow-all-returns-3 : (t : ℕ) → follow-all-lts.Need-returns-3 (follow-all-uses t) (follow-all-at t) follow-all.Post
 follow-all-returns-3 t c =
     let after-follow = c .before .before .before .before .before .before in
-    let after-count-all = after-follow .before .before in
-    let after-skip = after-count-all .before in
-    let else1 = after-skip .before .before in
+    let after-split = after-follow .before .before in
+    let else1 = after-split .before .before in
     let s = else1 .before .before .before in
-    more-way _ _ (s .args .m) (s .args .b) (s .args .tree) (s .args .level) (s .args .dry) (s .args .pen) _ _ _ _ (else1 .if1 .left)
-    (s .pre .1 .0 .low) (after-skip .skip .ensures)
-    (after-count-all .count-all .ensures) (after-follow .follow2 .ensures) (c .before .before .follow-all .ensures)
+    more-way _ _ (s .args .m) (s .args .b) (s .args .of) (s .args .tree) (s .args .level) (s .args .dry) (s .args .pen) _ _ _ (else1 .if1 .left)
+    (after-split .split .ensures) (after-follow .follow2 .ensures) (c .before .before .follow-all .ensures)
 
 pub +follow+follow-all-spec : {M : Type 1} → statement M
 +follow+follow-all-spec = close μ-follow μ-follow-all (λ t. follow-lts.spec (follow-uses t) (follow-at t)
@@ -459,11 +424,8 @@ pub +follow+follow-all-spec : {M : Type 1} → statement M
     (follow-all-follow-requires t)
     (follow-all-same-length t)
     (follow-all-returns-2 t)
-    (follow-all-skip-requires t)
-    (follow-all-count-all-requires t)
-    (follow-all-div-follow t)
+    (follow-all-split-requires t)
     (follow-all-follow-requires-2 t)
-    (follow-all-rem-follow-all t)
     (follow-all-follow-all-requires t)
     (follow-all-same-length-2 t)
     (follow-all-returns-3 t)
