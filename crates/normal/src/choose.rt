@@ -44,11 +44,13 @@ pub fn split(s: &[u8], at: usize, left: usize, b: usize, of: usize) -> Split
     let n = first.many;
     let next = first.next;
     let among = of / n;
+    let branch = b / among;
+    let rest = b % among;
     Split {
-        b: b / among,
+        b: branch,
         of: n,
         next,
-        rest: b % among,
+        rest,
         among,
     }
 }

@@ -24,13 +24,13 @@ div-among c =
     let s = c .before .before .before in
     first-some _ _ _ _ _ (s .pre .0) _ (c .count-tree .ensures .0)
 
-div-t12 : tie.Need-div-t12
-div-t12 c =
+div-branch : tie.Need-div-branch
+div-branch c =
     let s = c .before .before .before in
     rest-some _ _ _ _ _ (s .pre .0) _ (c .count-tree .ensures .0)
 
-rem-t13 : tie.Need-rem-t13
-rem-t13 c =
+rem-rest : tie.Need-rem-rest
+rem-rest c =
     let s = c .before .before .before in
     rest-some _ _ _ _ _ (s .pre .0) _ (c .count-tree .ensures .0)
 
@@ -40,4 +40,4 @@ returns-2 c =
     counted-split _ _ _ _ _ (s .pre .0) _ (c .count-tree .ensures .0) _ (c .count-tree .ensures .1)
 
 pub split-spec : {M : Type 1} → statement M
-split-spec = tie.close (tie.spec skip-requires returns count-tree-requires div-among div-t12 rem-t13 returns-2)
+split-spec = tie.close (tie.spec skip-requires returns count-tree-requires div-among div-branch rem-rest returns-2)
