@@ -409,10 +409,9 @@ no-branches : (bs : List ℕ) (p n many b : ℕ) (e : Expr) → IsBody bs p n ma
 no-branches bs p n many b e i le = drop-of-length-le (branchesIn bs e) {i = b} (omega (arith, i .count, count-is (dimension (headsOf bs)) e))
 
 module _ (bs : List ℕ) (p n many b : ℕ) where
-  pub measure-none : (sofar : Taken) → many ≤ b → b ≤ 64 → sofar .bytes ≤ b * 2 ^ 24 → sofar .nodes ≤ b * 2 ^ 24 → TakesFrom bs p n many b sofar sofar
-  measure-none sofar le low bytes-low nodes-low = record {
-    few-bytes = omega (arith, mul-le-mul-right (2 ^ 24) low);
-    few-nodes = omega (arith, mul-le-mul-right (2 ^ 24) low);
+  pub measure-none : (sofar : Taken) → many ≤ b → TakesFrom bs p n many b sofar sofar
+  measure-none sofar le = record {
+    few = (omega arith, omega arith);
     is =
         λ e i. taken-same (omega arith) (omega arith) (omega arith) (omega arith)
         ∙ ap (λ l. both sofar (total n l)) (sym (no-branches bs p n many b e i le));
@@ -421,8 +420,7 @@ module _ (bs : List ℕ) (p n many b : ℕ) where
   pub measure-more : (sofar taken next r : Taken) → b < many → TakesBranch bs p n many b taken → next ≡ both sofar taken →
       TakesFrom bs p n many (b + 1) next r → TakesFrom bs p n many b sofar r
   measure-more sofar taken next r lt took is rest = record {
-    few-bytes = rest .few-bytes;
-    few-nodes = rest .few-nodes;
+    few = (omega (arith, rest .few, took .few-bytes, ap (λ z. z .bytes) is), omega (arith, rest .few, took .few-nodes, ap (λ z. z .nodes) is));
     is = λ e i.
         let t = total n (drop (b + 1) (branchesIn bs e)) in
         rest .is e i ∙ ap (λ z. both z t) (is ∙ ap (both sofar) (took .is e i))

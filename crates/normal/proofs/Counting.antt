@@ -154,7 +154,7 @@ sum-none : (es : Exprs) → es ≡ none → sumOf es ≡ 0
 unfolding countOf
 sum-none es e = ap sumOf e
 
-sum-more : (es : Exprs) (f : Expr) (fs : Exprs) → es ≡ more f fs → sumOf es ≡ countOf f + sumOf fs
+pub sum-more : (es : Exprs) (f : Expr) (fs : Exprs) → es ≡ more f fs → sumOf es ≡ countOf f + sumOf fs
 unfolding countOf
 sum-more es f fs e = ap sumOf e
 

@@ -9,6 +9,7 @@ pub mod Spots
 pub mod Parts
 pub mod Routes
 pub mod Bodies
+pub mod Turns
 pub mod Plans
 pub mod Storing
 pub mod Normalising

@@ -1,21 +1,21 @@
 -- What the branches of a body take in the normal form: nodes, bytes, constraints and depth, of one branch and of all of them; and the body
 -- that stands at a place. Assumes nothing.
 use mathlib.Core.Path.{_≡_}
-use Prim.Native.Nat.{ℕ, _+_, _^_, _≤_, max}
+use Prim.Native.Nat.{ℕ, _+_, _*_, _-_, _^_, _≤_, max}
 use mathlib.Core.Bool.{true}
 use mathlib.Core.List.{List, [], _∷_}
 use lib.ListN.{length, getD, drop}
 use lib.Seq.{sets}
-use Rattle.alpha.specs.Sheet.{Expr, Expr.restr, Expr.kase, Exprs.none}
+use Rattle.alpha.specs.Sheet.{Expr, Exprs, Expr.restr, Expr.kase, Exprs.none}
 use Rattle.alpha.specs.Read.{dimension}
-use Rattle.alpha.specs.Shape.{fits}
-use Rattle.alpha.specs.Reach.{topReach, reach}
-use Rattle.alpha.specs.Written.{bytes, allBytes, nodeCount, depth}
-use Rattle.alpha.specs.Normal.{Branch, norm, asExprs}
-use Rattle.laws.specs.At.{At}
+use Rattle.alpha.specs.Shape.{fits, allFit}
+use Rattle.alpha.specs.Reach.{topReach, reach, reachAll}
+use Rattle.alpha.specs.Written.{bytes, allBytes, branchCount, nodeCount, nodeCounts, depth}
+use Rattle.alpha.specs.Normal.{Branch, norm, norms, asExprs}
+use Rattle.laws.specs.At.{At, AllAt}
 use Rattle.laws.specs.Sheets.{headsOf, varsOf}
 use Rattle.normal.specs.declared.Taken.{Taken}
-use Rattle.normal.specs.Count.{countOf}
+use Rattle.normal.specs.Count.{countOf, sumOf}
 
 -- ---- sizes
 
@@ -66,6 +66,15 @@ pub record IsBody (bs : List ℕ) (p n many : ℕ) (e : Expr) : Type 0 where
   pub fitting : fits e (headsOf bs) n ≡ true
   pub count : countOf e ≡ many
 
+-- ---- what they take
+
+-- room in a sum for so many branches more, and no more than they take was added
+abbrev pub Spare : ℕ → Taken → Type 0
+Spare many z = (z .bytes + many * 2 ^ 24 ≤ 2 ^ 31) × (z .nodes + many * 2 ^ 24 ≤ 2 ^ 31)
+
+abbrev pub Within : ℕ → Taken → Taken → Type 0
+Within many z r = (r .bytes ≤ z .bytes + many * 2 ^ 24) × (r .nodes ≤ z .nodes + many * 2 ^ 24)
+
 -- what branch b takes
 pub record TakesBranch (bs : List ℕ) (p n many b : ℕ) (r : Taken) : Type 0 where
   pub few-bytes : r .bytes ≤ 2 ^ 24
@@ -74,9 +83,10 @@ pub record TakesBranch (bs : List ℕ) (p n many b : ℕ) (r : Taken) : Type 0 w
 
 -- the branches from number b on are added to those so far
 pub record TakesFrom (bs : List ℕ) (p n many b : ℕ) (sofar r : Taken) : Type 0 where
-  pub few-bytes : r .bytes ≤ 2 ^ 31
-  pub few-nodes : r .nodes ≤ 2 ^ 31
+  pub few : Within (many - b) sofar r
   pub is : (e : Expr) → IsBody bs p n many e → r ≡ both sofar (total n (drop b (branchesIn bs e)))
+
+-- ---- where they are stored
 
 -- branch b is stored at `to`, up to r
 abbrev pub StoresBranch : List ℕ → ℕ → ℕ → ℕ → ℕ → ℕ → List ℕ → List ℕ → ℕ → Type 0
@@ -96,3 +106,40 @@ abbrev pub StoresFrom : List ℕ → ℕ → ℕ → ℕ → ℕ → ℕ → Lis
 StoresFrom bs p n many b to out out′ r =
     (e : Expr) → IsBody bs p n many e →
     (out′ ≡ sets out to (allBytes (asExprs n (drop b (branchesIn bs e))))) × (r ≡ to + length (allBytes (asExprs n (drop b (branchesIn bs e)))))
+
+-- ---- the children of a case
+
+-- the branches of trees one after another
+abbrev pub allBranchesIn : List ℕ → Exprs → List Branch
+allBranchesIn bs es = norms es (dimension (headsOf bs))
+
+-- any trees from p on, so many of them, which have `of` branches
+pub record AreBodies (bs : List ℕ) (p n many of : ℕ) (es : Exprs) : Type 0 where
+  pub end : ℕ
+  pub at : AllAt es (varsOf bs) bs p end
+  pub fitting : allFit es (headsOf bs) n ≡ true
+  pub count : branchCount es ≡ many
+  pub sum : sumOf es ≡ of
+
+-- such trees stand from p on
+pub record BodiesAt (bs : List ℕ) (p n many of : ℕ) : Type 0 where
+  pub trees : Exprs
+  pub are : AreBodies bs p n many of trees
+  pub few : nodeCounts trees ≤ 2048
+  pub reaches : reachAll trees topReach ≡ true
+  pub narrow : n ≤ 4
+  pub low : of ≤ 64
+
+-- their branches are added to those so far
+pub record TakesAll (bs : List ℕ) (p n many of : ℕ) (sofar r : Taken) : Type 0 where
+  pub few : Within of sofar r
+  pub is : (es : Exprs) → AreBodies bs p n many of es → r ≡ both sofar (total n (allBranchesIn bs es))
+
+abbrev pub RoomAll : List ℕ → ℕ → ℕ → ℕ → ℕ → ℕ → ℕ → Type 0
+RoomAll bs p n many of to room = (es : Exprs) → AreBodies bs p n many of es → to + length (allBytes (asExprs n (allBranchesIn bs es))) ≤ room
+
+-- and are stored from `to` on, up to r
+abbrev pub StoresAll : List ℕ → ℕ → ℕ → ℕ → ℕ → ℕ → List ℕ → List ℕ → ℕ → Type 0
+StoresAll bs p n many of to out out′ r =
+    (es : Exprs) → AreBodies bs p n many of es →
+    (out′ ≡ sets out to (allBytes (asExprs n (allBranchesIn bs es)))) × (r ≡ to + length (allBytes (asExprs n (allBranchesIn bs es))))

@@ -1,4 +1,4 @@
-// The branches of one body, measured and stored. Assumes nothing.
+// The branches of one tree by their numbers, measured and stored. Assumes nothing.
 use super::Pen;
 use super::Taken;
 use super::follow::follow;
@@ -6,7 +6,7 @@ use super::node::larger;
 use affine::identity;
 use integer::put_nat;
 ghost use mathlib.Core.Path.{_≡_};
-ghost use Prim.Native.Nat.{_+_, _*_, _^_, _≤_, _<_, min};
+ghost use Prim.Native.Nat.{_+_, _-_, _^_, _≤_, _<_, min};
 ghost use lib.ListN.{length};
 ghost use Rattle.normal.specs.Body as Body;
 
@@ -48,7 +48,7 @@ fn both(a: Taken, b: Taken) -> Taken
 
 // What the branches from number b on take, with those so far.
 pub fn measure_from(s: &[u8], at: usize, n: usize, many: usize, b: usize, sofar: Taken) -> Taken
-    requires { ⌜ Body.BodyAt (now s) at n many × (b ≤ many) × (sofar .bytes ≤ b * 2 ^ 24) × (sofar .nodes ≤ b * 2 ^ 24) ⌝ }
+    requires { ⌜ Body.BodyAt (now s) at n many × (b ≤ many) × Body.Spare (many - b) sofar ⌝ }
     ensures { λ r. ⌜ Body.TakesFrom (now (s .entry)) at n many b sofar r ⌝ }
 {
     if many <= b {

@@ -1,6 +1,6 @@
 // The normaliser: the sheet with every body in normal form (source document 002, 8.1 to 8.3), or WIDE or ROOM. Nothing is copied but the
-// first two sections: a branch is found by its number, counted over the body's tree, and followed from the top down with the map composed so
-// far, once for its constraints and once for its tree. Assumes nothing.
+// first two sections: a case has its children's branches in turn; a branch of any other tree is found by its number, counted over the tree,
+// and followed from the top down with the map composed so far, once for its constraints and once for its tree. Assumes nothing.
 use accept::admit;
 use alpha::Refusal;
 use alpha::Verdict;
@@ -16,6 +16,7 @@ mod follow;
 mod node;
 mod rows;
 mod totals;
+mod turn;
 mod write;
 
 // A branch of a case: where the child stands that it comes from, which of the child's branches it is, and how many the child has.

@@ -1,8 +1,8 @@
 // The totals of the normal form, variable by variable, against the limits of document 01. Assumes nothing.
 use super::Plan;
 use super::Taken;
-use super::body::measure_from;
 use super::count::count;
+use super::turn::measure_tree;
 use sheet::table::body_place;
 use sheet::table::variable_count;
 use tree::variable::dimension_of;
@@ -32,7 +32,7 @@ fn grow(s: &[u8], tab: &[usize; 102], v: usize, nodes: usize, size: usize) -> Pl
         limits: 0,
         deep: 0,
     };
-    let all = measure_from(s, at, n, many, 0, start);
+    let all = measure_tree(s, at, 2048, n, many, start);
     if 64 < all.limits {
         return Plan::WideAt(v);
     }

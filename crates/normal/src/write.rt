@@ -1,6 +1,6 @@
 // The bodies of the normal form, stored one after another. Assumes nothing.
-use super::body::put_from;
 use super::count::count;
+use super::turn::put_tree;
 use alpha::Refusal;
 use alpha::Verdict;
 use integer::put_nat;
@@ -27,7 +27,7 @@ fn put_body(s: &[u8], tab: &[usize; 102], v: usize, out: &mut [u8], to: usize) -
     let n = dimension_of(s, tab, v);
     put_nat(out, to, 6);
     put_nat(out, to + 8, many);
-    put_from(s, at, n, many, 0, out, to + 16)
+    put_tree(s, at, 2048, n, many, out, to + 16)
 }
 
 // The bodies of the variables from number v on; an input has none.

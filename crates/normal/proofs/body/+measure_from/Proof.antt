@@ -34,7 +34,7 @@ measure-from-uses t = (measure-reads.Asked, measure-reads.Learnt, both-reads.Ask
 measure-from-returns : (t : ℕ) → measure-from-lts.Need-returns (measure-from-uses t) (measure-from-at t) measure-from.Post
 measure-from-returns t c =
     let s = c .before .before in
-    measure-none _ _ _ _ _ _ (c .if1 .taken) (omega (arith, s .pre .1 .1, s .pre .1 .0 .low)) (s .pre .1 .2) (s .pre .1 .3)
+    measure-none _ _ _ _ _ (s .args .sofar) (c .if1 .taken)
 
 measure-from-measure-requires : (t : ℕ) → measure-from-lts.Need-measure-requires (measure-from-uses t) (measure-from-at t) measure-from.Post
 measure-from-measure-requires t c κs = (c .before .before .pre .1 .0, c .if1 .left)
@@ -49,7 +49,8 @@ measure-from-both-requires t c κs =
     let s = c .before .before .before in
     let took = c .measure .ensures in
     let low = s .pre .1 .0 .low in
-    (omega (arith, took .few-nodes, s .pre .1 .3), omega (arith, took .few-bytes, s .pre .1 .2))
+    let more = c .before .if1 .left in
+    (omega (arith, took .few-nodes, s .pre .1 .2), omega (arith, took .few-bytes, s .pre .1 .2))
 
 measure-from-measure-from-requires : (t : ℕ) → measure-from-lts.Need-measure-from-requires (measure-from-uses t) (measure-from-at t) measure-from.Post
 measure-from-measure-from-requires t c κs =
@@ -59,7 +60,7 @@ measure-from-measure-from-requires t c κs =
     let bytes-are = ap (λ z. z .bytes) (c .both .ensures) in
     let nodes-are = ap (λ z. z .nodes) (c .both .ensures) in
     let is = s .pre .0 in
-    (omega arith, (s .pre .1 .0, omega arith, omega (arith, took .few-bytes, s .pre .1 .2), omega (arith, took .few-nodes, s .pre .1 .3)))
+    (omega arith, (s .pre .1 .0, omega arith, (omega (arith, took .few-bytes, s .pre .1 .2), omega (arith, took .few-nodes, s .pre .1 .2))))
 
 measure-from-returns-2 : (t : ℕ) → measure-from-lts.Need-returns-2 (measure-from-uses t) (measure-from-at t) measure-from.Post
 measure-from-returns-2 t c =

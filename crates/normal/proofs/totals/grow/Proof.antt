@@ -24,16 +24,17 @@ returns c =
 dimension-of-requires : tie.Need-dimension-of-requires
 dimension-of-requires c κs = search needs
 
-measure-from-requires : tie.Need-measure-from-requires
-measure-from-requires c κs =
+measure-tree-requires : tie.Need-measure-tree-requires
+measure-tree-requires c κs =
     let after-body-place = c .before .before .before in
     let s = after-body-place .before .before in
-    let dim = c .dimension-of .ensures in (
+    let dim = c .dimension-of .ensures in
+    let low = c .before .if1 .left in (
+      body-standing _ _ (s .pre .0) _ (s .pre .1) (s .pre .2) _ _ (after-body-place .body-place .ensures) refl,
+      omega arith,
       body-at _ _ (s .pre .0) _ (s .pre .1) (s .pre .2) _ _ (after-body-place .body-place .ensures) (dim .0) _ (c .before .before .count .ensures)
-          (c .before .if1 .left) (dim .1),
-      omega arith,
-      omega arith,
-      omega arith,
+          low (dim .1),
+      (omega arith, omega arith),
     )
 
 returns-2 : tie.Need-returns-2
@@ -46,12 +47,12 @@ returns-2 c =
     let dim = after-dimension-of .dimension-of .ensures in
     wide-way _ _ (s .pre .0) _ (s .pre .1) (s .pre .2) _ _ (after-body-place .body-place .ensures) (dim .0) _ (after-count .count .ensures)
     (s .args .nodes) (s .args .size)
-    (else1 .if1 .left) (dim .1) _ (c .before .before .measure-from .ensures) (λ k l d b. omega (arith, c .if2 .taken))
+    (else1 .if1 .left) (dim .1) _ (c .before .before .measure-tree .ensures) (λ k l d b. omega (arith, c .if2 .taken))
 
 returns-3 : tie.Need-returns-3
 returns-3 c =
-    let after-measure-from = c .before .before .before .before in
-    let after-dimension-of = after-measure-from .before in
+    let after-measure-tree = c .before .before .before .before in
+    let after-dimension-of = after-measure-tree .before in
     let else1 = after-dimension-of .before in
     let after-count = else1 .before in
     let after-body-place = after-count .before in
@@ -59,7 +60,7 @@ returns-3 c =
     let dim = after-dimension-of .dimension-of .ensures in
     wide-way _ _ (s .pre .0) _ (s .pre .1) (s .pre .2) _ _ (after-body-place .body-place .ensures) (dim .0) _ (after-count .count .ensures)
     (s .args .nodes) (s .args .size)
-    (else1 .if1 .left) (dim .1) _ (after-measure-from .measure-from .ensures) (λ k l d b. omega (arith, c .if3 .taken))
+    (else1 .if1 .left) (dim .1) _ (after-measure-tree .measure-tree .ensures) (λ k l d b. omega (arith, c .if3 .taken))
 
 add-total : tie.Need-add-total
 add-total c = search needs
@@ -75,8 +76,8 @@ add-len-2 c = search needs
 
 returns-4 : tie.Need-returns-4
 returns-4 c =
-    let after-measure-from = c .before .before .before .before .before .before .before in
-    let after-dimension-of = after-measure-from .before in
+    let after-measure-tree = c .before .before .before .before .before .before .before in
+    let after-dimension-of = after-measure-tree .before in
     let else1 = after-dimension-of .before in
     let after-count = else1 .before in
     let after-body-place = after-count .before in
@@ -84,12 +85,12 @@ returns-4 c =
     let dim = after-dimension-of .dimension-of .ensures in
     wide-way _ _ (s .pre .0) _ (s .pre .1) (s .pre .2) _ _ (after-body-place .body-place .ensures) (dim .0) _ (after-count .count .ensures)
     (s .args .nodes) (s .args .size)
-    (else1 .if1 .left) (dim .1) _ (after-measure-from .measure-from .ensures) (λ k l d b. omega (arith, c .if4 .taken))
+    (else1 .if1 .left) (dim .1) _ (after-measure-tree .measure-tree .ensures) (λ k l d b. omega (arith, c .if4 .taken))
 
 returns-5 : tie.Need-returns-5
 returns-5 c =
-    let after-measure-from = c .before .before .before .before .before .before .before .before in
-    let after-dimension-of = after-measure-from .before in
+    let after-measure-tree = c .before .before .before .before .before .before .before .before in
+    let after-dimension-of = after-measure-tree .before in
     let else1 = after-dimension-of .before in
     let after-count = else1 .before in
     let after-body-place = after-count .before in
@@ -97,14 +98,14 @@ returns-5 c =
     let dim = after-dimension-of .dimension-of .ensures in
     wide-way _ _ (s .pre .0) _ (s .pre .1) (s .pre .2) _ _ (after-body-place .body-place .ensures) (dim .0) _ (after-count .count .ensures)
     (s .args .nodes) (s .args .size)
-    (else1 .if1 .left) (dim .1) _ (after-measure-from .measure-from .ensures) (λ k l d b. omega (arith, c .if5 .taken))
+    (else1 .if1 .left) (dim .1) _ (after-measure-tree .measure-tree .ensures) (λ k l d b. omega (arith, c .if5 .taken))
 
 returns-6 : tie.Need-returns-6
 returns-6 c =
     let else3 = c .before .before .before .before in
     let else2 = else3 .before .before in
-    let after-measure-from = else2 .before .before in
-    let after-dimension-of = after-measure-from .before in
+    let after-measure-tree = else2 .before .before in
+    let after-dimension-of = after-measure-tree .before in
     let else1 = after-dimension-of .before in
     let after-count = else1 .before in
     let after-body-place = after-count .before in
@@ -112,7 +113,7 @@ returns-6 c =
     let dim = after-dimension-of .dimension-of .ensures in
     fits-way _ _ (s .pre .0) _ (s .pre .1) (s .pre .2) _ _ (after-body-place .body-place .ensures) (dim .0) _ (after-count .count .ensures)
     (s .args .nodes) (s .args .size)
-    (else1 .if1 .left) (dim .1) _ (after-measure-from .measure-from .ensures) (c .before .if4 .left) (else2 .if2 .left) (else3 .if3 .left)
+    (else1 .if1 .left) (dim .1) _ (after-measure-tree .measure-tree .ensures) (c .before .if4 .left) (else2 .if2 .left) (else3 .if3 .left)
     (c .if5 .left)
 
 pub grow-spec : {M : Type 1} → statement M
@@ -123,7 +124,7 @@ grow-spec =
     count-requires
     returns
     dimension-of-requires
-    measure-from-requires
+    measure-tree-requires
     returns-2
     returns-3
     add-total

@@ -58,8 +58,8 @@ put-nat-requires-2 c κs =
           (s .args .to) (s .pre .1),
     )
 
-add-put-from : tie.Need-add-put-from
-add-put-from c =
+add-put-tree : tie.Need-add-put-tree
+add-put-tree c =
     let after-count = c .before .before .before .before .before .before .before .before .before .before in
     let after-body-place = after-count .before in
     let s = after-body-place .before .before .before in
@@ -69,8 +69,8 @@ add-put-from c =
           (s .args .to) (s .pre .1),
     )
 
-put-from-requires : tie.Need-put-from-requires
-put-from-requires c κs =
+put-tree-requires : tie.Need-put-tree-requires
+put-tree-requires c κs =
     let after-put-nat2 = c .before .before .before in
     let after-put-nat = after-put-nat2 .before .before .before .before in
     let after-dimension-of = after-put-nat .before .before in
@@ -86,8 +86,9 @@ put-from-requires c κs =
     sets-after (s .args .out .now) (s .args .to) 8 (nat 6) (nat many) (length-nat 6) (after-put-nat .put-nat .ensures)
     (after-put-nat2 .put-nat2 .ensures) in
     let same = ap length two ∙ length-sets (s .args .out .now) (s .args .to) (nat 6 ++ nat many) in (
-      body-at _ _ (w .formed) _ (w .known) (w .body) _ _ place (dim .0) _ counted (few-branches _ _ _ w _ _ place (dim .0) _ counted) (dim .1),
+      body-standing _ _ (w .formed) _ (w .known) (w .body) _ _ place refl,
       omega arith,
+      body-at _ _ (w .formed) _ (w .known) (w .body) _ _ place (dim .0) _ counted (few-branches _ _ _ w _ _ place (dim .0) _ counted) (dim .1),
       branch-rooms _ _ _ w _ _ place (dim .0) _ counted (s .args .out .now) (after-put-nat2 .put-nat2 .last .0) (s .args .to) same (s .pre .1),
     )
 
@@ -103,7 +104,7 @@ same-length c =
     let stored =
     body-stored _ _ _ (s .pre .0) _ _ (after-body-place .body-place .ensures) (dim .0) _ (after-count .count .ensures) (s .args .out .now)
     (s .args .to)
-    (after-put-nat .put-nat .ensures) (after-put-nat2 .put-nat2 .ensures) (c .before .before .put-from .ensures) in
+    (after-put-nat .put-nat .ensures) (after-put-nat2 .put-nat2 .ensures) (c .before .before .put-tree .ensures) in
     ap length (stored .0) ∙ length-sets (s .args .out .now) (s .args .to) (bodyOf (s .args .s .now) (s .args .v))
 
 returns : tie.Need-returns
@@ -117,7 +118,7 @@ returns c =
     let dim = after-dimension-of .dimension-of .ensures in
     body-stored _ _ _ (s .pre .0) _ _ (after-body-place .body-place .ensures) (dim .0) _ (after-count .count .ensures) (s .args .out .now)
     (s .args .to)
-    (after-put-nat .put-nat .ensures) (after-put-nat2 .put-nat2 .ensures) (c .before .before .put-from .ensures)
+    (after-put-nat .put-nat .ensures) (after-put-nat2 .put-nat2 .ensures) (c .before .before .put-tree .ensures)
 
 pub put-body-spec : {M : Type 1} → statement M
 put-body-spec =
@@ -129,7 +130,7 @@ put-body-spec =
     put-nat-requires
     add-put-nat
     put-nat-requires-2
-    add-put-from
-    put-from-requires
+    add-put-tree
+    put-tree-requires
     same-length
     returns)

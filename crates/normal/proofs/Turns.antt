@@ -1,0 +1,298 @@
+-- The branches of a body in turn: those of a case are its children's, those of trees one after another the first one's and then the
+-- others'. Assumes nothing.
+use mathlib.Core.Path.{_≡_, refl, sym, ap, _∙_, subst}
+use Prim.Native.Nat.{ℕ, suc, _+_, _-_, _^_, _≤_, _<_, min}
+use native.Mathlib.Omega.{arith}
+use mathlib.Core.Bool.{true, _&&_}
+use mathlib.Core.List.{List, [], _∷_, _++_, append-assoc}
+use lib.ListN.{length, length-append}
+use lib.IntN.{natAbs}
+use lib.Seq.{sets, length-sets}
+use Rattle.alpha.specs.Field.{field}
+use Rattle.alpha.specs.Sheet.{Node, Node.nCase, Expr, Expr.kase, Exprs, Exprs.none, Exprs.more}
+use Rattle.alpha.specs.Read.{got, node, dimension}
+use Rattle.alpha.specs.Shape.{fits, allFit}
+use Rattle.alpha.specs.Reach.{topReach, reach, reachAll}
+use Rattle.alpha.specs.Written.{bytes, allBytes, branchCount, nodeCount, nodeCounts}
+use Rattle.alpha.specs.Normal.{Branch, norm, norms, asExprs}
+use Rattle.laws.specs.At.{nodeOf, nodeLen, At, AllAt}
+use Rattle.laws.specs.Children.{childrenOf, arity}
+use Rattle.laws.specs.Sheets.{headsOf, varsOf}
+use Rattle.laws.proofs.Tests.{&&-left, &&-right}
+use Rattle.laws.proofs.Shapes.{at-got, at-kase, MoreAt, allAt-none}
+use Rattle.domain.proofs.Walks.{code-field}
+use Rattle.tree.proofs.Standings.{children-at, children-counted, one-more}
+use Rattle.normal.specs.declared.Taken.{Taken}
+use Rattle.normal.specs.Count.{countOf, sumOf}
+use Rattle.normal.specs.Counted.{Counts, Ends}
+use Rattle.normal.specs.Body.{takenBy, nothing, both, total, branchesIn, allBranchesIn, BodyAt, IsBody, BodiesAt, AreBodies}
+use Rattle.normal.specs.Body.{TakesFrom, TakesAll, RoomFrom, RoomAll, StoresFrom, StoresAll}
+use Rattle.normal.proofs.Counting.{sum-more}
+use Rattle.normal.proofs.Laying.{sets-after}
+use Rattle.normal.proofs.Bodies.{taken-same, is-body}
+
+-- ---- sums over branches one after another
+
+both-assoc : (a b c : Taken) → both (both a b) c ≡ both a (both b c)
+both-assoc a b c = taken-same (omega arith) (omega arith) (omega arith) (omega arith)
+
+both-nothing : (a : Taken) → a ≡ both a nothing
+both-nothing a = taken-same (omega arith) (omega arith) (omega arith) (omega arith)
+
+nothing-both : (a : Taken) → a ≡ both nothing a
+nothing-both a = taken-same (omega arith) (omega arith) (omega arith) (omega arith)
+
+total-append : (n : ℕ) (xs ys : List Branch) → total n (xs ++ ys) ≡ both (total n xs) (total n ys)
+total-append n [] ys = nothing-both (total n ys)
+total-append n (x ∷ xs) ys = ap (both (takenBy n x)) (total-append n xs ys) ∙ sym (both-assoc (takenBy n x) (total n xs) (total n ys))
+
+bytes-append : (n : ℕ) (xs ys : List Branch) → allBytes (asExprs n (xs ++ ys)) ≡ allBytes (asExprs n xs) ++ allBytes (asExprs n ys)
+unfolding bytes
+bytes-append n [] ys = refl
+bytes-append n (x ∷ xs) ys =
+    let first = bytes (Rattle.alpha.specs.Sheet.Expr.restr n (x .given) (x .term)) in
+    ap (λ l. first ++ l) (bytes-append n xs ys) ∙ sym (append-assoc first (allBytes (asExprs n xs)) (allBytes (asExprs n ys)))
+
+-- ---- a case, of k bytes and so many children
+
+module _ (bs : List ℕ) (p n of k many : ℕ) (six : natAbs (field bs p) ≡ 6) (long : k ≡ nodeLen bs p)
+    (arity-is : (nd : Node) (q : ℕ) → node (varsOf bs) bs p ≡ got nd q → many ≡ arity nd) where
+  opened : (e : Expr) → IsBody bs p n of e → Exprs
+  opened e i = at-kase (varsOf bs) bs e p (i .end) (i .at) (code-field bs p e (i .end) 6 (i .at) six) .branches
+
+  opened-is : (e : Expr) (i : IsBody bs p n of e) → e ≡ kase (opened e i)
+  unfolding opened
+  opened-is e i = at-kase (varsOf bs) bs e p (i .end) (i .at) (code-field bs p e (i .end) 6 (i .at) six) .is
+
+  opened-count : (e : Expr) (i : IsBody bs p n of e) → branchCount (opened e i) ≡ many
+  opened-count e i =
+      ap (λ f. branchCount (childrenOf f)) (sym (opened-is e i)) ∙ children-counted (varsOf bs) bs p k many long arity-is e (i .end) (i .at)
+
+  children-are : (e : Expr) (i : IsBody bs p n of e) → AreBodies bs (p + k) n many of (opened e i)
+  unfolding fits countOf
+  children-are e i = record {
+    end = i .end;
+    at = subst (λ f. AllAt (childrenOf f) (varsOf bs) bs (p + k) (i .end)) (opened-is e i)
+        (children-at (varsOf bs) bs p k many long arity-is e (i .end) (i .at));
+    fitting = subst (λ f. fits f (headsOf bs) n ≡ true) (opened-is e i) (i .fitting);
+    count = opened-count e i;
+    sum = ap countOf (sym (opened-is e i)) ∙ i .count;
+  }
+
+  branches-are : (e : Expr) (i : IsBody bs p n of e) → branchesIn bs e ≡ allBranchesIn bs (opened e i)
+  unfolding norm
+  branches-are e i = ap (λ f. norm f (dimension (headsOf bs))) (opened-is e i)
+
+  pub case-takes : (sofar r : Taken) → TakesAll bs (p + k) n many of sofar r → TakesFrom bs p n of 0 sofar r
+  case-takes sofar r took = record {
+    few = (omega (arith, took .few), omega (arith, took .few));
+    is = λ e i. took .is (opened e i) (children-are e i) ∙ ap (λ l. both sofar (total n l)) (sym (branches-are e i));
+  }
+
+  pub case-stores : (to : ℕ) (l d : List ℕ) (r : ℕ) → StoresAll bs (p + k) n many of to l d r → StoresFrom bs p n of 0 to l d r
+  case-stores to l d r stored e i =
+      let here = stored (opened e i) (children-are e i) in
+      let same = sym (branches-are e i) in
+      (here .0 ∙ ap (λ x. sets l to (allBytes (asExprs n x))) same, here .1 ∙ ap (λ x. to + length (allBytes (asExprs n x))) same)
+
+  module _ (h : BodyAt bs p n of) where
+    pub case-bodies : BodiesAt bs (p + k) n many of
+    unfolding nodeCount reach
+    case-bodies =
+        let is = opened-is (h .tree) (is-body bs p n of h) in
+        let nodes : nodeCount (h .tree) ≡ suc (nodeCounts (opened (h .tree) (is-body bs p n of h))) = ap nodeCount is in
+        record {
+          trees = opened (h .tree) (is-body bs p n of h);
+          are = children-are (h .tree) (is-body bs p n of h);
+          few = omega (arith, h .few, nodes);
+          reaches = subst (λ f. reach f topReach ≡ true) is (h .reaches);
+          narrow = h .narrow;
+          low = h .low;
+        }
+
+    -- a case of any such children stands there
+    kase-there : (es : Exprs) → AreBodies bs (p + k) n many of es → IsBody bs p n of (kase es)
+    unfolding At fits countOf
+    kase-there es i =
+        let tree = is-body bs p n of h in
+        let read = at-got (varsOf bs) bs (h .tree) p (h .end) (h .at) in
+        let counts = opened-count (h .tree) tree ∙ sym (i .count) in
+        record {
+          end = i .end;
+          at = record {
+            next = p + nodeLen bs p;
+            here = read ∙ ap (λ f. got (nodeOf f) (p + nodeLen bs p)) (opened-is (h .tree) tree) ∙ ap (λ c. got (nCase c) (p + nodeLen bs p)) counts;
+            below = subst (λ j. AllAt es (varsOf bs) bs (p + j) (i .end)) long (i .at);
+          };
+          fitting = i .fitting;
+          count = i .sum;
+        }
+
+    pub case-room : (to room : ℕ) → RoomFrom bs p n of 0 to room → RoomAll bs (p + k) n many of to room
+    unfolding norm
+    case-room to room there es i = there (kase es) (kase-there es i)
+
+-- ---- no trees
+
+module _ (bs : List ℕ) (p n many of : ℕ) (few : many < 1) where
+  no-branches : (es : Exprs) → AreBodies bs p n many of es → allBranchesIn bs es ≡ []
+  unfolding norm
+  no-branches es i = ap (λ f. norms f (dimension (headsOf bs))) (allAt-none (varsOf bs) bs es p (i .end) (i .at) (omega (arith, i .count)) .is)
+
+  pub none-takes : (sofar : Taken) → TakesAll bs p n many of sofar sofar
+  none-takes sofar = record {
+    few = (omega arith, omega arith);
+    is = λ es i. both-nothing sofar ∙ ap (λ l. both sofar (total n l)) (sym (no-branches es i));
+  }
+
+  pub none-stores : (to : ℕ) (l : List ℕ) → StoresAll bs p n many of to l l to
+  unfolding bytes
+  none-stores to l es i =
+      let none = no-branches es i in
+      (ap (λ x. sets l to (allBytes (asExprs n x))) (sym none), omega (arith, ap (λ x. length (allBytes (asExprs n x))) none))
+
+-- ---- trees one after another, the first with k branches and its end at `next`
+
+module _ (bs : List ℕ) (p n many of k next : ℕ) (some : 1 ≤ many) (counted : Counts bs p k) (ends : Ends bs p next) (h : BodiesAt bs p n many of) where
+  split : MoreAt (h .trees) (varsOf bs) bs p (h .are .end) (many - 1)
+  split = one-more (varsOf bs) bs (h .trees) p (h .are .end) many some (h .are .at) (h .are .count)
+
+  sums : countOf (split .first) + sumOf (split .rest) ≡ of
+  sums = sym (sum-more (h .trees) (split .first) (split .rest) (split .is)) ∙ h .are .sum
+
+  -- the count did not stop at 65
+  exact : (e : Expr) (q : ℕ) → At e (varsOf bs) bs p q → countOf e ≡ k
+  exact e q at = omega (arith, counted .1 e q at, counted .1 (split .first) (split .middle) (split .before), sums, h .low)
+
+  pub first-low : k ≤ of
+  first-low = omega (arith, exact (split .first) (split .middle) (split .before), sums)
+
+  -- any such trees are the first and the others
+  record InTurn (es : Exprs) : Type 0 where
+    pub first : Expr
+    pub others : Exprs
+    pub is : es ≡ more first others
+    pub is-first : IsBody bs p n k first
+    pub are-others : AreBodies bs next n (many - 1) (of - k) others
+    pub in-turn : allBranchesIn bs es ≡ branchesIn bs first ++ allBranchesIn bs others
+
+  in-turns : (es : Exprs) → AreBodies bs p n many of es → InTurn es
+  unfolding allFit norm
+  in-turns es i =
+      let x = one-more (varsOf bs) bs es p (i .end) many some (i .at) (i .count) in
+      let fit = subst (λ f. allFit f (headsOf bs) n ≡ true) (x .is) (i .fitting) in
+      let count = exact (x .first) (x .middle) (x .before) in
+      record {
+        first = x .first;
+        others = x .rest;
+        is = x .is;
+        is-first = record {
+          end = x .middle;
+          at = x .before;
+          fitting = &&-left (fits (x .first) (headsOf bs) n) (allFit (x .rest) (headsOf bs) n) fit;
+          count = count;
+        };
+        are-others = record {
+          end = i .end;
+          at = subst (λ j. AllAt (x .rest) (varsOf bs) bs j (i .end)) (sym (ends (x .first) (x .middle) (x .before))) (x .after);
+          fitting = &&-right (fits (x .first) (headsOf bs) n) (allFit (x .rest) (headsOf bs) n) fit;
+          count = x .many;
+          sum = omega (arith, sum-more es (x .first) (x .rest) (x .is), i .sum);
+        };
+        in-turn = ap (λ f. norms f (dimension (headsOf bs))) (x .is);
+      }
+
+  whole : InTurn (h .trees)
+  whole = in-turns (h .trees) (h .are)
+
+  -- and a first with others are such trees
+  together : (e : Expr) (es : Exprs) → IsBody bs p n k e → AreBodies bs next n (many - 1) (of - k) es → AreBodies bs p n many of (more e es)
+  unfolding At allFit
+  together e es i j = record {
+    end = j .end;
+    at = record { middle = next; before = subst (λ q. At e (varsOf bs) bs p q) (sym (ends e (i .end) (i .at))) (i .at); after = j .at };
+    fitting = rw (i .fitting) (j .fitting);
+    count = omega (arith, j .count);
+    sum = omega (arith, sum-more (more e es) e es refl, i .count, j .sum, first-low);
+  }
+
+  nodes : nodeCounts (h .trees) ≡ nodeCount (whole .first) + nodeCounts (whole .others)
+  unfolding nodeCounts
+  nodes = ap nodeCounts (whole .is)
+
+  all-reach : reach (whole .first) topReach && reachAll (whole .others) topReach ≡ true
+  unfolding reachAll
+  all-reach = subst (λ f. reachAll f topReach ≡ true) (whole .is) (h .reaches)
+
+  pub first-body : BodyAt bs p n k
+  first-body = record {
+    tree = whole .first;
+    end = whole .is-first .end;
+    at = whole .is-first .at;
+    few = omega (arith, h .few, nodes);
+    fitting = whole .is-first .fitting;
+    reaches = &&-left (reach (whole .first) topReach) (reachAll (whole .others) topReach) all-reach;
+    narrow = h .narrow;
+    count = whole .is-first .count;
+    low = omega (arith, first-low, h .low);
+  }
+
+  pub rest-bodies : BodiesAt bs next n (many - 1) (of - k)
+  rest-bodies = record {
+    trees = whole .others;
+    are = whole .are-others;
+    few = omega (arith, h .few, nodes);
+    reaches = &&-right (reach (whole .first) topReach) (reachAll (whole .others) topReach) all-reach;
+    narrow = h .narrow;
+    low = omega (arith, h .low);
+  }
+
+  pub more-takes : (sofar taken r : Taken) → TakesFrom bs p n k 0 sofar taken → TakesAll bs next n (many - 1) (of - k) taken r →
+      TakesAll bs p n many of sofar r
+  more-takes sofar taken r first rest = record {
+    few = (omega (arith, first .few, rest .few, first-low), omega (arith, first .few, rest .few, first-low));
+    is = λ es i.
+        let x = in-turns es i in
+        let mine = total n (branchesIn bs (x .first)) in
+        let others = total n (allBranchesIn bs (x .others)) in
+        rest .is (x .others) (x .are-others) ∙ ap (λ z. both z others) (first .is (x .first) (x .is-first)) ∙ both-assoc sofar mine others
+        ∙ ap (both sofar) (sym (total-append n (branchesIn bs (x .first)) (allBranchesIn bs (x .others))) ∙ ap (total n) (sym (x .in-turn)));
+  }
+
+  -- ---- stored
+
+  all-long : (xs ys : List Branch) →
+      length (allBytes (asExprs n (xs ++ ys))) ≡ length (allBytes (asExprs n xs)) + length (allBytes (asExprs n ys))
+  all-long xs ys = ap length (bytes-append n xs ys) ∙ length-append (allBytes (asExprs n xs)) (allBytes (asExprs n ys))
+
+  together-long : (e : Expr) (es : Exprs) → length (allBytes (asExprs n (allBranchesIn bs (more e es))))
+      ≡ length (allBytes (asExprs n (branchesIn bs e))) + length (allBytes (asExprs n (allBranchesIn bs es)))
+  unfolding norm
+  together-long e es = all-long (branchesIn bs e) (allBranchesIn bs es)
+
+  module _ (to : ℕ) (l : List ℕ) where
+    pub first-room : (room : ℕ) → RoomAll bs p n many of to room → RoomFrom bs p n k 0 to room
+    first-room room there e i =
+        let others = whole .others in
+        omega (arith, there (more e others) (together e others i (whole .are-others)), together-long e others)
+
+    module _ (end : ℕ) (a : List ℕ) (stored : StoresFrom bs p n k 0 to l a end) where
+      pub rest-room : RoomAll bs p n many of to (min (2 ^ 40) (length l)) →
+          RoomAll bs next n (many - 1) (of - k) end (min (2 ^ 40) (length a))
+      rest-room there es i =
+          let first = whole .first in
+          let here = stored first (whole .is-first) in
+          let same = ap length (here .0) ∙ length-sets l to (allBytes (asExprs n (branchesIn bs first))) in
+          omega (arith, there (more first es) (together first es (whole .is-first) i), together-long first es, here .1)
+
+      pub more-stores : (d : List ℕ) (r : ℕ) → StoresAll bs next n (many - 1) (of - k) end a d r → StoresAll bs p n many of to l d r
+      more-stores d r rest es i =
+          let x = in-turns es i in
+          let mine = allBytes (asExprs n (branchesIn bs (x .first))) in
+          let others = allBytes (asExprs n (allBranchesIn bs (x .others))) in
+          let here = stored (x .first) (x .is-first) in
+          let then = rest (x .others) (x .are-others) in
+          let cut = ap (λ y. allBytes (asExprs n y)) (x .in-turn) ∙ bytes-append n (branchesIn bs (x .first)) (allBranchesIn bs (x .others)) in (
+            sets-after l to (length mine) mine others refl (here .0) (then .0 ∙ ap (λ j. sets a j others) (here .1)) ∙ ap (sets l to) (sym cut),
+            omega (arith, then .1, here .1, ap length cut, length-append mine others),
+          )

@@ -1,0 +1,213 @@
+-- `normal::put_children` and `normal::put_tree` meet their contracts: a case has its children's branches, and any other tree its own.
+-- Assumes nothing.
+use borrow.Fn.Kinds.{In}
+use borrow.Fn.PlainCycle.{Measures, is, falls, and}
+use Rattle.normal.proofs.turn.put_children.Reads as put-children
+use Rattle.normal.proofs.turn.put_children.Kinds as put-children-kinds
+use Rattle.normal.proofs.turn.+put_children+put_tree.Lts-put_children as put-children-lts
+use Rattle.normal.proofs.turn.put_tree.Reads as put-tree
+use Rattle.normal.proofs.turn.put_tree.Kinds as put-tree-kinds
+use Rattle.normal.proofs.turn.+put_children+put_tree.Lts-put_tree as put-tree-lts
+use Rattle.normal.proofs.body.put_from.Reads as put-from-reads
+use Rattle.normal.proofs.count.count_tree.Reads as count-tree-reads
+use Rattle.tree.proofs.node.children.Reads as children-reads
+use Rattle.tree.proofs.node.natural.Reads as natural-reads
+use Rattle.tree.proofs.node.node_len.Reads as node-len-reads
+use Rattle.normal.proofs.turn.+put_children+put_tree.{statement}
+use Rattle.normal.proofs.turn.+put_children+put_tree.Tie.{close}
+use Prim.Native.Nat.{ℕ, _+_, _*_, _<_}
+use mathlib.Core.Path.{sym, _∙_}
+use native.Mathlib.Omega.{arith}
+use borrow.Author.Needs.{needs}
+use Rattle.tree.proofs.Noding.{code-there}
+use Rattle.tree.proofs.Standings.{standing-noded, standing-some, standing-there, standing-children, children-few, first-standing, rest-standing}
+use Rattle.normal.proofs.Turns.{case-bodies, case-room, case-stores, none-stores, first-low, first-body, rest-bodies, first-room, rest-room, more-stores}
+
+abbrev μ-put-children : Measures 2 put-children-kinds.ps ℕ
+μ-put-children κs a = 70 * a .1 .1 .0 + (a .1 .1 .1 .0 + 1)
+
+abbrev μ-put-tree : Measures 2 put-tree-kinds.ps ℕ
+μ-put-tree κs a = 70 * a .1 .1 .0
+
+abbrev put-children-at : ℕ → In 2 put-children-kinds.ps
+put-children-at t = and 2 put-children-kinds.ps (is 2 put-children-kinds.ps μ-put-children t) put-children.Pre
+
+abbrev put-children-below : ℕ → In 2 put-children-kinds.ps
+put-children-below t = and 2 put-children-kinds.ps (falls 2 put-children-kinds.ps _<_ μ-put-children t) put-children.Pre
+
+abbrev put-tree-at : ℕ → In 2 put-tree-kinds.ps
+put-tree-at t = and 2 put-tree-kinds.ps (is 2 put-tree-kinds.ps μ-put-tree t) put-tree.Pre
+
+abbrev put-tree-below : ℕ → In 2 put-tree-kinds.ps
+put-tree-below t = and 2 put-tree-kinds.ps (falls 2 put-tree-kinds.ps _<_ μ-put-tree t) put-tree.Pre
+
+abbrev put-children-uses : ℕ → put-children-lts.Claims
+put-children-uses t = (count-tree-reads.Asked, count-tree-reads.Learnt, put-tree-below t, put-tree.Post, put-children-below t, put-children.Post)
+
+abbrev put-tree-uses : ℕ → put-tree-lts.Claims
+put-tree-uses t = (
+  natural-reads.Asked,
+  natural-reads.Learnt,
+  node-len-reads.Asked,
+  node-len-reads.Learnt,
+  children-reads.Asked,
+  children-reads.Learnt,
+  put-children-below t,
+  put-children.Post,
+  put-from-reads.Asked,
+  put-from-reads.Learnt,
+)
+
+put-children-returns : (t : ℕ) → put-children-lts.Need-returns (put-children-uses t) (put-children-at t) put-children.Post
+put-children-returns t c =
+    let s = c .before .before .before in
+    none-stores _ _ _ _ _ (c .if1 .taken) (s .args .to) _
+
+put-children-count-tree-requires : (t : ℕ) → put-children-lts.Need-count-tree-requires (put-children-uses t) (put-children-at t) put-children.Post
+put-children-count-tree-requires t c κs =
+    let s = c .before .before .before in
+    (first-standing _ _ _ _ _ (c .if1 .left) (s .pre .1 .0), s .pre .1 .1)
+
+put-children-put-tree-requires : (t : ℕ) → put-children-lts.Need-put-tree-requires (put-children-uses t) (put-children-at t) put-children.Post
+put-children-put-tree-requires t c κs =
+    let else1 = c .before .before in
+    let s = else1 .before .before .before in
+    let more = else1 .if1 .left in
+    let h = s .pre .1 .3 in
+    let found = c .before .count-tree .ensures in
+    let is = s .pre .0 in (
+      omega arith,
+      (
+        first-standing _ _ _ _ _ more (s .pre .1 .0),
+        s .pre .1 .1,
+        first-body _ _ _ _ _ _ _ more (found .0) (found .1) h,
+        first-room _ _ _ _ _ _ _ more (found .0) (found .1) h _ (s .args .out .now) _ (s .pre .1 .4),
+      ),
+    )
+
+put-children-sub-put-children : (t : ℕ) → put-children-lts.Need-sub-put-children (put-children-uses t) (put-children-at t) put-children.Post
+put-children-sub-put-children t c =
+    let after-count-tree = c .before .before .before .before in
+    let else1 = after-count-tree .before in
+    let s = else1 .before .before .before in
+    let found = after-count-tree .count-tree .ensures in
+    omega (arith, first-low _ _ _ _ _ _ _ (else1 .if1 .left) (found .0) (found .1) (s .pre .1 .3))
+
+put-children-put-children-requires : (t : ℕ) → put-children-lts.Need-put-children-requires (put-children-uses t) (put-children-at t) put-children.Post
+put-children-put-children-requires t c κs =
+    let after-put-tree = c .before .before .before in
+    let after-count-tree = after-put-tree .before .before in
+    let else1 = after-count-tree .before in
+    let s = else1 .before .before .before in
+    let more = else1 .if1 .left in
+    let h = s .pre .1 .3 in
+    let found = after-count-tree .count-tree .ensures in
+    let is = s .pre .0 in (
+      omega arith,
+      (
+        rest-standing _ _ _ _ _ more (s .pre .1 .0) _ (found .1),
+        s .pre .1 .1,
+        omega (arith, s .pre .1 .2),
+        rest-bodies _ _ _ _ _ _ _ more (found .0) (found .1) h,
+        rest-room _ _ _ _ _ _ _ more (found .0) (found .1) h _ (s .args .out .now) _ _ (after-put-tree .put-tree .ensures) (s .pre .1 .4),
+      ),
+    )
+
+put-children-same-length : (t : ℕ) → put-children-lts.Need-same-length (put-children-uses t) (put-children-at t) put-children.Post
+put-children-same-length t c = search needs
+
+put-children-returns-2 : (t : ℕ) → put-children-lts.Need-returns-2 (put-children-uses t) (put-children-at t) put-children.Post
+put-children-returns-2 t c =
+    let after-put-tree = c .before .before .before .before .before .before in
+    let after-count-tree = after-put-tree .before .before in
+    let else1 = after-count-tree .before in
+    let s = else1 .before .before .before in
+    let found = after-count-tree .count-tree .ensures in
+    more-stores _ _ _ _ _ _ _ (else1 .if1 .left) (found .0) (found .1) (s .pre .1 .3) _ (s .args .out .now) _ _ (after-put-tree .put-tree .ensures) _ _
+    (c .before .before .put-children .ensures)
+
+put-tree-natural-requires : (t : ℕ) → put-tree-lts.Need-natural-requires (put-tree-uses t) (put-tree-at t) put-tree.Post
+put-tree-natural-requires t c κs = code-there _ _ _ (standing-noded _ _ _ _ (c .before .before .pre .1 .0))
+
+put-tree-node-len-requires : (t : ℕ) → put-tree-lts.Need-node-len-requires (put-tree-uses t) (put-tree-at t) put-tree.Post
+put-tree-node-len-requires t c κs = standing-noded _ _ _ _ (c .before .before .before .before .pre .1 .0)
+
+put-tree-add-next : (t : ℕ) → put-tree-lts.Need-add-next (put-tree-uses t) (put-tree-at t) put-tree.Post
+put-tree-add-next t c =
+    let s = c .before .before .before .before .before in
+    omega (arith, standing-there _ _ _ _ (s .pre .1 .0), c .node-len .ensures)
+
+put-tree-children-requires : (t : ℕ) → put-tree-lts.Need-children-requires (put-tree-uses t) (put-tree-at t) put-tree.Post
+put-tree-children-requires t c κs = standing-noded _ _ _ _ (c .before .before .before .before .before .pre .1 .0)
+
+put-tree-sub-put-children : (t : ℕ) → put-tree-lts.Need-sub-put-children (put-tree-uses t) (put-tree-at t) put-tree.Post
+put-tree-sub-put-children t c = omega (arith, standing-some _ _ _ _ (c .before .before .before .before .before .before .pre .1 .0))
+
+put-tree-put-children-requires : (t : ℕ) → put-tree-lts.Need-put-children-requires (put-tree-uses t) (put-tree-at t) put-tree.Post
+put-tree-put-children-requires t c κs =
+    let after-children = c .before in
+    let then1 = after-children .before .before in
+    let s = then1 .before .before .before .before in
+    let h = s .pre .1 .0 in
+    let some = standing-some _ _ _ _ h in
+    let long = after-children .before .node-len .ensures in
+    let many = after-children .children .ensures in
+    let few = children-few _ _ _ _ h _ _ long many in
+    let six = sym (then1 .before .natural .ensures) ∙ then1 .if1 .taken in
+    let is = s .pre .0 in (
+      omega arith,
+      (
+        standing-children _ _ _ _ h _ _ long many,
+        omega (arith, s .pre .1 .1),
+        few,
+        case-bodies _ _ _ _ _ _ six long many (s .pre .1 .2),
+        case-room _ _ _ _ _ _ six long many (s .pre .1 .2) _ _ (s .pre .1 .3),
+      ),
+    )
+
+put-tree-same-length : (t : ℕ) → put-tree-lts.Need-same-length (put-tree-uses t) (put-tree-at t) put-tree.Post
+put-tree-same-length t c = search needs
+
+put-tree-returns : (t : ℕ) → put-tree-lts.Need-returns (put-tree-uses t) (put-tree-at t) put-tree.Post
+put-tree-returns t c =
+    let after-children = c .before .before .before .before in
+    let then1 = after-children .before .before in
+    let s = then1 .before .before .before .before in
+    let six = sym (then1 .before .natural .ensures) ∙ then1 .if1 .taken in
+    case-stores _ _ _ _ _ _ six (after-children .before .node-len .ensures) (after-children .children .ensures) (s .args .to) _ _ _
+    (c .before .before .put-children .ensures)
+
+put-tree-put-from-requires : (t : ℕ) → put-tree-lts.Need-put-from-requires (put-tree-uses t) (put-tree-at t) put-tree.Post
+put-tree-put-from-requires t c κs =
+    let s = c .before .before .before .before .before in
+    (s .pre .1 .2, omega arith, s .pre .1 .3)
+
+put-tree-same-length-2 : (t : ℕ) → put-tree-lts.Need-same-length-2 (put-tree-uses t) (put-tree-at t) put-tree.Post
+put-tree-same-length-2 t c = search needs
+
+put-tree-returns-2 : (t : ℕ) → put-tree-lts.Need-returns-2 (put-tree-uses t) (put-tree-at t) put-tree.Post
+put-tree-returns-2 t c = c .before .before .put-from .ensures
+
+pub +put-children+put-tree-spec : {M : Type 1} → statement M
++put-children+put-tree-spec = close μ-put-children μ-put-tree (λ t. put-children-lts.spec (put-children-uses t) (put-children-at t)
+    put-children.Post
+    (put-children-returns t)
+    (put-children-count-tree-requires t)
+    (put-children-put-tree-requires t)
+    (put-children-sub-put-children t)
+    (put-children-put-children-requires t)
+    (put-children-same-length t)
+    (put-children-returns-2 t))
+    λ t. put-tree-lts.spec (put-tree-uses t) (put-tree-at t)
+    put-tree.Post
+    (put-tree-natural-requires t)
+    (put-tree-node-len-requires t)
+    (put-tree-add-next t)
+    (put-tree-children-requires t)
+    (put-tree-sub-put-children t)
+    (put-tree-put-children-requires t)
+    (put-tree-same-length t)
+    (put-tree-returns t)
+    (put-tree-put-from-requires t)
+    (put-tree-same-length-2 t)
+    (put-tree-returns-2 t)

@@ -1,0 +1,99 @@
+// The branches of a body in turn: a case has those of its children one after another, any other tree has its own by their numbers.
+// Assumes nothing.
+use super::Taken;
+use super::body::measure_from;
+use super::body::put_from;
+use super::count::count_tree;
+use tree::node::children;
+use tree::node::natural;
+use tree::node::node_len;
+ghost use Prim.Native.Nat.{_^_, _≤_, min};
+ghost use lib.ListN.{length};
+ghost use Rattle.laws.specs.Sheets.{varsOf};
+ghost use Rattle.tree.specs.Standing.{Standing, StandingAll};
+ghost use Rattle.normal.specs.Body as Body;
+
+// ---- measured
+
+// What the `of` branches of the tree at `at`, of at most `left` nodes, take, with those so far.
+pub fn measure_tree(s: &[u8], at: usize, left: usize, n: usize, of: usize, sofar: Taken) -> Taken
+    requires { ⌜ Standing (varsOf (now s)) (now s) at left × (left ≤ 2048) × Body.BodyAt (now s) at n of × Body.Spare of sofar ⌝ }
+    ensures { λ r. ⌜ Body.TakesFrom (now (s .entry)) at n of 0 sofar r ⌝ }
+{
+    if natural(s, at) == 6 {
+        let next = at + node_len(s, at);
+        let many = children(s, at);
+        return measure_children(s, next, left - 1, many, n, of, sofar);
+    }
+    measure_from(s, at, n, of, 0, sofar)
+}
+
+// What those of `many` children of a case take.
+fn measure_children(
+    s: &[u8],
+    at: usize,
+    left: usize,
+    many: usize,
+    n: usize,
+    of: usize,
+    sofar: Taken,
+) -> Taken
+    requires { ⌜ StandingAll (varsOf (now s)) (now s) at left many × (left ≤ 2048) × (many ≤ 64) × Body.BodiesAt (now s) at n many of × Body.Spare of sofar ⌝ }
+    ensures { λ r. ⌜ Body.TakesAll (now (s .entry)) at n many of sofar r ⌝ }
+{
+    if many < 1 {
+        return sofar;
+    }
+    let first = count_tree(s, at, left);
+    let k = first.many;
+    let next = first.next;
+    let taken = measure_tree(s, at, left, n, k, sofar);
+    measure_children(s, next, left, many - 1, n, of - k, taken)
+}
+
+// ---- stored
+
+// The `of` branches of the tree at `at`, of at most `left` nodes, one after another.
+pub fn put_tree(
+    s: &[u8],
+    at: usize,
+    left: usize,
+    n: usize,
+    of: usize,
+    out: &mut [u8],
+    to: usize,
+) -> usize
+    requires { ⌜ Standing (varsOf (now s)) (now s) at left × (left ≤ 2048) × Body.BodyAt (now s) at n of × Body.RoomFrom (now s) at n of 0 to (min (2 ^ 40) (length (now out))) ⌝ }
+    ensures { λ r. ⌜ Body.StoresFrom (now (s .entry)) at n of 0 to (now (out .entry)) (now (out .exit)) r ⌝ }
+{
+    if natural(s, at) == 6 {
+        let next = at + node_len(s, at);
+        let many = children(s, at);
+        return put_children(s, next, left - 1, many, n, of, out, to);
+    }
+    put_from(s, at, n, of, 0, out, to)
+}
+
+// Those of `many` children of a case.
+fn put_children(
+    s: &[u8],
+    at: usize,
+    left: usize,
+    many: usize,
+    n: usize,
+    of: usize,
+    out: &mut [u8],
+    to: usize,
+) -> usize
+    requires { ⌜ StandingAll (varsOf (now s)) (now s) at left many × (left ≤ 2048) × (many ≤ 64) × Body.BodiesAt (now s) at n many of × Body.RoomAll (now s) at n many of to (min (2 ^ 40) (length (now out))) ⌝ }
+    ensures { λ r. ⌜ Body.StoresAll (now (s .entry)) at n many of to (now (out .entry)) (now (out .exit)) r ⌝ }
+{
+    if many < 1 {
+        return to;
+    }
+    let first = count_tree(s, at, left);
+    let k = first.many;
+    let next = first.next;
+    let end = put_tree(s, at, left, n, k, out, to);
+    put_children(s, next, left, many - 1, n, of - k, out, end)
+}
