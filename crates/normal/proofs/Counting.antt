@@ -150,7 +150,7 @@ module _ (e : Expr) (es : Exprs) (b : ℕ) where
   unfolding pick
   pick-later l = ap {B = Picked} (λ t. ifb t (λ _. record { child = e; branch = b }) (λ _. pick es (b - countOf e))) (le-ltb b (countOf e) l)
 
-sum-none : (es : Exprs) → es ≡ none → sumOf es ≡ 0
+pub sum-none : (es : Exprs) → es ≡ none → sumOf es ≡ 0
 unfolding countOf
 sum-none es e = ap sumOf e
 

@@ -19,6 +19,7 @@ use Rattle.laws.specs.At.{nodeOf, nodeLen, At, AllAt}
 use Rattle.laws.specs.Children.{childrenOf, arity}
 use Rattle.laws.specs.Sheets.{headsOf, varsOf}
 use Rattle.laws.proofs.Tests.{&&-left, &&-right}
+use Rattle.laws.proofs.Trees.{at-unique}
 use Rattle.laws.proofs.Shapes.{at-got, at-kase, MoreAt, allAt-none}
 use Rattle.domain.proofs.Walks.{code-field}
 use Rattle.tree.proofs.Standings.{children-at, children-counted, one-more}
@@ -27,7 +28,7 @@ use Rattle.normal.specs.Count.{countOf, sumOf}
 use Rattle.normal.specs.Counted.{Counts, Ends}
 use Rattle.normal.specs.Body.{takenBy, nothing, both, total, branchesIn, allBranchesIn, BodyAt, IsBody, BodiesAt, AreBodies}
 use Rattle.normal.specs.Body.{TakesFrom, TakesAll, RoomFrom, RoomAll, StoresFrom, StoresAll}
-use Rattle.normal.proofs.Counting.{sum-more}
+use Rattle.normal.proofs.Counting.{sum-none, sum-more}
 use Rattle.normal.proofs.Laying.{sets-after}
 use Rattle.normal.proofs.Bodies.{taken-same, is-body}
 
@@ -64,6 +65,10 @@ module _ (bs : List ℕ) (p n of k many : ℕ) (six : natAbs (field bs p) ≡ 6)
   unfolding opened
   opened-is e i = at-kase (varsOf bs) bs e p (i .end) (i .at) (code-field bs p e (i .end) 6 (i .at) six) .is
 
+  opened-some : (e : Expr) (i : IsBody bs p n of e) → 1 ≤ branchCount (opened e i)
+  unfolding opened
+  opened-some e i = at-kase (varsOf bs) bs e p (i .end) (i .at) (code-field bs p e (i .end) 6 (i .at) six) .many .low
+
   opened-count : (e : Expr) (i : IsBody bs p n of e) → branchCount (opened e i) ≡ many
   opened-count e i =
       ap (λ f. branchCount (childrenOf f)) (sym (opened-is e i)) ∙ children-counted (varsOf bs) bs p k many long arity-is e (i .end) (i .at)
@@ -96,6 +101,11 @@ module _ (bs : List ℕ) (p n of k many : ℕ) (six : natAbs (field bs p) ≡ 6)
       (here .0 ∙ ap (λ x. sets l to (allBytes (asExprs n x))) same, here .1 ∙ ap (λ x. to + length (allBytes (asExprs n x))) same)
 
   module _ (h : BodyAt bs p n of) where
+    pub case-some : 1 ≤ many
+    case-some =
+        let tree = is-body bs p n of h in
+        omega (arith, opened-some (h .tree) tree, opened-count (h .tree) tree)
+
     pub case-bodies : BodiesAt bs (p + k) n many of
     unfolding nodeCount reach
     case-bodies =
@@ -139,160 +149,194 @@ module _ (bs : List ℕ) (p n many of : ℕ) (few : many < 1) where
   unfolding norm
   no-branches es i = ap (λ f. norms f (dimension (headsOf bs))) (allAt-none (varsOf bs) bs es p (i .end) (i .at) (omega (arith, i .count)) .is)
 
-  pub none-takes : (sofar : Taken) → TakesAll bs p n many of sofar sofar
+  none-takes : (sofar : Taken) → TakesAll bs p n many of sofar sofar
   none-takes sofar = record {
     few = (omega arith, omega arith);
     is = λ es i. both-nothing sofar ∙ ap (λ l. both sofar (total n l)) (sym (no-branches es i));
   }
 
-  pub none-stores : (to : ℕ) (l : List ℕ) → StoresAll bs p n many of to l l to
+  none-stores : (to : ℕ) (l : List ℕ) → StoresAll bs p n many of to l l to
   unfolding bytes
   none-stores to l es i =
       let none = no-branches es i in
       (ap (λ x. sets l to (allBytes (asExprs n x))) (sym none), omega (arith, ap (λ x. length (allBytes (asExprs n x))) none))
 
--- ---- trees one after another, the first with k branches and its end at `next`
+-- ---- trees one after another
 
-module _ (bs : List ℕ) (p n many of k next : ℕ) (some : 1 ≤ many) (counted : Counts bs p k) (ends : Ends bs p next) (h : BodiesAt bs p n many of) where
+module _ (bs : List ℕ) (p n many of : ℕ) (some : 1 ≤ many) (h : BodiesAt bs p n many of) where
   split : MoreAt (h .trees) (varsOf bs) bs p (h .are .end) (many - 1)
   split = one-more (varsOf bs) bs (h .trees) p (h .are .end) many some (h .are .at) (h .are .count)
 
   sums : countOf (split .first) + sumOf (split .rest) ≡ of
   sums = sym (sum-more (h .trees) (split .first) (split .rest) (split .is)) ∙ h .are .sum
 
-  -- the count did not stop at 65
-  exact : (e : Expr) (q : ℕ) → At e (varsOf bs) bs p q → countOf e ≡ k
-  exact e q at = omega (arith, counted .1 e q at, counted .1 (split .first) (split .middle) (split .before), sums, h .low)
+  -- a count did not stop at 65
+  pub counted-exact : (k : ℕ) → Counts bs p k → (e : Expr) (q : ℕ) → At e (varsOf bs) bs p q → countOf e ≡ k
+  counted-exact k counted e q at = omega (arith, counted .1 e q at, counted .1 (split .first) (split .middle) (split .before), sums, h .low)
 
-  pub first-low : k ≤ of
-  first-low = omega (arith, exact (split .first) (split .middle) (split .before), sums)
+  -- the first has k branches and ends at `next`
+  module _ (k next : ℕ) (exact : (e : Expr) (q : ℕ) → At e (varsOf bs) bs p q → countOf e ≡ k) (ends : Ends bs p next) where
+    pub first-low : k ≤ of
+    first-low = omega (arith, exact (split .first) (split .middle) (split .before), sums)
 
-  -- any such trees are the first and the others
-  record InTurn (es : Exprs) : Type 0 where
-    pub first : Expr
-    pub others : Exprs
-    pub is : es ≡ more first others
-    pub is-first : IsBody bs p n k first
-    pub are-others : AreBodies bs next n (many - 1) (of - k) others
-    pub in-turn : allBranchesIn bs es ≡ branchesIn bs first ++ allBranchesIn bs others
+    -- any such trees are the first and the others
+    record InTurn (es : Exprs) : Type 0 where
+      pub first : Expr
+      pub others : Exprs
+      pub is : es ≡ more first others
+      pub is-first : IsBody bs p n k first
+      pub are-others : AreBodies bs next n (many - 1) (of - k) others
+      pub in-turn : allBranchesIn bs es ≡ branchesIn bs first ++ allBranchesIn bs others
 
-  in-turns : (es : Exprs) → AreBodies bs p n many of es → InTurn es
-  unfolding allFit norm
-  in-turns es i =
-      let x = one-more (varsOf bs) bs es p (i .end) many some (i .at) (i .count) in
-      let fit = subst (λ f. allFit f (headsOf bs) n ≡ true) (x .is) (i .fitting) in
-      let count = exact (x .first) (x .middle) (x .before) in
-      record {
-        first = x .first;
-        others = x .rest;
-        is = x .is;
-        is-first = record {
-          end = x .middle;
-          at = x .before;
-          fitting = &&-left (fits (x .first) (headsOf bs) n) (allFit (x .rest) (headsOf bs) n) fit;
-          count = count;
-        };
-        are-others = record {
-          end = i .end;
-          at = subst (λ j. AllAt (x .rest) (varsOf bs) bs j (i .end)) (sym (ends (x .first) (x .middle) (x .before))) (x .after);
-          fitting = &&-right (fits (x .first) (headsOf bs) n) (allFit (x .rest) (headsOf bs) n) fit;
-          count = x .many;
-          sum = omega (arith, sum-more es (x .first) (x .rest) (x .is), i .sum);
-        };
-        in-turn = ap (λ f. norms f (dimension (headsOf bs))) (x .is);
-      }
+    in-turns : (es : Exprs) → AreBodies bs p n many of es → InTurn es
+    unfolding allFit norm
+    in-turns es i =
+        let x = one-more (varsOf bs) bs es p (i .end) many some (i .at) (i .count) in
+        let fit = subst (λ f. allFit f (headsOf bs) n ≡ true) (x .is) (i .fitting) in
+        let count = exact (x .first) (x .middle) (x .before) in
+        record {
+          first = x .first;
+          others = x .rest;
+          is = x .is;
+          is-first = record {
+            end = x .middle;
+            at = x .before;
+            fitting = &&-left (fits (x .first) (headsOf bs) n) (allFit (x .rest) (headsOf bs) n) fit;
+            count = count;
+          };
+          are-others = record {
+            end = i .end;
+            at = subst (λ j. AllAt (x .rest) (varsOf bs) bs j (i .end)) (sym (ends (x .first) (x .middle) (x .before))) (x .after);
+            fitting = &&-right (fits (x .first) (headsOf bs) n) (allFit (x .rest) (headsOf bs) n) fit;
+            count = x .many;
+            sum = omega (arith, sum-more es (x .first) (x .rest) (x .is), i .sum);
+          };
+          in-turn = ap (λ f. norms f (dimension (headsOf bs))) (x .is);
+        }
 
-  whole : InTurn (h .trees)
-  whole = in-turns (h .trees) (h .are)
+    whole : InTurn (h .trees)
+    whole = in-turns (h .trees) (h .are)
 
-  -- and a first with others are such trees
-  together : (e : Expr) (es : Exprs) → IsBody bs p n k e → AreBodies bs next n (many - 1) (of - k) es → AreBodies bs p n many of (more e es)
-  unfolding At allFit
-  together e es i j = record {
-    end = j .end;
-    at = record { middle = next; before = subst (λ q. At e (varsOf bs) bs p q) (sym (ends e (i .end) (i .at))) (i .at); after = j .at };
-    fitting = rw (i .fitting) (j .fitting);
-    count = omega (arith, j .count);
-    sum = omega (arith, sum-more (more e es) e es refl, i .count, j .sum, first-low);
-  }
+    -- and a first with others are such trees
+    together : (e : Expr) (es : Exprs) → IsBody bs p n k e → AreBodies bs next n (many - 1) (of - k) es → AreBodies bs p n many of (more e es)
+    unfolding At allFit
+    together e es i j = record {
+      end = j .end;
+      at = record { middle = next; before = subst (λ q. At e (varsOf bs) bs p q) (sym (ends e (i .end) (i .at))) (i .at); after = j .at };
+      fitting = rw (i .fitting) (j .fitting);
+      count = omega (arith, j .count);
+      sum = omega (arith, sum-more (more e es) e es refl, i .count, j .sum, first-low);
+    }
 
-  nodes : nodeCounts (h .trees) ≡ nodeCount (whole .first) + nodeCounts (whole .others)
-  unfolding nodeCounts
-  nodes = ap nodeCounts (whole .is)
+    nodes : nodeCounts (h .trees) ≡ nodeCount (whole .first) + nodeCounts (whole .others)
+    unfolding nodeCounts
+    nodes = ap nodeCounts (whole .is)
 
-  all-reach : reach (whole .first) topReach && reachAll (whole .others) topReach ≡ true
-  unfolding reachAll
-  all-reach = subst (λ f. reachAll f topReach ≡ true) (whole .is) (h .reaches)
+    all-reach : reach (whole .first) topReach && reachAll (whole .others) topReach ≡ true
+    unfolding reachAll
+    all-reach = subst (λ f. reachAll f topReach ≡ true) (whole .is) (h .reaches)
 
-  pub first-body : BodyAt bs p n k
-  first-body = record {
-    tree = whole .first;
-    end = whole .is-first .end;
-    at = whole .is-first .at;
-    few = omega (arith, h .few, nodes);
-    fitting = whole .is-first .fitting;
-    reaches = &&-left (reach (whole .first) topReach) (reachAll (whole .others) topReach) all-reach;
-    narrow = h .narrow;
-    count = whole .is-first .count;
-    low = omega (arith, first-low, h .low);
-  }
+    pub first-body : BodyAt bs p n k
+    first-body = record {
+      tree = whole .first;
+      end = whole .is-first .end;
+      at = whole .is-first .at;
+      few = omega (arith, h .few, nodes);
+      fitting = whole .is-first .fitting;
+      reaches = &&-left (reach (whole .first) topReach) (reachAll (whole .others) topReach) all-reach;
+      narrow = h .narrow;
+      count = whole .is-first .count;
+      low = omega (arith, first-low, h .low);
+    }
 
-  pub rest-bodies : BodiesAt bs next n (many - 1) (of - k)
-  rest-bodies = record {
-    trees = whole .others;
-    are = whole .are-others;
-    few = omega (arith, h .few, nodes);
-    reaches = &&-right (reach (whole .first) topReach) (reachAll (whole .others) topReach) all-reach;
-    narrow = h .narrow;
-    low = omega (arith, h .low);
-  }
+    pub rest-bodies : BodiesAt bs next n (many - 1) (of - k)
+    rest-bodies = record {
+      trees = whole .others;
+      are = whole .are-others;
+      few = omega (arith, h .few, nodes);
+      reaches = &&-right (reach (whole .first) topReach) (reachAll (whole .others) topReach) all-reach;
+      narrow = h .narrow;
+      low = omega (arith, h .low);
+    }
 
-  pub more-takes : (sofar taken r : Taken) → TakesFrom bs p n k 0 sofar taken → TakesAll bs next n (many - 1) (of - k) taken r →
-      TakesAll bs p n many of sofar r
-  more-takes sofar taken r first rest = record {
-    few = (omega (arith, first .few, rest .few, first-low), omega (arith, first .few, rest .few, first-low));
-    is = λ es i.
-        let x = in-turns es i in
-        let mine = total n (branchesIn bs (x .first)) in
-        let others = total n (allBranchesIn bs (x .others)) in
-        rest .is (x .others) (x .are-others) ∙ ap (λ z. both z others) (first .is (x .first) (x .is-first)) ∙ both-assoc sofar mine others
-        ∙ ap (both sofar) (sym (total-append n (branchesIn bs (x .first)) (allBranchesIn bs (x .others))) ∙ ap (total n) (sym (x .in-turn)));
-  }
-
-  -- ---- stored
-
-  all-long : (xs ys : List Branch) →
-      length (allBytes (asExprs n (xs ++ ys))) ≡ length (allBytes (asExprs n xs)) + length (allBytes (asExprs n ys))
-  all-long xs ys = ap length (bytes-append n xs ys) ∙ length-append (allBytes (asExprs n xs)) (allBytes (asExprs n ys))
-
-  together-long : (e : Expr) (es : Exprs) → length (allBytes (asExprs n (allBranchesIn bs (more e es))))
-      ≡ length (allBytes (asExprs n (branchesIn bs e))) + length (allBytes (asExprs n (allBranchesIn bs es)))
-  unfolding norm
-  together-long e es = all-long (branchesIn bs e) (allBranchesIn bs es)
-
-  module _ (to : ℕ) (l : List ℕ) where
-    pub first-room : (room : ℕ) → RoomAll bs p n many of to room → RoomFrom bs p n k 0 to room
-    first-room room there e i =
-        let others = whole .others in
-        omega (arith, there (more e others) (together e others i (whole .are-others)), together-long e others)
-
-    module _ (end : ℕ) (a : List ℕ) (stored : StoresFrom bs p n k 0 to l a end) where
-      pub rest-room : RoomAll bs p n many of to (min (2 ^ 40) (length l)) →
-          RoomAll bs next n (many - 1) (of - k) end (min (2 ^ 40) (length a))
-      rest-room there es i =
-          let first = whole .first in
-          let here = stored first (whole .is-first) in
-          let same = ap length (here .0) ∙ length-sets l to (allBytes (asExprs n (branchesIn bs first))) in
-          omega (arith, there (more first es) (together first es (whole .is-first) i), together-long first es, here .1)
-
-      pub more-stores : (d : List ℕ) (r : ℕ) → StoresAll bs next n (many - 1) (of - k) end a d r → StoresAll bs p n many of to l d r
-      more-stores d r rest es i =
+    pub more-takes : (sofar taken r : Taken) → TakesFrom bs p n k 0 sofar taken → TakesAll bs next n (many - 1) (of - k) taken r →
+        TakesAll bs p n many of sofar r
+    more-takes sofar taken r first rest = record {
+      few = (omega (arith, first .few, rest .few, first-low), omega (arith, first .few, rest .few, first-low));
+      is = λ es i.
           let x = in-turns es i in
-          let mine = allBytes (asExprs n (branchesIn bs (x .first))) in
-          let others = allBytes (asExprs n (allBranchesIn bs (x .others))) in
-          let here = stored (x .first) (x .is-first) in
-          let then = rest (x .others) (x .are-others) in
-          let cut = ap (λ y. allBytes (asExprs n y)) (x .in-turn) ∙ bytes-append n (branchesIn bs (x .first)) (allBranchesIn bs (x .others)) in (
-            sets-after l to (length mine) mine others refl (here .0) (then .0 ∙ ap (λ j. sets a j others) (here .1)) ∙ ap (sets l to) (sym cut),
-            omega (arith, then .1, here .1, ap length cut, length-append mine others),
-          )
+          let mine = total n (branchesIn bs (x .first)) in
+          let others = total n (allBranchesIn bs (x .others)) in
+          rest .is (x .others) (x .are-others) ∙ ap (λ z. both z others) (first .is (x .first) (x .is-first)) ∙ both-assoc sofar mine others
+          ∙ ap (both sofar) (sym (total-append n (branchesIn bs (x .first)) (allBranchesIn bs (x .others))) ∙ ap (total n) (sym (x .in-turn)));
+    }
+
+    -- ---- stored
+
+    all-long : (xs ys : List Branch) →
+        length (allBytes (asExprs n (xs ++ ys))) ≡ length (allBytes (asExprs n xs)) + length (allBytes (asExprs n ys))
+    all-long xs ys = ap length (bytes-append n xs ys) ∙ length-append (allBytes (asExprs n xs)) (allBytes (asExprs n ys))
+
+    together-long : (e : Expr) (es : Exprs) → length (allBytes (asExprs n (allBranchesIn bs (more e es))))
+        ≡ length (allBytes (asExprs n (branchesIn bs e))) + length (allBytes (asExprs n (allBranchesIn bs es)))
+    unfolding norm
+    together-long e es = all-long (branchesIn bs e) (allBranchesIn bs es)
+
+    module _ (to : ℕ) (l : List ℕ) where
+      pub first-room : (room : ℕ) → RoomAll bs p n many of to room → RoomFrom bs p n k 0 to room
+      first-room room there e i =
+          let others = whole .others in
+          omega (arith, there (more e others) (together e others i (whole .are-others)), together-long e others)
+
+      module _ (end : ℕ) (a : List ℕ) (stored : StoresFrom bs p n k 0 to l a end) where
+        pub stored-long : length a ≡ length l
+        stored-long =
+            ap length (stored (whole .first) (whole .is-first) .0) ∙ length-sets l to (allBytes (asExprs n (branchesIn bs (whole .first))))
+
+        pub rest-room : RoomAll bs p n many of to (min (2 ^ 40) (length l)) →
+            RoomAll bs next n (many - 1) (of - k) end (min (2 ^ 40) (length a))
+        rest-room there es i =
+            let first = whole .first in
+            let here = stored first (whole .is-first) in
+            omega (arith, there (more first es) (together first es (whole .is-first) i), together-long first es, here .1, stored-long)
+
+        pub more-stores : (d : List ℕ) (r : ℕ) → StoresAll bs next n (many - 1) (of - k) end a d r → StoresAll bs p n many of to l d r
+        more-stores d r rest es i =
+            let x = in-turns es i in
+            let mine = allBytes (asExprs n (branchesIn bs (x .first))) in
+            let others = allBytes (asExprs n (allBranchesIn bs (x .others))) in
+            let here = stored (x .first) (x .is-first) in
+            let then = rest (x .others) (x .are-others) in
+            let cut = ap (λ y. allBytes (asExprs n y)) (x .in-turn) ∙ bytes-append n (branchesIn bs (x .first)) (allBranchesIn bs (x .others)) in (
+              sets-after l to (length mine) mine others refl (here .0) (then .0 ∙ ap (λ j. sets a j others) (here .1)) ∙ ap (sets l to) (sym cut),
+              omega (arith, then .1, here .1, ap length cut, length-append mine others),
+            )
+
+  -- the last has the branches that are left
+  module _ (few : many < 2) where
+    last-is : countOf (split .first) ≡ of
+    last-is =
+        let none-left = allAt-none (varsOf bs) bs (split .rest) (split .middle) (h .are .end) (split .after) (omega (arith, split .many)) in
+        omega (arith, sums, sum-none (split .rest) (none-left .is))
+
+    last-exact : (e : Expr) (q : ℕ) → At e (varsOf bs) bs p q → countOf e ≡ of
+    last-exact e q at = ap countOf (at-unique (varsOf bs) bs p e (split .first) q (split .middle) at (split .before) .tree-is) ∙ last-is
+
+    last-ends : Ends bs p (split .middle)
+    last-ends e q at = at-unique (varsOf bs) bs p (split .first) e (split .middle) q (split .before) at .end-is
+
+    pub last-body : BodyAt bs p n of
+    last-body = first-body of (split .middle) last-exact last-ends
+
+    pub last-takes : (sofar r : Taken) → TakesFrom bs p n of 0 sofar r → TakesAll bs p n many of sofar r
+    last-takes sofar r took =
+        more-takes of (split .middle) last-exact last-ends sofar r r took (none-takes bs (split .middle) n (many - 1) (of - of) (omega arith) r)
+
+    module _ (to : ℕ) (l : List ℕ) where
+      pub last-room : (room : ℕ) → RoomAll bs p n many of to room → RoomFrom bs p n of 0 to room
+      last-room = first-room of (split .middle) last-exact last-ends to l
+
+      pub last-stores : (r : ℕ) (d : List ℕ) → StoresFrom bs p n of 0 to l d r → StoresAll bs p n many of to l d r
+      last-stores r d stored =
+          more-stores of (split .middle) last-exact last-ends to l r d stored d r
+          (none-stores bs (split .middle) n (many - 1) (of - of) (omega arith) r d)

@@ -28,7 +28,7 @@ pub fn measure_tree(s: &[u8], at: usize, left: usize, n: usize, of: usize, sofar
     measure_from(s, at, n, of, 0, sofar)
 }
 
-// What those of `many` children of a case take.
+// What those of `many` children of a case take. The last child has the branches that are left.
 fn measure_children(
     s: &[u8],
     at: usize,
@@ -38,17 +38,22 @@ fn measure_children(
     of: usize,
     sofar: Taken,
 ) -> Taken
-    requires { ⌜ StandingAll (varsOf (now s)) (now s) at left many × (left ≤ 2048) × (many ≤ 64) × Body.BodiesAt (now s) at n many of × Body.Spare of sofar ⌝ }
+    requires { ⌜ StandingAll (varsOf (now s)) (now s) at left many × (left ≤ 2048) × (1 ≤ many) × Body.BodiesAt (now s) at n many of × Body.Spare of sofar ⌝ }
     ensures { λ r. ⌜ Body.TakesAll (now (s .entry)) at n many of sofar r ⌝ }
 {
-    if many < 1 {
-        return sofar;
+    let mut sum = sofar;
+    let mut next = at;
+    let mut more = many;
+    let mut rest = of;
+    while more > 1 {
+        let one = count_tree(s, next, left);
+        let k = one.many;
+        sum = measure_tree(s, next, left, n, k, sum);
+        next = one.next;
+        rest -= k;
+        more -= 1;
     }
-    let first = count_tree(s, at, left);
-    let k = first.many;
-    let next = first.next;
-    let taken = measure_tree(s, at, left, n, k, sofar);
-    measure_children(s, next, left, many - 1, n, of - k, taken)
+    measure_tree(s, next, left, n, rest, sum)
 }
 
 // ---- stored
@@ -74,7 +79,7 @@ pub fn put_tree(
     put_from(s, at, n, of, 0, out, to)
 }
 
-// Those of `many` children of a case.
+// Those of `many` children of a case. The last child has the branches that are left.
 fn put_children(
     s: &[u8],
     at: usize,
@@ -85,15 +90,20 @@ fn put_children(
     out: &mut [u8],
     to: usize,
 ) -> usize
-    requires { ⌜ StandingAll (varsOf (now s)) (now s) at left many × (left ≤ 2048) × (many ≤ 64) × Body.BodiesAt (now s) at n many of × Body.RoomAll (now s) at n many of to (min (2 ^ 40) (length (now out))) ⌝ }
+    requires { ⌜ StandingAll (varsOf (now s)) (now s) at left many × (left ≤ 2048) × (1 ≤ many) × Body.BodiesAt (now s) at n many of × Body.RoomAll (now s) at n many of to (min (2 ^ 40) (length (now out))) ⌝ }
     ensures { λ r. ⌜ Body.StoresAll (now (s .entry)) at n many of to (now (out .entry)) (now (out .exit)) r ⌝ }
 {
-    if many < 1 {
-        return to;
+    let mut p = to;
+    let mut next = at;
+    let mut more = many;
+    let mut rest = of;
+    while more > 1 {
+        let one = count_tree(s, next, left);
+        let k = one.many;
+        p = put_tree(s, next, left, n, k, out, p);
+        next = one.next;
+        rest -= k;
+        more -= 1;
     }
-    let first = count_tree(s, at, left);
-    let k = first.many;
-    let next = first.next;
-    let end = put_tree(s, at, left, n, k, out, to);
-    put_children(s, next, left, many - 1, n, of - k, out, end)
+    put_tree(s, next, left, n, rest, out, p)
 }

@@ -15,18 +15,23 @@ use Rattle.tree.proofs.node.natural.Reads as natural-reads
 use Rattle.tree.proofs.node.node_len.Reads as node-len-reads
 use Rattle.normal.proofs.turn.+measure_children+measure_tree.{statement}
 use Rattle.normal.proofs.turn.+measure_children+measure_tree.Tie.{close}
-use Prim.Native.Nat.{ℕ, _+_, _*_, _<_}
+use Prim.Native.Nat.{ℕ, _+_, _*_, _≤_, _<_}
 use mathlib.Core.Path.{sym, _∙_}
 use native.Mathlib.Omega.{arith}
+use Rattle.laws.specs.Sheets.{varsOf}
+use Rattle.tree.specs.Standing.{StandingAll}
 use Rattle.tree.proofs.Noding.{code-there}
-use Rattle.tree.proofs.Standings.{standing-noded, standing-some, standing-there, standing-children, children-few, first-standing, rest-standing}
-use Rattle.normal.proofs.Turns.{case-bodies, case-takes, none-takes, first-low, first-body, rest-bodies, more-takes}
+use Rattle.tree.proofs.Standings.{standing-noded, standing-some, standing-there, standing-children, first-standing, rest-standing}
+use Rattle.normal.specs.declared.Taken.{Taken}
+use Rattle.normal.specs.Body.{BodiesAt, Spare, TakesAll}
+use Rattle.normal.proofs.Turns.{case-some, case-bodies, case-takes, counted-exact, first-low, first-body, rest-bodies, more-takes}
+use Rattle.normal.proofs.Turns.{last-body, last-takes}
 
 abbrev μ-measure-children : Measures 1 measure-children-kinds.ps ℕ
-μ-measure-children κs a = 70 * a .1 .1 .0 + (a .1 .1 .1 .0 + 1)
+μ-measure-children κs a = 2 * a .1 .1 .0 + 1
 
 abbrev μ-measure-tree : Measures 1 measure-tree-kinds.ps ℕ
-μ-measure-tree κs a = 70 * a .1 .1 .0
+μ-measure-tree κs a = 2 * a .1 .1 .0
 
 abbrev measure-children-at : ℕ → In 1 measure-children-kinds.ps
 measure-children-at t = and 1 measure-children-kinds.ps (is 1 measure-children-kinds.ps μ-measure-children t) measure-children.Pre
@@ -41,7 +46,7 @@ abbrev measure-tree-below : ℕ → In 1 measure-tree-kinds.ps
 measure-tree-below t = and 1 measure-tree-kinds.ps (falls 1 measure-tree-kinds.ps _<_ μ-measure-tree t) measure-tree.Pre
 
 abbrev measure-children-uses : ℕ → measure-children-lts.Claims
-measure-children-uses t = (count-tree-reads.Asked, count-tree-reads.Learnt, measure-tree-below t, measure-tree.Post, measure-children-below t, measure-children.Post)
+measure-children-uses t = (count-tree-reads.Asked, count-tree-reads.Learnt, measure-tree-below t, measure-tree.Post)
 
 abbrev measure-tree-uses : ℕ → measure-tree-lts.Claims
 measure-tree-uses t = (
@@ -57,68 +62,98 @@ measure-tree-uses t = (
   measure-from-reads.Learnt,
 )
 
-measure-children-returns : (t : ℕ) → measure-children-lts.Need-returns (measure-children-uses t) (measure-children-at t) measure-children.Post
-measure-children-returns t c =
-    none-takes _ _ _ _ _ (c .if1 .taken) (c .before .before .args .sofar)
+-- what the trees from here on come to with those so far is what all of them do
+abbrev measure-children-Inv-loop : measure-children-lts.InvT-loop
+measure-children-Inv-loop s at left many n of sofar next₀ more₀ rest₀ sum next more rest =
+    StandingAll (varsOf s) s next left more × (1 ≤ more) × BodiesAt s next n more rest × Spare rest sum
+    × ((r : Taken) → TakesAll s next n more rest sum r → TakesAll s at n many of sofar r)
 
-measure-children-count-tree-requires : (t : ℕ) → measure-children-lts.Need-count-tree-requires (measure-children-uses t) (measure-children-at t) measure-children.Post
+abbrev measure-children-μ-loop : measure-children-lts.MeasureT-loop
+measure-children-μ-loop s at left many n of sofar next₀ more₀ rest₀ sum next more rest = more
+
+measure-children-loop-holds : (t : ℕ) → measure-children-lts.Need-loop-holds (measure-children-uses t) (measure-children-at t)
+    measure-children.Post measure-children-Inv-loop measure-children-μ-loop
+measure-children-loop-holds t c =
+    let s = c .before in
+    (s .pre .1 .0, s .pre .1 .2, s .pre .1 .3, s .pre .1 .4, λ r h. h)
+
+measure-children-count-tree-requires : (t : ℕ) → measure-children-lts.Need-count-tree-requires (measure-children-uses t) (measure-children-at t)
+    measure-children.Post measure-children-Inv-loop measure-children-μ-loop
 measure-children-count-tree-requires t c κs =
-    let s = c .before .before in
-    (first-standing _ _ _ _ _ (c .if1 .left) (s .pre .1 .0), s .pre .1 .1)
+    let at-loop = c .before in
+    let s = at-loop .before .before in
+    (first-standing _ _ _ _ _ (at-loop .loop .inv .1) (at-loop .loop .inv .0), s .pre .1 .1)
 
-measure-children-measure-tree-requires : (t : ℕ) → measure-children-lts.Need-measure-tree-requires (measure-children-uses t) (measure-children-at t) measure-children.Post
+measure-children-measure-tree-requires : (t : ℕ) → measure-children-lts.Need-measure-tree-requires (measure-children-uses t) (measure-children-at t)
+    measure-children.Post measure-children-Inv-loop measure-children-μ-loop
 measure-children-measure-tree-requires t c κs =
-    let else1 = c .before in
-    let s = else1 .before .before in
-    let more = else1 .if1 .left in
-    let h = s .pre .1 .3 in
+    let at-loop = c .before .before in
+    let s = at-loop .before .before in
+    let inv = at-loop .loop .inv in
     let found = c .count-tree .ensures in
-    let low = first-low _ _ _ _ _ _ _ more (found .0) (found .1) h in
+    let exact = counted-exact _ _ _ _ _ (inv .1) (inv .2) _ (found .0) in
+    let low = first-low _ _ _ _ _ (inv .1) (inv .2) _ _ exact (found .1) in
     let is = s .pre .0 in (
       omega arith,
       (
-        first-standing _ _ _ _ _ more (s .pre .1 .0),
+        first-standing _ _ _ _ _ (inv .1) (inv .0),
         s .pre .1 .1,
-        first-body _ _ _ _ _ _ _ more (found .0) (found .1) h,
-        (omega (arith, s .pre .1 .4), omega (arith, s .pre .1 .4)),
+        first-body _ _ _ _ _ (inv .1) (inv .2) _ _ exact (found .1),
+        (omega (arith, inv .3), omega (arith, inv .3)),
       ),
     )
 
-measure-children-sub-measure-children : (t : ℕ) → measure-children-lts.Need-sub-measure-children (measure-children-uses t) (measure-children-at t) measure-children.Post
-measure-children-sub-measure-children t c =
-    let else1 = c .before .before in
-    let s = else1 .before .before in
+measure-children-sub-rest : (t : ℕ) → measure-children-lts.Need-sub-rest (measure-children-uses t) (measure-children-at t)
+    measure-children.Post measure-children-Inv-loop measure-children-μ-loop
+measure-children-sub-rest t c =
+    let inv = c .before .before .before .loop .inv in
     let found = c .before .count-tree .ensures in
-    omega (arith, first-low _ _ _ _ _ _ _ (else1 .if1 .left) (found .0) (found .1) (s .pre .1 .3))
+    omega (arith, first-low _ _ _ _ _ (inv .1) (inv .2) _ _ (counted-exact _ _ _ _ _ (inv .1) (inv .2) _ (found .0)) (found .1))
 
-measure-children-measure-children-requires : (t : ℕ) → measure-children-lts.Need-measure-children-requires (measure-children-uses t) (measure-children-at t) measure-children.Post
-measure-children-measure-children-requires t c κs =
-    let else1 = c .before .before in
-    let s = else1 .before .before in
-    let more = else1 .if1 .left in
-    let h = s .pre .1 .3 in
+measure-children-sub-more : (t : ℕ) → measure-children-lts.Need-sub-more (measure-children-uses t) (measure-children-at t)
+    measure-children.Post measure-children-Inv-loop measure-children-μ-loop
+measure-children-sub-more t c = omega (arith, c .before .before .loop-test .taken)
+
+measure-children-loop-less : (t : ℕ) → measure-children-lts.Need-loop-less (measure-children-uses t) (measure-children-at t)
+    measure-children.Post measure-children-Inv-loop measure-children-μ-loop
+measure-children-loop-less t c = omega (arith, c .before .before .loop-test .taken)
+
+measure-children-loop-again : (t : ℕ) → measure-children-lts.Need-loop-again (measure-children-uses t) (measure-children-at t)
+    measure-children.Post measure-children-Inv-loop measure-children-μ-loop
+measure-children-loop-again t c =
+    let in-loop = c .before .before in
+    let loop = in-loop .before .loop in
+    let inv = loop .inv in
+    let more = in-loop .loop-test .taken in
     let found = c .before .count-tree .ensures in
-    let low = first-low _ _ _ _ _ _ _ more (found .0) (found .1) h in
-    let took = c .measure-tree .ensures .few in
+    let exact = counted-exact _ _ _ _ _ (inv .1) (inv .2) _ (found .0) in
+    let low = first-low _ _ _ _ _ (inv .1) (inv .2) _ _ exact (found .1) in
+    let took = c .measure-tree .ensures in (
+      rest-standing _ _ _ _ _ (inv .1) (inv .0) _ (found .1),
+      omega arith,
+      rest-bodies _ _ _ _ _ (inv .1) (inv .2) _ _ exact (found .1),
+      (omega (arith, inv .3, took .few), omega (arith, inv .3, took .few)),
+      λ r h. inv .4 r (more-takes _ _ _ _ _ (inv .1) (inv .2) _ _ exact (found .1) (loop .sum) _ r took h),
+    )
+
+measure-children-measure-tree-requires-2 : (t : ℕ) → measure-children-lts.Need-measure-tree-requires-2 (measure-children-uses t) (measure-children-at t)
+    measure-children.Post measure-children-Inv-loop measure-children-μ-loop
+measure-children-measure-tree-requires-2 t c κs =
+    let at-loop = c .before in
+    let s = at-loop .before .before in
+    let inv = at-loop .loop .inv in
     let is = s .pre .0 in (
       omega arith,
-      (
-        rest-standing _ _ _ _ _ more (s .pre .1 .0) _ (found .1),
-        s .pre .1 .1,
-        omega (arith, s .pre .1 .2),
-        rest-bodies _ _ _ _ _ _ _ more (found .0) (found .1) h,
-        (omega (arith, s .pre .1 .4, took), omega (arith, s .pre .1 .4, took)),
-      ),
+      (first-standing _ _ _ _ _ (inv .1) (inv .0), s .pre .1 .1, last-body _ _ _ _ _ (inv .1) (inv .2) (omega (arith, c .loop-test .left)), inv .3),
     )
 
-measure-children-returns-2 : (t : ℕ) → measure-children-lts.Need-returns-2 (measure-children-uses t) (measure-children-at t) measure-children.Post
-measure-children-returns-2 t c =
-    let after-measure-tree = c .before in
-    let else1 = after-measure-tree .before .before in
-    let s = else1 .before .before in
-    let found = after-measure-tree .before .count-tree .ensures in
-    more-takes _ _ _ _ _ _ _ (else1 .if1 .left) (found .0) (found .1) (s .pre .1 .3) (s .args .sofar) _ _ (after-measure-tree .measure-tree .ensures)
-    (c .measure-children .ensures)
+measure-children-returns : (t : ℕ) → measure-children-lts.Need-returns (measure-children-uses t) (measure-children-at t)
+    measure-children.Post measure-children-Inv-loop measure-children-μ-loop
+measure-children-returns t c =
+    let after-loop = c .before in
+    let loop = after-loop .before .loop in
+    let few = after-loop .loop-test .left in
+    loop .inv .4 _ (last-takes _ _ _ _ _ (loop .inv .1) (loop .inv .2) (omega (arith, few)) (loop .sum) _ (c .measure-tree2 .ensures))
 
 measure-tree-natural-requires : (t : ℕ) → measure-tree-lts.Need-natural-requires (measure-tree-uses t) (measure-tree-at t) measure-tree.Post
 measure-tree-natural-requires t c κs = code-there _ _ _ (standing-noded _ _ _ _ (c .before .pre .1 .0))
@@ -145,14 +180,13 @@ measure-tree-measure-children-requires t c κs =
     let some = standing-some _ _ _ _ h in
     let long = c .before .node-len .ensures in
     let many = c .children .ensures in
-    let few = children-few _ _ _ _ h _ _ long many in
     let six = sym (then1 .before .natural .ensures) ∙ then1 .if1 .taken in
     let is = s .pre .0 in (
       omega arith,
       (
         standing-children _ _ _ _ h _ _ long many,
         omega (arith, s .pre .1 .1),
-        few,
+        case-some _ _ _ _ _ _ six long many (s .pre .1 .2),
         case-bodies _ _ _ _ _ _ six long many (s .pre .1 .2),
         s .pre .1 .3,
       ),
@@ -179,12 +213,17 @@ measure-tree-returns-2 t c = c .measure-from .ensures
 pub +measure-children+measure-tree-spec : {M : Type 1} → statement M
 +measure-children+measure-tree-spec = close μ-measure-children μ-measure-tree (λ t. measure-children-lts.spec (measure-children-uses t) (measure-children-at t)
     measure-children.Post
-    (measure-children-returns t)
+    measure-children-Inv-loop
+    measure-children-μ-loop
+    (measure-children-loop-holds t)
     (measure-children-count-tree-requires t)
     (measure-children-measure-tree-requires t)
-    (measure-children-sub-measure-children t)
-    (measure-children-measure-children-requires t)
-    (measure-children-returns-2 t))
+    (measure-children-sub-rest t)
+    (measure-children-sub-more t)
+    (measure-children-loop-less t)
+    (measure-children-loop-again t)
+    (measure-children-measure-tree-requires-2 t)
+    (measure-children-returns t))
     λ t. measure-tree-lts.spec (measure-tree-uses t) (measure-tree-at t)
     measure-tree.Post
     (measure-tree-natural-requires t)

@@ -15,19 +15,25 @@ use Rattle.tree.proofs.node.natural.Reads as natural-reads
 use Rattle.tree.proofs.node.node_len.Reads as node-len-reads
 use Rattle.normal.proofs.turn.+put_children+put_tree.{statement}
 use Rattle.normal.proofs.turn.+put_children+put_tree.Tie.{close}
-use Prim.Native.Nat.{ℕ, _+_, _*_, _<_}
-use mathlib.Core.Path.{sym, _∙_}
+use Prim.Native.Nat.{ℕ, _+_, _*_, _^_, _≤_, _<_, min}
+use mathlib.Core.Path.{_≡_, refl, sym, _∙_}
 use native.Mathlib.Omega.{arith}
 use borrow.Author.Needs.{needs}
+use mathlib.Core.List.{List}
+use lib.ListN.{length}
+use Rattle.laws.specs.Sheets.{varsOf}
+use Rattle.tree.specs.Standing.{StandingAll}
 use Rattle.tree.proofs.Noding.{code-there}
-use Rattle.tree.proofs.Standings.{standing-noded, standing-some, standing-there, standing-children, children-few, first-standing, rest-standing}
-use Rattle.normal.proofs.Turns.{case-bodies, case-room, case-stores, none-stores, first-low, first-body, rest-bodies, first-room, rest-room, more-stores}
+use Rattle.tree.proofs.Standings.{standing-noded, standing-some, standing-there, standing-children, first-standing, rest-standing}
+use Rattle.normal.specs.Body.{BodiesAt, RoomAll, StoresAll}
+use Rattle.normal.proofs.Turns.{case-some, case-bodies, case-room, case-stores, counted-exact, first-low, first-body, rest-bodies}
+use Rattle.normal.proofs.Turns.{first-room, stored-long, rest-room, more-stores, last-body, last-room, last-stores}
 
 abbrev μ-put-children : Measures 2 put-children-kinds.ps ℕ
-μ-put-children κs a = 70 * a .1 .1 .0 + (a .1 .1 .1 .0 + 1)
+μ-put-children κs a = 2 * a .1 .1 .0 + 1
 
 abbrev μ-put-tree : Measures 2 put-tree-kinds.ps ℕ
-μ-put-tree κs a = 70 * a .1 .1 .0
+μ-put-tree κs a = 2 * a .1 .1 .0
 
 abbrev put-children-at : ℕ → In 2 put-children-kinds.ps
 put-children-at t = and 2 put-children-kinds.ps (is 2 put-children-kinds.ps μ-put-children t) put-children.Pre
@@ -42,7 +48,7 @@ abbrev put-tree-below : ℕ → In 2 put-tree-kinds.ps
 put-tree-below t = and 2 put-tree-kinds.ps (falls 2 put-tree-kinds.ps _<_ μ-put-tree t) put-tree.Pre
 
 abbrev put-children-uses : ℕ → put-children-lts.Claims
-put-children-uses t = (count-tree-reads.Asked, count-tree-reads.Learnt, put-tree-below t, put-tree.Post, put-children-below t, put-children.Post)
+put-children-uses t = (count-tree-reads.Asked, count-tree-reads.Learnt, put-tree-below t, put-tree.Post)
 
 abbrev put-tree-uses : ℕ → put-tree-lts.Claims
 put-tree-uses t = (
@@ -58,73 +64,114 @@ put-tree-uses t = (
   put-from-reads.Learnt,
 )
 
-put-children-returns : (t : ℕ) → put-children-lts.Need-returns (put-children-uses t) (put-children-at t) put-children.Post
-put-children-returns t c =
-    let s = c .before .before .before in
-    none-stores _ _ _ _ _ (c .if1 .taken) (s .args .to) _
+-- storing the trees from here on is storing all of them from the start
+abbrev put-children-Inv-loop : put-children-lts.InvT-loop
+put-children-Inv-loop s at left many n of out₀ to p₀ next₀ more₀ rest₀ out p next more rest =
+    StandingAll (varsOf s) s next left more × (1 ≤ more) × BodiesAt s next n more rest × RoomAll s next n more rest p (min (2 ^ 40) (length out))
+    × ((d : List ℕ) (r : ℕ) → StoresAll s next n more rest p out d r → StoresAll s at n many of to out₀ d r) × (length out ≡ length out₀)
 
-put-children-count-tree-requires : (t : ℕ) → put-children-lts.Need-count-tree-requires (put-children-uses t) (put-children-at t) put-children.Post
+abbrev put-children-μ-loop : put-children-lts.MeasureT-loop
+put-children-μ-loop s at left many n of out₀ to p₀ next₀ more₀ rest₀ out p next more rest = more
+
+put-children-loop-holds : (t : ℕ) → put-children-lts.Need-loop-holds (put-children-uses t) (put-children-at t)
+    put-children.Post put-children-Inv-loop put-children-μ-loop
+put-children-loop-holds t c =
+    let s = c .before .before in
+    (s .pre .1 .0, s .pre .1 .2, s .pre .1 .3, s .pre .1 .4, (λ d r h. h), refl)
+
+put-children-count-tree-requires : (t : ℕ) → put-children-lts.Need-count-tree-requires (put-children-uses t) (put-children-at t)
+    put-children.Post put-children-Inv-loop put-children-μ-loop
 put-children-count-tree-requires t c κs =
-    let s = c .before .before .before in
-    (first-standing _ _ _ _ _ (c .if1 .left) (s .pre .1 .0), s .pre .1 .1)
+    let at-loop = c .before in
+    let s = at-loop .before .before .before in
+    (first-standing _ _ _ _ _ (at-loop .loop .inv .1) (at-loop .loop .inv .0), s .pre .1 .1)
 
-put-children-put-tree-requires : (t : ℕ) → put-children-lts.Need-put-tree-requires (put-children-uses t) (put-children-at t) put-children.Post
+put-children-put-tree-requires : (t : ℕ) → put-children-lts.Need-put-tree-requires (put-children-uses t) (put-children-at t)
+    put-children.Post put-children-Inv-loop put-children-μ-loop
 put-children-put-tree-requires t c κs =
-    let else1 = c .before .before in
-    let s = else1 .before .before .before in
-    let more = else1 .if1 .left in
-    let h = s .pre .1 .3 in
+    let at-loop = c .before .before .before in
+    let s = at-loop .before .before .before in
+    let loop = at-loop .loop in
+    let inv = loop .inv in
     let found = c .before .count-tree .ensures in
+    let exact = counted-exact _ _ _ _ _ (inv .1) (inv .2) _ (found .0) in
     let is = s .pre .0 in (
       omega arith,
       (
-        first-standing _ _ _ _ _ more (s .pre .1 .0),
+        first-standing _ _ _ _ _ (inv .1) (inv .0),
         s .pre .1 .1,
-        first-body _ _ _ _ _ _ _ more (found .0) (found .1) h,
-        first-room _ _ _ _ _ _ _ more (found .0) (found .1) h _ (s .args .out .now) _ (s .pre .1 .4),
+        first-body _ _ _ _ _ (inv .1) (inv .2) _ _ exact (found .1),
+        first-room _ _ _ _ _ (inv .1) (inv .2) _ _ exact (found .1) _ (loop .out) _ (inv .3),
       ),
     )
 
-put-children-sub-put-children : (t : ℕ) → put-children-lts.Need-sub-put-children (put-children-uses t) (put-children-at t) put-children.Post
-put-children-sub-put-children t c =
+put-children-sub-rest : (t : ℕ) → put-children-lts.Need-sub-rest (put-children-uses t) (put-children-at t)
+    put-children.Post put-children-Inv-loop put-children-μ-loop
+put-children-sub-rest t c =
     let after-count-tree = c .before .before .before .before in
-    let else1 = after-count-tree .before in
-    let s = else1 .before .before .before in
+    let inv = after-count-tree .before .before .loop .inv in
     let found = after-count-tree .count-tree .ensures in
-    omega (arith, first-low _ _ _ _ _ _ _ (else1 .if1 .left) (found .0) (found .1) (s .pre .1 .3))
+    omega (arith, first-low _ _ _ _ _ (inv .1) (inv .2) _ _ (counted-exact _ _ _ _ _ (inv .1) (inv .2) _ (found .0)) (found .1))
 
-put-children-put-children-requires : (t : ℕ) → put-children-lts.Need-put-children-requires (put-children-uses t) (put-children-at t) put-children.Post
-put-children-put-children-requires t c κs =
-    let after-put-tree = c .before .before .before in
+put-children-sub-more : (t : ℕ) → put-children-lts.Need-sub-more (put-children-uses t) (put-children-at t)
+    put-children.Post put-children-Inv-loop put-children-μ-loop
+put-children-sub-more t c = omega (arith, c .before .before .before .before .before .loop-test .taken)
+
+put-children-loop-less : (t : ℕ) → put-children-lts.Need-loop-less (put-children-uses t) (put-children-at t)
+    put-children.Post put-children-Inv-loop put-children-μ-loop
+put-children-loop-less t c = omega (arith, c .before .before .before .before .before .loop-test .taken)
+
+put-children-loop-again : (t : ℕ) → put-children-lts.Need-loop-again (put-children-uses t) (put-children-at t)
+    put-children.Post put-children-Inv-loop put-children-μ-loop
+put-children-loop-again t c =
+    let after-put-tree = c .before .before in
     let after-count-tree = after-put-tree .before .before in
-    let else1 = after-count-tree .before in
-    let s = else1 .before .before .before in
-    let more = else1 .if1 .left in
-    let h = s .pre .1 .3 in
+    let in-loop = after-count-tree .before in
+    let loop = in-loop .before .loop in
+    let inv = loop .inv in
+    let more = in-loop .loop-test .taken in
     let found = after-count-tree .count-tree .ensures in
+    let exact = counted-exact _ _ _ _ _ (inv .1) (inv .2) _ (found .0) in
+    let stored = after-put-tree .put-tree .ensures in (
+      rest-standing _ _ _ _ _ (inv .1) (inv .0) _ (found .1),
+      omega arith,
+      rest-bodies _ _ _ _ _ (inv .1) (inv .2) _ _ exact (found .1),
+      rest-room _ _ _ _ _ (inv .1) (inv .2) _ _ exact (found .1) _ (loop .out) _ _ stored (inv .3),
+      (λ d r h. inv .4 d r (more-stores _ _ _ _ _ (inv .1) (inv .2) _ _ exact (found .1) _ (loop .out) _ _ stored d r h)),
+      stored-long _ _ _ _ _ (inv .1) (inv .2) _ _ exact (found .1) _ (loop .out) _ _ stored ∙ inv .5,
+    )
+
+put-children-put-tree-requires-2 : (t : ℕ) → put-children-lts.Need-put-tree-requires-2 (put-children-uses t) (put-children-at t)
+    put-children.Post put-children-Inv-loop put-children-μ-loop
+put-children-put-tree-requires-2 t c κs =
+    let at-loop = c .before .before in
+    let s = at-loop .before .before .before in
+    let loop = at-loop .loop in
+    let inv = loop .inv in
+    let last = c .before .loop-test .left in
     let is = s .pre .0 in (
       omega arith,
       (
-        rest-standing _ _ _ _ _ more (s .pre .1 .0) _ (found .1),
+        first-standing _ _ _ _ _ (inv .1) (inv .0),
         s .pre .1 .1,
-        omega (arith, s .pre .1 .2),
-        rest-bodies _ _ _ _ _ _ _ more (found .0) (found .1) h,
-        rest-room _ _ _ _ _ _ _ more (found .0) (found .1) h _ (s .args .out .now) _ _ (after-put-tree .put-tree .ensures) (s .pre .1 .4),
+        last-body _ _ _ _ _ (inv .1) (inv .2) (omega (arith, last)),
+        last-room _ _ _ _ _ (inv .1) (inv .2) (omega (arith, last)) _ (loop .out) _ (inv .3),
       ),
     )
 
-put-children-same-length : (t : ℕ) → put-children-lts.Need-same-length (put-children-uses t) (put-children-at t) put-children.Post
+put-children-same-length : (t : ℕ) → put-children-lts.Need-same-length (put-children-uses t) (put-children-at t)
+    put-children.Post put-children-Inv-loop put-children-μ-loop
 put-children-same-length t c = search needs
 
-put-children-returns-2 : (t : ℕ) → put-children-lts.Need-returns-2 (put-children-uses t) (put-children-at t) put-children.Post
-put-children-returns-2 t c =
-    let after-put-tree = c .before .before .before .before .before .before in
-    let after-count-tree = after-put-tree .before .before in
-    let else1 = after-count-tree .before in
-    let s = else1 .before .before .before in
-    let found = after-count-tree .count-tree .ensures in
-    more-stores _ _ _ _ _ _ _ (else1 .if1 .left) (found .0) (found .1) (s .pre .1 .3) _ (s .args .out .now) _ _ (after-put-tree .put-tree .ensures) _ _
-    (c .before .before .put-children .ensures)
+put-children-returns : (t : ℕ) → put-children-lts.Need-returns (put-children-uses t) (put-children-at t)
+    put-children.Post put-children-Inv-loop put-children-μ-loop
+put-children-returns t c =
+    let after-put-tree2 = c .before .before in
+    let after-loop = after-put-tree2 .before .before in
+    let loop = after-loop .before .loop in
+    let few = after-loop .loop-test .left in
+    loop .inv .4 _ _
+    (last-stores _ _ _ _ _ (loop .inv .1) (loop .inv .2) (omega (arith, few)) _ (loop .out) _ _ (after-put-tree2 .put-tree2 .ensures))
 
 put-tree-natural-requires : (t : ℕ) → put-tree-lts.Need-natural-requires (put-tree-uses t) (put-tree-at t) put-tree.Post
 put-tree-natural-requires t c κs = code-there _ _ _ (standing-noded _ _ _ _ (c .before .before .pre .1 .0))
@@ -152,14 +199,13 @@ put-tree-put-children-requires t c κs =
     let some = standing-some _ _ _ _ h in
     let long = after-children .before .node-len .ensures in
     let many = after-children .children .ensures in
-    let few = children-few _ _ _ _ h _ _ long many in
     let six = sym (then1 .before .natural .ensures) ∙ then1 .if1 .taken in
     let is = s .pre .0 in (
       omega arith,
       (
         standing-children _ _ _ _ h _ _ long many,
         omega (arith, s .pre .1 .1),
-        few,
+        case-some _ _ _ _ _ _ six long many (s .pre .1 .2),
         case-bodies _ _ _ _ _ _ six long many (s .pre .1 .2),
         case-room _ _ _ _ _ _ six long many (s .pre .1 .2) _ _ (s .pre .1 .3),
       ),
@@ -191,13 +237,18 @@ put-tree-returns-2 t c = c .before .before .put-from .ensures
 pub +put-children+put-tree-spec : {M : Type 1} → statement M
 +put-children+put-tree-spec = close μ-put-children μ-put-tree (λ t. put-children-lts.spec (put-children-uses t) (put-children-at t)
     put-children.Post
-    (put-children-returns t)
+    put-children-Inv-loop
+    put-children-μ-loop
+    (put-children-loop-holds t)
     (put-children-count-tree-requires t)
     (put-children-put-tree-requires t)
-    (put-children-sub-put-children t)
-    (put-children-put-children-requires t)
+    (put-children-sub-rest t)
+    (put-children-sub-more t)
+    (put-children-loop-less t)
+    (put-children-loop-again t)
+    (put-children-put-tree-requires-2 t)
     (put-children-same-length t)
-    (put-children-returns-2 t))
+    (put-children-returns t))
     λ t. put-tree-lts.spec (put-tree-uses t) (put-tree-at t)
     put-tree.Post
     (put-tree-natural-requires t)
