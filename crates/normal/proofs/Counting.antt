@@ -9,7 +9,7 @@ use mathlib.Core.List.{List}
 use mathlib.Core.Logic.{⊎-elim}
 use lib.IntN.{natAbs}
 use lib.Dec.{eqb}
-use borrow.Author.Tests.{lt-ltb, le-ltb}
+use borrow.Author.Tests.{lt-ltb, le-ltb, ne-eqb}
 use Rattle.alpha.specs.Pick.{ifb}
 use Rattle.alpha.specs.Field.{field}
 use Rattle.alpha.specs.Sheet.{Node, Expr, Exprs}
@@ -20,6 +20,7 @@ use Rattle.laws.specs.At.{codeNumber, nodeLen, At, AllAt}
 use Rattle.laws.specs.Children.{childrenOf, arity}
 use Rattle.laws.specs.Sheets.{varsOf}
 use Rattle.laws.proofs.Shapes.{allAt-none, MoreAt}
+use Rattle.laws.proofs.Children.{at-children}
 use Rattle.affine.proofs.Several.{lt-or-le}
 use Rattle.tree.specs.Standing.{Standing, StandingAll}
 use Rattle.tree.proofs.Standings.{children-at, children-counted, one-more}
@@ -42,6 +43,18 @@ count-children (ite a b c) = ap (λ n. countOf a * (countOf b * n)) (sym (mul-on
 count-children (kase es) = refl
 count-children (restr d cs a) = sym (mul-one (countOf a))
 count-children (dep f a) = sym (mul-one (countOf a))
+
+-- a leaf has none
+leaf-none : (e : Expr) → codeNumber e < 3 → childrenOf e ≡ none
+leaf-none (var v) h = refl
+leaf-none (int c) h = refl
+leaf-none (boo b) h = refl
+leaf-none (un o a) h = absurd (omega arith)
+leaf-none (bin o a b) h = absurd (omega arith)
+leaf-none (ite a b c) h = absurd (omega arith)
+leaf-none (kase es) h = absurd (omega arith)
+leaf-none (restr d cs a) h = absurd (omega arith)
+leaf-none (dep f a) h = absurd (omega arith)
 
 -- ---- up to 65
 
@@ -100,6 +113,18 @@ module _ (bs : List ℕ) (p : ℕ) where
         ∙ ap capped (sym (count-children e)),
   )
 
+  pub leaf-way : (code : ℕ) → code ≡ natAbs (field bs p) → code < 3 → Counts bs p 1
+  leaf-way code is low = (
+    omega arith,
+    λ e q at.
+        let c = is ∙ tree-code bs p e q at in
+        let no-case : codeNumber e ≡ 6 → ⊥ = λ i. omega arith in
+        let none-are = leaf-none e (omega arith) in
+        let one = count-children e ∙ ap (λ t. countsOf t (childrenOf e)) (ne-eqb (codeNumber e) 6 no-case) ∙ ap (countsOf false) none-are
+        ∙ counts-none false in
+        omega (arith, one),
+  )
+
   pub none-way : (many : ℕ) (t : Bool) (sofar : ℕ) → many < 1 → sofar ≤ 65 → CountsAll bs p many t sofar sofar
   none-way many t sofar l low = (
     low,
@@ -130,6 +155,12 @@ module _ (bs : List ℕ) (p : ℕ) where
       Ends bs p r
   node-ends k n r long many h e q at =
       h (childrenOf e) q (children-at (varsOf bs) bs p k n long many e q at) (children-counted (varsOf bs) bs p k n long many e q at)
+
+  pub leaf-ends : (code k : ℕ) → code ≡ natAbs (field bs p) → code < 3 → k ≡ nodeLen bs p → Ends bs p (p + k)
+  leaf-ends code k is low long e q at =
+      let c = is ∙ tree-code bs p e q at in
+      let few = ap branchCount (leaf-none e (omega arith)) in
+      omega (arith, allAt-none (varsOf bs) bs (childrenOf e) (p + nodeLen bs p) q (at-children (varsOf bs) bs e p q at) few .end)
 
   pub none-ends : (many : ℕ) → many < 1 → EndsAll bs p many p
   none-ends many l es q h m = allAt-none (varsOf bs) bs es p q h (omega arith) .end

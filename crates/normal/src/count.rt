@@ -38,13 +38,17 @@ fn alone(branches: bool) -> usize
     if branches { 0 } else { 1 }
 }
 
-// The tree at `at`, of at most `left` nodes, and where it ends.
+// The tree at `at`, of at most `left` nodes, and where it ends. A leaf has one branch.
 pub fn count_tree(s: &[u8], at: usize, left: usize) -> Branches
     requires { ⌜ Standing (varsOf (now s)) (now s) at left × (left ≤ 2048) ⌝ }
     ensures { λ r. ⌜ Counts (now (s .entry)) at (r .many) × Ends (now (s .entry)) at (r .next) ⌝ }
 {
-    let branches = natural(s, at) == 6;
+    let code = natural(s, at);
     let next = at + node_len(s, at);
+    if code < 3 {
+        return Branches { many: 1, next };
+    }
+    let branches = code == 6;
     count_trees(
         s,
         next,

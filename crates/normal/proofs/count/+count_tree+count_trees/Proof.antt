@@ -1,5 +1,5 @@
--- `normal::count_tree` and `normal::count_trees` meet their contracts: a tree has as many branches as its node says of its children, and
--- ends where they end. Assumes nothing.
+-- `normal::count_tree` and `normal::count_trees` meet their contracts: a leaf has one branch, any other tree as many as its node says of its
+-- children, and it ends where they end. Assumes nothing.
 use borrow.Fn.Kinds.{In}
 use borrow.Fn.PlainCycle.{Measures, is, falls, and}
 use Rattle.normal.proofs.count.count_tree.Reads as count-tree
@@ -24,7 +24,7 @@ use Rattle.tree.specs.Standing.{StandingAll}
 use Rattle.tree.proofs.Noding.{code-there}
 use Rattle.tree.proofs.Standings.{standing-noded, standing-some, standing-there, standing-children, children-few, first-standing, rest-standing}
 use Rattle.normal.specs.Counted.{CountsAll, EndsAll}
-use Rattle.normal.proofs.Counting.{alone-low, node-way, none-way, more-way, node-ends, none-ends, more-ends}
+use Rattle.normal.proofs.Counting.{alone-low, leaf-way, node-way, none-way, more-way, leaf-ends, node-ends, none-ends, more-ends}
 
 abbrev μ-count-tree : Measures 1 count-tree-kinds.ps ℕ
 μ-count-tree κs a = 2 * a .1 .1 .0
@@ -76,14 +76,21 @@ count-tree-add-next t c =
     let s = c .before .before .before in
     omega (arith, standing-there _ _ _ _ (s .pre .1 .0), c .node-len .ensures)
 
+count-tree-returns : (t : ℕ) → count-tree-lts.Need-returns (count-tree-uses t) (count-tree-at t) count-tree.Post
+count-tree-returns t c =
+    let after-node-len = c .before in
+    let code = after-node-len .before .natural .ensures in
+    let low = c .if1 .taken in
+    (leaf-way _ _ _ code low, leaf-ends _ _ _ _ code low (after-node-len .node-len .ensures))
+
 count-tree-sub-count-trees : (t : ℕ) → count-tree-lts.Need-sub-count-trees (count-tree-uses t) (count-tree-at t) count-tree.Post
 count-tree-sub-count-trees t c =
-    let s = c .before .before .before in
+    let s = c .before .before .before .before in
     omega (arith, standing-some _ _ _ _ (s .pre .1 .0))
 
 count-tree-children-requires : (t : ℕ) → count-tree-lts.Need-children-requires (count-tree-uses t) (count-tree-at t) count-tree.Post
 count-tree-children-requires t c κs =
-    let s = c .before .before .before in
+    let s = c .before .before .before .before in
     standing-noded _ _ _ _ (s .pre .1 .0)
 
 count-tree-alone-requires : (t : ℕ) → count-tree-lts.Need-alone-requires (count-tree-uses t) (count-tree-at t) count-tree.Post
@@ -91,11 +98,12 @@ count-tree-alone-requires t c κs = search needs
 
 count-tree-count-trees-requires : (t : ℕ) → count-tree-lts.Need-count-trees-requires (count-tree-uses t) (count-tree-at t) count-tree.Post
 count-tree-count-trees-requires t c κs =
-    let after-natural = c .before .before .before in
+    let after-node-len = c .before .before .before in
+    let after-natural = after-node-len .before in
     let s = after-natural .before .before in
     let h = s .pre .1 .0 in
     let some = standing-some _ _ _ _ h in
-    let long = c .before .before .node-len .ensures in
+    let long = after-node-len .node-len .ensures in
     let many = c .before .children .ensures in
     let few = children-few _ _ _ _ h _ _ long many in
     let is = s .pre .0 in
@@ -109,9 +117,9 @@ count-tree-count-trees-requires t c κs =
       ),
     )
 
-count-tree-returns : (t : ℕ) → count-tree-lts.Need-returns (count-tree-uses t) (count-tree-at t) count-tree.Post
-count-tree-returns t c =
-    let after-node-len = c .before .before .before in
+count-tree-returns-2 : (t : ℕ) → count-tree-lts.Need-returns-2 (count-tree-uses t) (count-tree-at t) count-tree.Post
+count-tree-returns-2 t c =
+    let after-node-len = c .before .before .before .before in
     let after-natural = after-node-len .before in
     let long = after-node-len .node-len .ensures in
     let many = c .before .before .children .ensures in (
@@ -181,11 +189,12 @@ pub +count-tree+count-trees-spec : {M : Type 1} → statement M
     (count-tree-natural-requires t)
     (count-tree-node-len-requires t)
     (count-tree-add-next t)
+    (count-tree-returns t)
     (count-tree-sub-count-trees t)
     (count-tree-children-requires t)
     (count-tree-alone-requires t)
     (count-tree-count-trees-requires t)
-    (count-tree-returns t))
+    (count-tree-returns-2 t))
     λ t. count-trees-lts.spec (count-trees-uses t) (count-trees-at t)
     count-trees.Post
     count-trees-Inv-loop
