@@ -12,16 +12,26 @@ pub fn choose(s: &[u8], at: usize, left: usize, many: usize, b: usize, of: usize
     requires { ⌜ ChildrenAt (now s) at left many b of × (left ≤ 2048) ⌝ }
     ensures { λ r. ⌜ Picks (now (s .entry)) at many b of r ⌝ }
 {
-    if many < 2 {
-        return Chosen { at, b, of };
+    let mut p = at;
+    let mut more = many;
+    let mut i = b;
+    let mut rest = of;
+    while more > 1 {
+        let first = count_tree(s, p, left);
+        let n = first.many;
+        if i < n {
+            return Chosen { at: p, b: i, of: n };
+        }
+        p = first.next;
+        i -= n;
+        rest -= n;
+        more -= 1;
     }
-    let first = count_tree(s, at, left);
-    let n = first.many;
-    let next = first.next;
-    if b < n {
-        return Chosen { at, b, of: n };
+    Chosen {
+        at: p,
+        b: i,
+        of: rest,
     }
-    choose(s, next, left, many - 1, b - n, of - n)
 }
 
 // Combination b of operands that have `of`, the first of them at `at`: the first one's branch changes slowest. Where they have one, each
