@@ -38,7 +38,7 @@ use Rattle.normal.specs.declared.Taken.{Taken}
 use Rattle.normal.specs.Count.{countOf}
 use Rattle.normal.specs.Part.{Part, beside, own, partOf, chosenOf}
 use Rattle.normal.specs.Followed.{advance, roomOf, Route, Wrote, Follows}
-use Rattle.normal.specs.Body.{written, takenBy, both, total, branchesIn, branchIn, BodyAt, IsBody, TakesBranch, TakesFrom}
+use Rattle.normal.specs.Body.{written, takenBy, nothing, both, total, branchesIn, branchIn, BodyAt, IsBody, TakesBranch, TakesFrom}
 use Rattle.normal.specs.Body.{StoresBranch, RoomFor, RoomFrom, StoresFrom}
 use Rattle.normal.proofs.Numbered.{count-is}
 use Rattle.normal.proofs.Composing.{branch-first}
@@ -227,8 +227,17 @@ module _ (bs : List ℕ) (p n many : ℕ) (e : Expr) (h : IsBody bs p n many e) 
   unfolding x
   given-part = from-identity .given-is ∙ ap (λ y. givenPart (y .given)) same-branch
 
-pub taken-same : {a b : Taken} → a .nodes ≡ b .nodes → a .bytes ≡ b .bytes → a .limits ≡ b .limits → a .deep ≡ b .deep → a ≡ b
+taken-same : {a b : Taken} → a .nodes ≡ b .nodes → a .bytes ≡ b .bytes → a .limits ≡ b .limits → a .deep ≡ b .deep → a ≡ b
 taken-same p q r s = λ i. record { nodes = p i; bytes = q i; limits = r i; deep = s i }
+
+pub both-assoc : (a b c : Taken) → both (both a b) c ≡ both a (both b c)
+both-assoc a b c = taken-same (omega arith) (omega arith) (omega arith) (omega arith)
+
+pub both-nothing : (a : Taken) → a ≡ both a nothing
+both-nothing a = taken-same (omega arith) (omega arith) (omega arith) (omega arith)
+
+pub nothing-both : (a : Taken) → a ≡ both nothing a
+nothing-both a = taken-same (omega arith) (omega arith) (omega arith) (omega arith)
 
 -- a branch's own fields, its constraints and its tree
 written-long : (n : ℕ) (x : Branch) → length (bytes (written n x)) ≡ 24 + length (flat (map constraintBytes (x .given))) + length (bytes (x .term))
@@ -413,7 +422,7 @@ module _ (bs : List ℕ) (p n many b : ℕ) where
   measure-none sofar le = record {
     few = (omega arith, omega arith);
     is =
-        λ e i. taken-same (omega arith) (omega arith) (omega arith) (omega arith)
+        λ e i. both-nothing sofar
         ∙ ap (λ l. both sofar (total n l)) (sym (no-branches bs p n many b e i le));
   }
 
@@ -424,7 +433,7 @@ module _ (bs : List ℕ) (p n many b : ℕ) where
     is = λ e i.
         let t = total n (drop (b + 1) (branchesIn bs e)) in
         rest .is e i ∙ ap (λ z. both z t) (is ∙ ap (both sofar) (took .is e i))
-        ∙ taken-same {b = both sofar (both (takenBy n (branchIn bs e b)) t)} (omega arith) (omega arith) (omega arith) (omega arith)
+        ∙ both-assoc sofar (takenBy n (branchIn bs e b)) t
         ∙ ap (λ l. both sofar (total n l)) (sym (split-branches bs p n many b e i lt));
   }
 

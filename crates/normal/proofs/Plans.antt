@@ -32,7 +32,7 @@ use Rattle.normal.specs.Counted.{Counts}
 use Rattle.normal.specs.Body.{nothing, total, branchesIn, BodyAt, IsBody, TakesFrom}
 use Rattle.normal.specs.Plan.{Size, frontOf, sized, Small, Grows, PlansFrom}
 use Rattle.normal.proofs.Numbered.{count-is}
-use Rattle.normal.proofs.Bodies.{taken-same}
+use Rattle.normal.proofs.Bodies.{nothing-both}
 use Rattle.normal.proofs.Laying.{two-long}
 
 -- ---- branches together
@@ -197,7 +197,7 @@ module _ (bs tab : List ℕ) (f : Formed bs tab) where
             all-is : all ≡ total n (branchesOf (sheetOf bs) (variable (sheetOf bs) v))
             all-is =
                 took .is (variable (sheetOf bs) v .body) (body-is low)
-                ∙ taken-same {b = total n (branchesIn bs (variable (sheetOf bs) v .body))} (omega arith) (omega arith) (omega arith) (omega arith)
+                ∙ sym (nothing-both (total n (branchesIn bs (variable (sheetOf bs) v .body))))
                 ∙ ap (total n) branches-are
 
             body-size : (nodeCount (normalBody (sheetOf bs) (variable (sheetOf bs) v)) ≡ 1 + all .nodes)

@@ -9,7 +9,7 @@ use lib.ListN.{length, length-append}
 use lib.IntN.{natAbs}
 use lib.Seq.{sets, length-sets}
 use Rattle.alpha.specs.Field.{field}
-use Rattle.alpha.specs.Sheet.{Node, Node.nCase, Expr, Expr.kase, Exprs, Exprs.none, Exprs.more}
+use Rattle.alpha.specs.Sheet.{Node, Node.nCase, Expr, Expr.kase, Expr.restr, Exprs, Exprs.none, Exprs.more}
 use Rattle.alpha.specs.Read.{got, node, dimension}
 use Rattle.alpha.specs.Shape.{fits, allFit}
 use Rattle.alpha.specs.Reach.{topReach, reach, reachAll}
@@ -26,22 +26,13 @@ use Rattle.tree.proofs.Standings.{children-at, children-counted, one-more}
 use Rattle.normal.specs.declared.Taken.{Taken}
 use Rattle.normal.specs.Count.{countOf, sumOf}
 use Rattle.normal.specs.Counted.{Counts, Ends}
-use Rattle.normal.specs.Body.{takenBy, nothing, both, total, branchesIn, allBranchesIn, BodyAt, IsBody, BodiesAt, AreBodies}
+use Rattle.normal.specs.Body.{takenBy, both, total, branchesIn, allBranchesIn, BodyAt, IsBody, BodiesAt, AreBodies}
 use Rattle.normal.specs.Body.{TakesFrom, TakesAll, RoomFrom, RoomAll, StoresFrom, StoresAll}
 use Rattle.normal.proofs.Counting.{sum-none, sum-more}
 use Rattle.normal.proofs.Laying.{sets-after}
-use Rattle.normal.proofs.Bodies.{taken-same, is-body}
+use Rattle.normal.proofs.Bodies.{both-assoc, both-nothing, nothing-both, is-body}
 
 -- ---- sums over branches one after another
-
-both-assoc : (a b c : Taken) → both (both a b) c ≡ both a (both b c)
-both-assoc a b c = taken-same (omega arith) (omega arith) (omega arith) (omega arith)
-
-both-nothing : (a : Taken) → a ≡ both a nothing
-both-nothing a = taken-same (omega arith) (omega arith) (omega arith) (omega arith)
-
-nothing-both : (a : Taken) → a ≡ both nothing a
-nothing-both a = taken-same (omega arith) (omega arith) (omega arith) (omega arith)
 
 total-append : (n : ℕ) (xs ys : List Branch) → total n (xs ++ ys) ≡ both (total n xs) (total n ys)
 total-append n [] ys = nothing-both (total n ys)
@@ -51,7 +42,7 @@ bytes-append : (n : ℕ) (xs ys : List Branch) → allBytes (asExprs n (xs ++ ys
 unfolding bytes
 bytes-append n [] ys = refl
 bytes-append n (x ∷ xs) ys =
-    let first = bytes (Rattle.alpha.specs.Sheet.Expr.restr n (x .given) (x .term)) in
+    let first = bytes (restr n (x .given) (x .term)) in
     ap (λ l. first ++ l) (bytes-append n xs ys) ∙ sym (append-assoc first (allBytes (asExprs n xs)) (allBytes (asExprs n ys)))
 
 -- ---- a case, of k bytes and so many children

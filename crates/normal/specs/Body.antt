@@ -1,5 +1,5 @@
--- What the branches of a body take in the normal form: nodes, bytes, constraints and depth, of one branch and of all of them; and the body
--- that stands at a place. Assumes nothing.
+-- What the branches of a body take in the normal form: nodes, bytes, constraints and depth, of one branch and of all of them; and the body,
+-- or the children of a case, that stand at a place. Assumes nothing.
 use mathlib.Core.Path.{_≡_}
 use Prim.Native.Nat.{ℕ, _+_, _*_, _-_, _^_, _≤_, max}
 use mathlib.Core.Bool.{true}
@@ -68,10 +68,11 @@ pub record IsBody (bs : List ℕ) (p n many : ℕ) (e : Expr) : Type 0 where
 
 -- ---- what they take
 
--- room in a sum for so many branches more, and no more than they take was added
+-- so many branches can be added to z, each of at most 2^24 bytes and nodes
 abbrev pub Spare : ℕ → Taken → Type 0
 Spare many z = (z .bytes + many * 2 ^ 24 ≤ 2 ^ 31) × (z .nodes + many * 2 ^ 24 ≤ 2 ^ 31)
 
+-- and r has no more than z with them
 abbrev pub Within : ℕ → Taken → Taken → Type 0
 Within many z r = (r .bytes ≤ z .bytes + many * 2 ^ 24) × (r .nodes ≤ z .nodes + many * 2 ^ 24)
 
@@ -135,6 +136,7 @@ pub record TakesAll (bs : List ℕ) (p n many of : ℕ) (sofar r : Taken) : Type
   pub few : Within of sofar r
   pub is : (es : Exprs) → AreBodies bs p n many of es → r ≡ both sofar (total n (allBranchesIn bs es))
 
+-- there is room for them
 abbrev pub RoomAll : List ℕ → ℕ → ℕ → ℕ → ℕ → ℕ → ℕ → Type 0
 RoomAll bs p n many of to room = (es : Exprs) → AreBodies bs p n many of es → to + length (allBytes (asExprs n (allBranchesIn bs es))) ≤ room
 
