@@ -66,16 +66,17 @@ pub fn stand(
     ensures { λ r. ⌜ StandsAt (now (s .entry)) at z r ⌝ }
 {
     let code = natural(s, at);
-    if code == 3 {
-        return handed(child(s, tab, inside, operand(s, at), left - 1, z));
-    }
-    let next = at + node_len(s, at);
     if code < 7 {
+        if code == 3 {
+            return handed(child(s, tab, inside, operand(s, at), left - 1, z));
+        }
+        let first = at + node_len(s, at);
         let branches = code == 6;
         let count = children(s, at);
         let own = own_stands(s, tab, inside, at, z);
-        return stand_all(s, tab, inside, next, left - 1, z, count, branches, own);
+        return stand_all(s, tab, inside, first, left - 1, z, count, branches, own);
     }
+    let next = at + node_len(s, at);
     if code == 8 {
         let y = affine::image_at(s, at + 8, z);
         return handed(child(s, tab, inside, next, left - 1, y));

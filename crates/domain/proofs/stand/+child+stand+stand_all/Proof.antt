@@ -163,17 +163,18 @@ stand-natural-requires t c κs = code-there _ _ _ (noded t (c .before))
 
 stand-operand-requires : (t : ℕ) → stand-lts.Need-operand-requires (stand-uses t) (stand-at t) stand.Post
 stand-operand-requires t c κs =
-    let s = c .before .before .before in
-    (walk-most _ _ _ _ (s .pre .1 .2) (s .pre .1 .3), sym (c .before .natural .ensures) ∙ c .if1 .taken)
+    let after-natural = c .before .before in
+    let s = after-natural .before .before in
+    (walk-most _ _ _ _ (s .pre .1 .2) (s .pre .1 .3), sym (after-natural .natural .ensures) ∙ c .if2 .taken)
 
 stand-sub-child : (t : ℕ) → stand-lts.Need-sub-child (stand-uses t) (stand-at t) stand.Post
 stand-sub-child t c =
-    let s = c .before .before .before .before in
+    let s = c .before .before .before .before .before in
     omega (arith, some t s)
 
 stand-child-requires : (t : ℕ) → stand-lts.Need-child-requires (stand-uses t) (stand-at t) stand.Post
 stand-child-requires t c κs =
-    let s = c .before .before .before .before in
+    let s = c .before .before .before .before .before in
     let left = some t s in
     let is = s .pre .0 in
     (omega arith, (s .pre .1 .0, s .pre .1 .1, c .operand .ensures .walk _ _ (s .pre .1 .2), omega (arith, s .pre .1 .3)))
@@ -184,18 +185,18 @@ stand-handed-requires t c κs = search needs
 stand-returns : (t : ℕ) → stand-lts.Need-returns (stand-uses t) (stand-at t) stand.Post
 stand-returns t c =
     let after-operand = c .before .before in
-    let s = after-operand .before .before .before .before in
+    let s = after-operand .before .before .before .before .before in
     let way = after-operand .operand .ensures .way (s .args .z) _ (c .before .child .ensures) in
     by-parts (s .args .s .now) (s .args .at) (s .args .z) _ _ (c .handed .ensures) way
 
 stand-node-len-requires : (t : ℕ) → stand-lts.Need-node-len-requires (stand-uses t) (stand-at t) stand.Post
 stand-node-len-requires t c κs =
-    let s = c .before .before .before in
+    let s = c .before .before .before .before in
     noded t s
 
-stand-add-next : (t : ℕ) → stand-lts.Need-add-next (stand-uses t) (stand-at t) stand.Post
-stand-add-next t c =
-    let s = c .before .before .before .before in
+stand-add-first : (t : ℕ) → stand-lts.Need-add-first (stand-uses t) (stand-at t) stand.Post
+stand-add-first t c =
+    let s = c .before .before .before .before .before in
     omega (arith, standing-there _ _ _ _ (walk-standing _ _ _ _ (s .pre .1 .2)), c .node-len .ensures)
 
 stand-children-requires : (t : ℕ) → stand-lts.Need-children-requires (stand-uses t) (stand-at t) stand.Post
@@ -205,11 +206,11 @@ stand-children-requires t c κs =
 
 stand-own-stands-requires : (t : ℕ) → stand-lts.Need-own-stands-requires (stand-uses t) (stand-at t) stand.Post
 stand-own-stands-requires t c κs =
-    let then2 = c .before in
-    let after-natural = then2 .before .before .before in
+    let then1 = c .before .before .before in
+    let after-natural = then1 .before in
     let s = after-natural .before .before in
     let code = after-natural .natural .ensures in
-    (s .pre .1 .0, s .pre .1 .1, noded t s, omega (arith, then2 .if2 .taken))
+    (s .pre .1 .0, s .pre .1 .1, noded t s, omega (arith, then1 .if1 .taken))
 
 stand-sub-stand-all : (t : ℕ) → stand-lts.Need-sub-stand-all (stand-uses t) (stand-at t) stand.Post
 stand-sub-stand-all t c =
@@ -218,15 +219,15 @@ stand-sub-stand-all t c =
 
 stand-stand-all-requires : (t : ℕ) → stand-lts.Need-stand-all-requires (stand-uses t) (stand-at t) stand.Post
 stand-stand-all-requires t c κs =
-    let then2 = c .before .before in
-    let after-node-len = then2 .before in
-    let after-natural = after-node-len .before .before in
+    let after-node-len = c .before .before in
+    let then1 = after-node-len .before .before in
+    let after-natural = then1 .before in
     let s = after-natural .before .before in
     let w = s .pre .1 .2 in
     let long = after-node-len .node-len .ensures in
     let many = c .before .children .ensures in
     let code = after-natural .natural .ensures in
-    let high = then2 .if2 .taken in
+    let high = then1 .if1 .taken in
     let left = some t s in
     let is = s .pre .0 in
     (omega arith, (s .pre .1 .0, s .pre .1 .1, walk-children _ _ _ _ w _ _ long many (λ e. omega arith), omega (arith, s .pre .1 .3)))
@@ -234,42 +235,52 @@ stand-stand-all-requires t c κs =
 stand-returns-2 : (t : ℕ) → stand-lts.Need-returns-2 (stand-uses t) (stand-at t) stand.Post
 stand-returns-2 t c =
     let own = c .before in
-    let then2 = own .before .before in
-    let after-node-len = then2 .before in
-    let after-natural = after-node-len .before .before in
+    let after-node-len = own .before .before in
+    let then1 = after-node-len .before .before in
+    let after-natural = then1 .before in
     let s = after-natural .before .before in
     let long = after-node-len .node-len .ensures in
     let many = own .before .children .ensures in
     let code = after-natural .natural .ensures in
-    children-way _ _ _ (s .args .z) long _ _ many code (then2 .if2 .taken) _ _ (own .own-stands .ensures) (c .stand-all .ensures)
+    children-way _ _ _ (s .args .z) long _ _ many code (then1 .if1 .taken) _ _ (own .own-stands .ensures) (c .stand-all .ensures)
+
+stand-node-len-requires-2 : (t : ℕ) → stand-lts.Need-node-len-requires-2 (stand-uses t) (stand-at t) stand.Post
+stand-node-len-requires-2 t c κs =
+    let s = c .before .before .before in
+    noded t s
+
+stand-add-next : (t : ℕ) → stand-lts.Need-add-next (stand-uses t) (stand-at t) stand.Post
+stand-add-next t c =
+    let s = c .before .before .before .before in
+    omega (arith, standing-there _ _ _ _ (walk-standing _ _ _ _ (s .pre .1 .2)), c .node-len2 .ensures)
 
 stand-add-image-at : (t : ℕ) → stand-lts.Need-add-image-at (stand-uses t) (stand-at t) stand.Post
 stand-add-image-at t c =
-    let s = c .before .before .before .before .before .before in
+    let s = c .before .before .before .before .before in
     omega (arith, code-there _ _ _ (noded t s))
 
 stand-image-at-requires : (t : ℕ) → stand-lts.Need-image-at-requires (stand-uses t) (stand-at t) stand.Post
 stand-image-at-requires t c κs =
-    let after-natural = c .before .before .before .before in
+    let after-natural = c .before .before .before in
     let s = after-natural .before .before in
     let code = sym (after-natural .natural .ensures) ∙ c .if3 .taken in
     (map-stands _ _ _ _ (s .pre .1 .2) code, image-fits _ _ _ _ (s .pre .1 .2) code)
 
 stand-sub-child-2 : (t : ℕ) → stand-lts.Need-sub-child-2 (stand-uses t) (stand-at t) stand.Post
 stand-sub-child-2 t c =
-    let s = c .before .before .before .before .before .before .before in
+    let s = c .before .before .before .before .before .before in
     omega (arith, some t s)
 
 stand-child-requires-2 : (t : ℕ) → stand-lts.Need-child-requires-2 (stand-uses t) (stand-at t) stand.Post
 stand-child-requires-2 t c κs =
-    let after-node-len = c .before .before .before in
+    let after-node-len = c .before .before in
     let after-natural = after-node-len .before .before in
     let s = after-natural .before .before in
     let code = sym (after-natural .natural .ensures) ∙ c .before .if3 .taken in
     let left = some t s in
     let is = s .pre .0 in
     let y = c .image-at .ensures in
-    let long = after-node-len .node-len .ensures in
+    let long = after-node-len .node-len2 .ensures in
     let walk = walk-image _ _ _ _ (s .pre .1 .2) code _ (y .read) _ (y .is) (y .rest) in
     (omega arith, (s .pre .1 .0, s .pre .1 .1, rw long walk, omega (arith, s .pre .1 .3)))
 
@@ -279,44 +290,44 @@ stand-handed-requires-2 t c κs = search needs
 stand-returns-3 : (t : ℕ) → stand-lts.Need-returns-3 (stand-uses t) (stand-at t) stand.Post
 stand-returns-3 t c =
     let after-image = c .before .before in
-    let after-node-len = after-image .before .before .before in
+    let after-node-len = after-image .before .before in
     let after-natural = after-node-len .before .before in
     let s = after-natural .before .before in
     let code = sym (after-natural .natural .ensures) ∙ after-image .before .if3 .taken in
-    let long = after-node-len .node-len .ensures in
+    let long = after-node-len .node-len2 .ensures in
     let y = after-image .image-at in
     let way = image-way _ _ _ (s .args .z) long _ (y .result) _ code (y .ensures .read) (y .ensures .is) (c .before .child2 .ensures) in
     by-parts (s .args .s .now) (s .args .at) (s .args .z) _ _ (c .handed2 .ensures) way
 
 -- a restriction's code
 seven : (t : ℕ) (c : stand-lts.Else3 (stand-uses t) (stand-at t) stand.Post) →
-    let s = c .before .before .before .before .before .before in
+    let s = c .before .before .before .before .before in
     natAbs (field (s .args .s .now) (s .args .at)) ≡ 7
 seven t c =
-    let after-natural = c .before .before .before .before in
+    let after-natural = c .before .before .before in
     let s = after-natural .before .before in
     let code = after-natural .natural .ensures in
-    let low = c .before .if2 .left in
+    let low = c .before .before .if1 .left in
     walk-seven _ _ _ _ (s .pre .1 .2) (omega arith) (λ e. c .if3 .left (code ∙ e))
 
 stand-restriction-meets-requires : (t : ℕ) → stand-lts.Need-restriction-meets-requires (stand-uses t) (stand-at t) stand.Post
 stand-restriction-meets-requires t c κs =
-    let s = c .before .before .before .before .before .before in
+    let s = c .before .before .before .before .before in
     let code = seven t c in
     restriction-testable _ _ _ _ (s .pre .1 .2) code (wide-fields _ _ _ (noded t s) (omega arith))
 
 stand-sub-child-3 : (t : ℕ) → stand-lts.Need-sub-child-3 (stand-uses t) (stand-at t) stand.Post
 stand-sub-child-3 t c =
-    let s = c .before .before .before .before .before .before .before .before in
+    let s = c .before .before .before .before .before .before .before in
     omega (arith, some t s)
 
 stand-child-requires-3 : (t : ℕ) → stand-lts.Need-child-requires-3 (stand-uses t) (stand-at t) stand.Post
 stand-child-requires-3 t c κs =
-    let after-node-len = c .before .before .before .before in
+    let after-node-len = c .before .before .before in
     let s = after-node-len .before .before .before .before in
     let left = some t s in
     let is = s .pre .0 in
-    let long = after-node-len .node-len .ensures in
+    let long = after-node-len .node-len2 .ensures in
     let walk = restriction-walk _ _ _ _ (s .pre .1 .2) (seven t (c .before .before)) in
     (omega arith, (s .pre .1 .0, s .pre .1 .1, rw long walk, omega (arith, s .pre .1 .3)))
 
@@ -325,16 +336,16 @@ stand-handed-requires-3 t c κs = search needs
 
 stand-skip-requires : (t : ℕ) → stand-lts.Need-skip-requires (stand-uses t) (stand-at t) stand.Post
 stand-skip-requires t c κs =
-    let s = c .before .before .before .before .before .before .before .before in
+    let s = c .before .before .before .before .before .before .before in
     (walk-standing _ _ _ _ (s .pre .1 .2), s .pre .1 .3)
 
 stand-returns-4 : (t : ℕ) → stand-lts.Need-returns-4 (stand-uses t) (stand-at t) stand.Post
 stand-returns-4 t c =
     let then4 = c .before .before in
     let else3 = then4 .before .before in
-    let after-node-len = else3 .before .before in
+    let after-node-len = else3 .before in
     let s = after-node-len .before .before .before .before in
-    let long = after-node-len .node-len .ensures in
+    let long = after-node-len .node-len2 .ensures in
     let met = then4 .before .restriction-meets .ensures in
     let way = restriction-way _ _ _ (s .args .z) long (seven t else3) _ met _ (then4 .if4 .taken) (c .before .child3 .ensures) in
     by-parts (s .args .s .now) (s .args .at) (s .args .z) _ _ (c .handed3 .ensures) way
@@ -342,9 +353,9 @@ stand-returns-4 t c =
 stand-returns-5 : (t : ℕ) → stand-lts.Need-returns-5 (stand-uses t) (stand-at t) stand.Post
 stand-returns-5 t c =
     let else3 = c .before .before .before in
-    let after-node-len = else3 .before .before in
+    let after-node-len = else3 .before in
     let s = after-node-len .before .before .before .before in
-    let long = after-node-len .node-len .ensures in
+    let long = after-node-len .node-len2 .ensures in
     let met = c .before .before .restriction-meets .ensures in
     restriction-off-way _ _ _ (s .args .z) long (seven t else3) _ met _ (c .before .if4 .left) (c .skip .ensures)
 
@@ -412,12 +423,14 @@ pub +child+stand+stand-all-spec : {M : Type 1} → statement M
     (stand-handed-requires t)
     (stand-returns t)
     (stand-node-len-requires t)
-    (stand-add-next t)
+    (stand-add-first t)
     (stand-children-requires t)
     (stand-own-stands-requires t)
     (stand-sub-stand-all t)
     (stand-stand-all-requires t)
     (stand-returns-2 t)
+    (stand-node-len-requires-2 t)
+    (stand-add-next t)
     (stand-add-image-at t)
     (stand-image-at-requires t)
     (stand-sub-child-2 t)
