@@ -5,27 +5,26 @@ use native.Mathlib.Omega.{arith}
 use mathlib.Core.Bool.{Bool, true, false, _&&_}
 use mathlib.Core.List.{List}
 use lib.ListN.{length}
-use lib.IntN.{pos, natAbs}
+use lib.IntN.{natAbs}
 use lib.Dec.{eqb}
 use borrow.Author.Tests.{eqb-true}
 use Rattle.alpha.specs.declared.Int.{Int}
 use Rattle.alpha.specs.Field.{field}
-use Rattle.alpha.specs.Sheet.{Node, Expr, Exprs, Sheet, Point, Head}
+use Rattle.alpha.specs.Sheet.{Node, Expr, Sheet, Point, Head}
 use Rattle.alpha.specs.Sheet.{Node.nVar, Node.nInt, Node.nBool}
-use Rattle.alpha.specs.Sheet.{Expr.var, Expr.int, Expr.boo, Expr.un, Expr.bin, Expr.ite, Expr.kase, Expr.restr, Expr.dep, Exprs.none, Exprs.more}
+use Rattle.alpha.specs.Sheet.{Expr.var, Expr.int, Expr.boo, Expr.un, Expr.bin, Expr.ite, Expr.kase, Expr.restr, Expr.dep}
 use Rattle.alpha.specs.Affine.{meetsAll, image}
 use Rattle.alpha.specs.Read.{got, node, dimension}
 use Rattle.alpha.specs.Shape.{fits, allFit}
 use Rattle.alpha.specs.Holds.{holds, clashes}
-use Rattle.alpha.specs.Written.{branchCount}
-use Rattle.laws.specs.At.{codeNumber, lengthOf, nodeLen, At, AllAt}
+use Rattle.laws.specs.At.{codeNumber, lengthOf, nodeLen, At}
 use Rattle.laws.specs.Children.{childrenOf, arity}
 use Rattle.tree.proofs.Noding.{arity-one-is}
 use Rattle.laws.specs.Sheets.{headsOf, varsOf, sheetOf}
 use Rattle.laws.proofs.Tests.{&&-left, &&-right}
 use Rattle.laws.proofs.Readers.{counted-is}
 use Rattle.laws.proofs.Nodes.{node-next}
-use Rattle.laws.proofs.Shapes.{VarAt, DepAt, RestrAt, at-var, at-dep, at-restr, allAt-none, MoreAt}
+use Rattle.laws.proofs.Shapes.{DepAt, RestrAt, at-var, at-dep, at-restr, allAt-none, MoreAt}
 use Rattle.affine.specs.declared.Map.{Map}
 use Rattle.affine.specs.Value.{pointOf, mapOf}
 use Rattle.affine.specs.Reading.{MapRead}
@@ -33,9 +32,9 @@ use Rattle.affine.proofs.Meaning.{height-length, width-cols}
 use Rattle.tree.specs.Standing.{Standing as Stands}
 use Rattle.tree.proofs.Standings.{children-at, children-counted, one-more, standing-children, first-standing}
 use Rattle.domain.specs.declared.Standing.{Standing}
-use Rattle.domain.specs.declared.Standing.the-variants.{Not, Holds, Clash}
+use Rattle.domain.specs.declared.Standing.the-variants.{Not, Holds}
 use Rattle.domain.specs.declared.Stood.{Stood}
-use Rattle.domain.specs.Standing.{rated, standing, joined, alone, together, StandsAt, StandTogether, Starts, Passed}
+use Rattle.domain.specs.Standing.{standing, joined, alone, together, StandsAt, StandTogether, Starts, Passed}
 use Rattle.domain.specs.Walk.{Walk}
 use Rattle.domain.specs.Constraints.{restrictionMet}
 use Rattle.domain.proofs.Standings.{joined-alone, joined-assoc, alone-joined, operands-stand, branches-stand, restriction-stands}

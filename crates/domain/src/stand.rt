@@ -10,7 +10,7 @@ use tree::node::children;
 use tree::node::natural;
 use tree::node::node_len;
 ghost use mathlib.Core.Path.{_≡_};
-ghost use Prim.Native.Nat.{ℕ, _≤_, _<_};
+ghost use Prim.Native.Nat.{_≤_, _<_};
 ghost use lib.IntN.{natAbs};
 ghost use Rattle.alpha.specs.Field.{field};
 ghost use Rattle.laws.specs.Sheets.{varsOf, sheetOf};
