@@ -423,8 +423,8 @@ pub fn map_read(b: &[u8], p: usize) -> Map
     rows_read(b, p + 16, k, n)
 }
 
-// The image of the point z by the map of the dependence whose fields stand at p, a case for each number of rows that is common: there
-// the rows past it are known to be zeros before any is read.
+// The image of the point z by the map of the dependence whose fields stand at p, a case for each shape that is common: there the rows and
+// columns past it are known to be zeros before any is read.
 pub fn image_at(b: &[u8], p: usize, z: [Int; 4]) -> [Int; 4]
     requires { ⌜ MapThere (now b) p × ((m : Map) → MapRead (now b) p m → Fit m z) ⌝ }
     ensures { λ y. ⌜ ImageAt (now (b .entry)) p z y ⌝ }
@@ -435,6 +435,12 @@ pub fn image_at(b: &[u8], p: usize, z: [Int; 4]) -> [Int; 4]
         return apply(rows_read(b, p + 16, 0, n), z);
     }
     if k < 2 {
+        if n == 1 {
+            return apply(rows_read(b, p + 16, 1, 1), z);
+        }
+        if n == 2 {
+            return apply(rows_read(b, p + 16, 1, 2), z);
+        }
         return apply(rows_read(b, p + 16, 1, n), z);
     }
     if k < 3 {

@@ -5,40 +5,41 @@ use native.Mathlib.Omega.{arith}
 use mathlib.Core.Bool.{Bool, true, false, _&&_}
 use mathlib.Core.List.{List}
 use lib.ListN.{length}
-use lib.IntN.{pos, natAbs}
+use lib.IntN.{natAbs}
 use lib.Dec.{eqb}
 use borrow.Author.Tests.{eqb-true}
 use Rattle.alpha.specs.declared.Int.{Int}
 use Rattle.alpha.specs.Field.{field}
-use Rattle.alpha.specs.Sheet.{Node, Expr, Exprs, Sheet, Point, Head}
+use Rattle.alpha.specs.Sheet.{Node, Expr, Sheet, Point, Head}
 use Rattle.alpha.specs.Sheet.{Node.nVar, Node.nInt, Node.nBool}
-use Rattle.alpha.specs.Sheet.{Expr.var, Expr.int, Expr.boo, Expr.un, Expr.bin, Expr.ite, Expr.kase, Expr.restr, Expr.dep, Exprs.none, Exprs.more}
+use Rattle.alpha.specs.Sheet.{Expr.var, Expr.int, Expr.boo, Expr.un, Expr.bin, Expr.ite, Expr.kase, Expr.restr, Expr.dep}
 use Rattle.alpha.specs.Affine.{meetsAll, image}
 use Rattle.alpha.specs.Read.{got, node, dimension}
 use Rattle.alpha.specs.Shape.{fits, allFit}
 use Rattle.alpha.specs.Holds.{holds, clashes}
-use Rattle.alpha.specs.Written.{branchCount}
-use Rattle.laws.specs.At.{codeNumber, lengthOf, nodeLen, At, AllAt}
+use Rattle.laws.specs.At.{codeNumber, lengthOf, nodeLen, At}
 use Rattle.laws.specs.Children.{childrenOf, arity}
 use Rattle.tree.proofs.Noding.{arity-one-is}
 use Rattle.laws.specs.Sheets.{headsOf, varsOf, sheetOf}
 use Rattle.laws.proofs.Tests.{&&-left, &&-right}
 use Rattle.laws.proofs.Readers.{counted-is}
 use Rattle.laws.proofs.Nodes.{node-next}
-use Rattle.laws.proofs.Shapes.{VarAt, DepAt, RestrAt, at-var, at-dep, at-restr, allAt-none, MoreAt}
+use Rattle.laws.proofs.Shapes.{DepAt, RestrAt, at-var, at-dep, at-restr, allAt-none, MoreAt}
 use Rattle.affine.specs.declared.Map.{Map}
 use Rattle.affine.specs.Value.{pointOf, mapOf}
 use Rattle.affine.specs.Reading.{MapRead}
 use Rattle.affine.proofs.Meaning.{height-length, width-cols}
-use Rattle.tree.proofs.Standings.{children-at, children-counted, one-more}
+use Rattle.tree.specs.Standing.{Standing as Stands}
+use Rattle.tree.proofs.Standings.{children-at, children-counted, one-more, standing-children, first-standing}
 use Rattle.domain.specs.declared.Standing.{Standing}
-use Rattle.domain.specs.declared.Standing.the-variants.{Not, Holds, Clash}
+use Rattle.domain.specs.declared.Standing.the-variants.{Not, Holds}
 use Rattle.domain.specs.declared.Stood.{Stood}
-use Rattle.domain.specs.Standing.{rated, standing, joined, alone, together, StandsAt, StandTogether}
+use Rattle.domain.specs.Standing.{standing, joined, alone, together, StandsAt, StandTogether, Starts, Passed}
+use Rattle.domain.specs.Walk.{Walk}
 use Rattle.domain.specs.Constraints.{restrictionMet}
 use Rattle.domain.proofs.Standings.{joined-alone, joined-assoc, alone-joined, operands-stand, branches-stand, restriction-stands}
 use Rattle.domain.proofs.Standings.{restriction-not, dependence-stands}
-use Rattle.domain.proofs.Walks.{tree-code, code-field, children-fit}
+use Rattle.domain.proofs.Walks.{tree-code, code-field, children-fit, walk-children, walk-first}
 use Rattle.domain.proofs.Restrictions.{restriction-says}
 
 -- ---- leaves
@@ -82,6 +83,40 @@ children-stand s z (kase es) l h = sym (branches-stand s z es)
 children-stand s z (restr d cs a) l h = absurd (omega arith)
 children-stand s z (dep f a) l h = absurd (omega arith)
 
+tip-alone : (s : Sheet) (z : Point) (own : Standing) (e : Expr) → codeNumber e ≤ 2 →
+    joined (eqb (codeNumber e) 6) own (together (eqb (codeNumber e) 6) (childrenOf e) s z) ≡ own
+unfolding together
+tip-alone s z own (var v) l = joined-alone false own
+tip-alone s z own (int c) l = joined-alone false own
+tip-alone s z own (boo b) l = joined-alone false own
+tip-alone s z own (un o a) l = absurd (omega arith)
+tip-alone s z own (bin o a b) l = absurd (omega arith)
+tip-alone s z own (ite a b c) l = absurd (omega arith)
+tip-alone s z own (kase es) l = absurd (omega arith)
+tip-alone s z own (restr d cs a) l = absurd (omega arith)
+tip-alone s z own (dep f a) l = absurd (omega arith)
+
+module _ (bs : List ℕ) (p : ℕ) (z : List Int) (own : Standing) where
+  -- by the tree's code
+  by-code : ((e : Expr) (q n : ℕ) → At e (varsOf bs) bs p q → fits e (headsOf bs) n ≡ true → natAbs (field bs p) ≡ codeNumber e →
+      joined (eqb (codeNumber e) 6) own (together (eqb (codeNumber e) 6) (childrenOf e) (sheetOf bs) (pointOf n z)) ≡ standing e (sheetOf bs) (pointOf n z)) →
+      Starts bs p z own
+  by-code t e q n h f =
+      let c = tree-code bs p e q h in
+      ap (λ i. joined (eqb i 6) own (together (eqb i 6) (childrenOf e) (sheetOf bs) (pointOf n z))) c ∙ t e q n h f c
+
+  -- a variable or a constant says how it stands
+  pub tip-starts : natAbs (field bs p) < 3 → StandsAt bs p z (record { how = own; next = p + 16 }) → Starts bs p z own
+  tip-starts low t = by-code (λ e q n h f c. tip-alone (sheetOf bs) (pointOf n z) own e (omega arith) ∙ t e q n h f .1)
+
+  -- an operator, an if and a case say what no operands or no branches come to
+  pub node-starts : (code : ℕ) → code ≡ natAbs (field bs p) → 3 ≤ code → code < 7 → own ≡ alone (eqb code 6) → Starts bs p z own
+  node-starts code is low high start = by-code (λ e q n h f c.
+      ap (λ x. joined (eqb (codeNumber e) 6) x (together (eqb (codeNumber e) 6) (childrenOf e) (sheetOf bs) (pointOf n z)))
+      (start ∙ ap (λ i. alone (eqb i 6)) (is ∙ c))
+      ∙ alone-joined (eqb (codeNumber e) 6) (together (eqb (codeNumber e) 6) (childrenOf e) (sheetOf bs) (pointOf n z))
+      ∙ children-stand (sheetOf bs) (pointOf n z) e (omega arith) (omega arith))
+
 -- a variable or a constant has 16 bytes
 pub tip-long : (bs : List ℕ) (p : ℕ) → natAbs (field bs p) < 3 → 16 ≡ nodeLen bs p
 unfolding nodeLen
@@ -116,18 +151,14 @@ module _ (bs : List ℕ) (p k : ℕ) (z : List Int) (long : k ≡ nodeLen bs p) 
       let c = tree-code bs p e q at in
       (ends e q at (omega arith), constant-stands (sheetOf bs) (headsOf bs) z e n (omega arith) (omega arith) f)
 
-  -- operands and branches
-  pub children-way : (n code : ℕ) → ((nd : Node) (q : ℕ) → node (varsOf bs) bs p ≡ got nd q → n ≡ arity nd) → code ≡ natAbs (field bs p) → 3 ≤ code → code < 7 →
-      (sofar : Standing) (r : Stood) → sofar ≡ alone (eqb code 6) → StandTogether bs (p + k) n z (eqb code 6) sofar r → StandsAt bs p z r
-  children-way n code many is low high sofar r start t e q d h f =
-      let c = is ∙ tree-code bs p e q h in
+  -- what the node says, and then its children
+  pub children-way : (n code : ℕ) → ((nd : Node) (q : ℕ) → node (varsOf bs) bs p ≡ got nd q → n ≡ arity nd) → code ≡ natAbs (field bs p) → code < 7 →
+      (own : Standing) (r : Stood) → Starts bs p z own → StandTogether bs (p + k) n z (eqb code 6) own r → StandsAt bs p z r
+  children-way n code many is high own r start t e q d h f =
       let a = t (childrenOf e) q d (children-at (varsOf bs) bs p k n long many e q h) (children-counted (varsOf bs) bs p k n long many e q h)
       (children-fit bs p e q d h (λ x. absurd (omega arith)) f) in (
         a .0,
-        a .1 ∙ ap (λ x. joined (eqb code 6) x (together (eqb code 6) (childrenOf e) (sheetOf bs) (pointOf d z))) start
-            ∙ alone-joined (eqb code 6) (together (eqb code 6) (childrenOf e) (sheetOf bs) (pointOf d z))
-            ∙ ap (λ i. together (eqb i 6) (childrenOf e) (sheetOf bs) (pointOf d z)) c
-            ∙ children-stand (sheetOf bs) (pointOf d z) e (omega arith) (omega arith),
+        a .1 ∙ ap (λ c. joined (eqb c 6) own (together (eqb c 6) (childrenOf e) (sheetOf bs) (pointOf d z))) is ∙ start e q d h f,
       )
 
   -- a dependence, whose map is m and whose image is y
@@ -214,17 +245,59 @@ module _ (bs : List ℕ) (p count : ℕ) (z : List Int) (branches : Bool) (sofar
       parts : (x : MoreAt es (varsOf bs) bs p q (count - 1)) → fits (x .first) (headsOf bs) n && allFit (x .rest) (headsOf bs) n ≡ true
       parts x = unfold fits in rw (x .is) at f
 
--- ---- a unary operator
+-- ---- unary operators
 
--- has one child
-pub unary-one : (bs : List ℕ) (p : ℕ) → natAbs (field bs p) ≡ 3 → (nd : Node) (q : ℕ) → node (varsOf bs) bs p ≡ got nd q → 1 ≡ arity nd
-unary-one bs p code nd q read =
-    arity-one-is (varsOf bs) bs p nd q read (omega arith) (λ e. absurd (omega arith)) (λ e. absurd (omega arith)) (λ e. absurd (omega arith))
+module _ (bs : List ℕ) (p : ℕ) (code : natAbs (field bs p) ≡ 3) where
+  -- one has 16 bytes
+  pub unary-long : 16 ≡ nodeLen bs p
+  unfolding nodeLen
+  unary-long = rw code refl
 
--- and stands as it does
-pub unary-way : (bs : List ℕ) (p k : ℕ) (z : List Int) → k ≡ nodeLen bs p → natAbs (field bs p) ≡ 3 →
-    (r : Stood) → StandsAt bs (p + k) z r → StandsAt bs p z r
-unary-way bs p k z long code r t =
-    let none = none-way bs (r .next) 0 z false (joined false Holds (r .how)) (omega arith) in
-    let one = more-way bs (p + k) 1 z false Holds (omega arith) r r t none in
-    children-way bs p k z long 1 3 (unary-one bs p code) (sym code) (omega arith) (omega arith) Holds r refl one
+  -- and one child
+  unary-one : (nd : Node) (q : ℕ) → node (varsOf bs) bs p ≡ got nd q → 1 ≡ arity nd
+  unary-one nd q read =
+      arity-one-is (varsOf bs) bs p nd q read (omega arith) (λ e. absurd (omega arith)) (λ e. absurd (omega arith)) (λ e. absurd (omega arith))
+
+  -- and stands as it does
+  unary-way : (z : List Int) (r : Stood) → StandsAt bs (p + 16) z r → StandsAt bs p z r
+  unary-way z r t =
+      let none = none-way bs (r .next) 0 z false (joined false Holds (r .how)) (omega arith) in
+      let one = more-way bs (p + 16) 1 z false Holds (omega arith) r r t none in
+      let start = node-starts bs p z Holds 3 (sym code) (omega arith) (omega arith) refl in
+      children-way bs p 16 z unary-long 1 3 unary-one (sym code) (omega arith) Holds r start one
+
+  pub operand-passed : Passed bs p (p + 16)
+  operand-passed = record {
+    walk = λ left z w. walk-first bs (p + 16) (left - 1) 1 z (omega arith)
+        (walk-children bs p left z w 16 1 unary-long unary-one (λ e. absurd (omega arith)));
+    way = unary-way;
+  }
+
+  pub operand-stands : (left : ℕ) → Stands (varsOf bs) bs p left → Stands (varsOf bs) bs (p + 16) left
+  operand-stands left h =
+      let a = first-standing (varsOf bs) bs (p + 16) (left - 1) 1 (omega arith) (standing-children (varsOf bs) bs p left h 16 1 unary-long unary-one) in
+      record { tree = a .tree; end = a .end; at = a .at; few = omega (arith, a .few) }
+
+-- one more below
+pub passed-on : (bs : List ℕ) (p r : ℕ) → Passed bs p r → natAbs (field bs r) ≡ 3 → Passed bs p (r + 16)
+passed-on bs p r h code = record {
+  walk = λ left z w. fewer left z (operand-passed bs r code .walk (left - 1) z (h .walk left z w));
+  way = λ z t k. h .way z t (operand-passed bs r code .way z t k);
+}
+  where
+    fewer : (left : ℕ) (z : List Int) → Walk bs (r + 16) (left - 1 - 1) z → Walk bs (r + 16) (left - 1) z
+    fewer left z w = record {
+      tree = w .tree;
+      end = w .end;
+      dims = w .dims;
+      bound = w .bound;
+      at = w .at;
+      few = omega (arith, w .few);
+      fitting = w .fitting;
+      reaches = w .reaches;
+      point = w .point;
+    }
+
+-- a tree that is walked, as one of at most 2,048 nodes
+pub walk-most : (bs : List ℕ) (p left : ℕ) (z : List Int) → Walk bs p left z → left ≤ 2048 → Stands (varsOf bs) bs p 2048
+walk-most bs p left z w most = record { tree = w .tree; end = w .end; at = w .at; few = omega (arith, w .few) }

@@ -3,7 +3,10 @@
 use mathlib.Core.Bool.{Bool, true, false}
 use mathlib.Core.List.{List}
 use mathlib.Core.Path.{_≡_}
-use Prim.Native.Nat.{ℕ}
+use Prim.Native.Nat.{ℕ, _-_}
+use lib.Dec.{eqb}
+use lib.IntN.{natAbs}
+use Rattle.alpha.specs.Field.{field}
 use Rattle.alpha.specs.Pick.{ifb}
 use Rattle.alpha.specs.declared.Int.{Int}
 use Rattle.alpha.specs.Sheet.{Expr, Exprs, Exprs.none, Exprs.more, Sheet, Point}
@@ -11,11 +14,13 @@ use Rattle.alpha.specs.Shape.{fits, allFit}
 use Rattle.alpha.specs.Holds.{holds, clashes}
 use Rattle.alpha.specs.Written.{branchCount}
 use Rattle.laws.specs.At.{At, AllAt}
+use Rattle.laws.specs.Children.{childrenOf}
 use Rattle.laws.specs.Sheets.{headsOf, varsOf, sheetOf}
 use Rattle.affine.specs.Value.{pointOf}
 use Rattle.domain.specs.declared.Standing.{Standing}
 use Rattle.domain.specs.declared.Standing.the-variants.{Not, Holds, Clash}
 use Rattle.domain.specs.declared.Stood.{Stood}
+use Rattle.domain.specs.Walk.{Walk}
 
 -- whether it holds, and whether a case clashes
 abbrev pub rated : Bool → Bool → Standing
@@ -70,3 +75,15 @@ abbrev pub StandTogether : List ℕ → ℕ → ℕ → List Int → Bool → St
 StandTogether bs p count z branches sofar r =
     (es : Exprs) (q n : ℕ) → AllAt es (varsOf bs) bs p q → branchCount es ≡ count → allFit es (headsOf bs) n ≡ Bool.true →
     (r .next ≡ q) × (r .how ≡ joined branches sofar (together branches es (sheetOf bs) (pointOf n z)))
+
+-- the node at p, of code up to 6, says `own` at z: joined with its children together it is how the tree stands
+abbrev pub Starts : List ℕ → ℕ → List Int → Standing → Type 0
+Starts bs p z own =
+    (e : Expr) (q n : ℕ) → At e (varsOf bs) bs p q → fits e (headsOf bs) n ≡ Bool.true →
+    joined (eqb (natAbs (field bs p)) 6) own (together (eqb (natAbs (field bs p)) 6) (childrenOf e) (sheetOf bs) (pointOf n z))
+    ≡ standing e (sheetOf bs) (pointOf n z)
+
+-- the tree at r is below the one at p: it may be walked where that may, and stands as that does at every point
+pub record Passed (bs : List ℕ) (p r : ℕ) : Type 0 where
+  pub walk : (left : ℕ) (z : List Int) → Walk bs p left z → Walk bs r (left - 1) z
+  pub way : (z : List Int) (t : Stood) → StandsAt bs r z t → StandsAt bs p z t

@@ -1,4 +1,4 @@
-// How a tree stands at a point: each node alike, and then its children one after another. Assumes nothing.
+// How a tree stands at a point: what its node says, and then its children one after another. Assumes nothing.
 use super::Standing;
 use super::Stood;
 use super::constraint::restriction_meets;
@@ -10,12 +10,15 @@ use tree::node::children;
 use tree::node::natural;
 use tree::node::node_len;
 ghost use mathlib.Core.Path.{_≡_};
-ghost use Prim.Native.Nat.{ℕ, _≤_};
-ghost use Rattle.laws.specs.Sheets.{sheetOf};
+ghost use Prim.Native.Nat.{_≤_, _<_};
+ghost use lib.IntN.{natAbs};
+ghost use Rattle.alpha.specs.Field.{field};
+ghost use Rattle.laws.specs.Sheets.{varsOf, sheetOf};
 ghost use Rattle.tree.specs.Formed.{BodiesPlaced};
+ghost use Rattle.tree.specs.Standing as Trees;
 ghost use Rattle.domain.specs.Inside.{Inside};
 ghost use Rattle.domain.specs.Walk.{Walk, WalkAll};
-ghost use Rattle.domain.specs.Standing.{StandsAt, StandTogether};
+ghost use Rattle.domain.specs.Standing.{StandsAt, StandTogether, Starts, Passed};
 
 // A result handed on by its parts, which the compiler keeps in registers.
 fn handed(r: Stood) -> Stood
@@ -24,6 +27,30 @@ fn handed(r: Stood) -> Stood
     let how = r.how;
     let next = r.next;
     Stood { how, next }
+}
+
+// What the node at `at` says at z before its children: a variable as it stands, a constant and an operator hold, a case does not.
+fn own_stands(s: &[u8], tab: &[usize; 102], inside: &[u8; 4096], at: usize, z: [Int; 4]) -> Standing
+    requires { ⌜ BodiesPlaced (now s) (now tab) × Inside (sheetOf (now s)) (now inside) × Trees.Noded (varsOf (now s)) (now s) at × (natAbs (field (now s) at) < 7) ⌝ }
+    ensures { λ r. ⌜ Starts (now (s .entry)) at z r ⌝ }
+{
+    let code = natural(s, at);
+    if code < 3 {
+        return tip_stands(s, tab, inside, at, z);
+    }
+    alone(code == 6)
+}
+
+// The first tree below the unary operator at `at` that is none itself: operators are passed one by one, which spares a call for each.
+fn operand(s: &[u8], at: usize) -> usize
+    requires { ⌜ Trees.Standing (varsOf (now s)) (now s) at 2048 × (natAbs (field (now s) at) ≡ 3) ⌝ }
+    ensures { λ r. ⌜ Passed (now (s .entry)) at r ⌝ }
+{
+    let mut p = at + 16;
+    while natural(s, p) == 3 {
+        p += 16;
+    }
+    p
 }
 
 // How the tree at `at`, of at most `left` nodes, stands at z. A restriction that does not hold there is passed over.
@@ -39,29 +66,17 @@ pub fn stand(
     ensures { λ r. ⌜ StandsAt (now (s .entry)) at z r ⌝ }
 {
     let code = natural(s, at);
-    if code < 3 {
-        let how = tip_stands(s, tab, inside, at, z);
-        let end = at + 16;
-        return Stood { how, next: end };
+    if code < 7 {
+        if code == 3 {
+            return handed(child(s, tab, inside, operand(s, at), left - 1, z));
+        }
+        let first = at + node_len(s, at);
+        let branches = code == 6;
+        let count = children(s, at);
+        let own = own_stands(s, tab, inside, at, z);
+        return stand_all(s, tab, inside, first, left - 1, z, count, branches, own);
     }
     let next = at + node_len(s, at);
-    if code == 3 {
-        return handed(child(s, tab, inside, next, left - 1, z));
-    }
-    if code < 7 {
-        let branches = code == 6;
-        return stand_all(
-            s,
-            tab,
-            inside,
-            next,
-            left - 1,
-            z,
-            children(s, at),
-            branches,
-            alone(branches),
-        );
-    }
     if code == 8 {
         let y = affine::image_at(s, at + 8, z);
         return handed(child(s, tab, inside, next, left - 1, y));

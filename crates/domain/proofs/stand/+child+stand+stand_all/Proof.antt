@@ -13,10 +13,11 @@ use Rattle.domain.proofs.stand.stand_all.Kinds as stand-all-kinds
 use Rattle.domain.proofs.stand.+child+stand+stand_all.Lts-stand_all as stand-all-lts
 use Rattle.affine.proofs.image_at.Reads as image-at-reads
 use Rattle.domain.proofs.constraint.restriction_meets.Reads as restriction-meets-reads
-use Rattle.domain.proofs.join.alone.Reads as alone-reads
 use Rattle.domain.proofs.join.joined.Reads as joined-reads
 use Rattle.domain.proofs.leaf.tip_stands.Reads as tip-stands-reads
 use Rattle.domain.proofs.stand.handed.Reads as handed-reads
+use Rattle.domain.proofs.stand.operand.Reads as operand-reads
+use Rattle.domain.proofs.stand.own_stands.Reads as own-stands-reads
 use Rattle.tree.proofs.node.children.Reads as children-reads
 use Rattle.tree.proofs.node.natural.Reads as natural-reads
 use Rattle.tree.proofs.node.node_len.Reads as node-len-reads
@@ -40,8 +41,7 @@ use Rattle.domain.specs.Walk.{WalkAll}
 use Rattle.domain.specs.Standing.{StandsAt, StandTogether}
 use Rattle.domain.proofs.Walks.{walk-standing, walk-seven, walk-children, map-stands, image-fits, walk-image, walk-first, walk-rest}
 use Rattle.domain.proofs.Restrictions.{restriction-testable, restriction-walk}
-use Rattle.domain.proofs.Ways.{tip-long, children-way, image-way, restriction-way, restriction-off-way, none-way, more-way}
-use Rattle.domain.proofs.Ways.{unary-one, unary-way}
+use Rattle.domain.proofs.Ways.{tip-long, children-way, image-way, restriction-way, restriction-off-way, none-way, more-way, walk-most}
 
 abbrev μ-child : Measures 3 child-kinds.ps ℕ
 μ-child κs a = 3 * a .1 .1 .1 .1 .0 + 1
@@ -87,18 +87,18 @@ abbrev stand-uses : ℕ → stand-lts.Claims
 stand-uses t = (
   natural-reads.Asked,
   natural-reads.Learnt,
-  tip-stands-reads.Asked,
-  tip-stands-reads.Learnt,
-  node-len-reads.Asked,
-  node-len-reads.Learnt,
+  operand-reads.Asked,
+  operand-reads.Learnt,
   child-below t,
   child.Post,
   handed-reads.Asked,
   handed-reads.Learnt,
+  node-len-reads.Asked,
+  node-len-reads.Learnt,
   children-reads.Asked,
   children-reads.Learnt,
-  alone-reads.Asked,
-  alone-reads.Learnt,
+  own-stands-reads.Asked,
+  own-stands-reads.Learnt,
   stand-all-below t,
   stand-all.Post,
   image-at-reads.Asked,
@@ -161,31 +161,11 @@ some t c = standing-some _ _ _ _ (walk-standing _ _ _ _ (c .pre .1 .2))
 stand-natural-requires : (t : ℕ) → stand-lts.Need-natural-requires (stand-uses t) (stand-at t) stand.Post
 stand-natural-requires t c κs = code-there _ _ _ (noded t (c .before))
 
-stand-tip-stands-requires : (t : ℕ) → stand-lts.Need-tip-stands-requires (stand-uses t) (stand-at t) stand.Post
-stand-tip-stands-requires t c κs =
-    let s = c .before .before .before in
-    let code = c .before .natural .ensures in
-    (s .pre .1 .0, s .pre .1 .1, noded t s, omega (arith, c .if1 .taken))
-
-stand-add-end : (t : ℕ) → stand-lts.Need-add-end (stand-uses t) (stand-at t) stand.Post
-stand-add-end t c =
-    let s = c .before .before .before .before in
-    let code = c .before .before .natural .ensures in
-    let long = tip-long (s .args .s .now) (s .args .at) (omega (arith, c .before .if1 .taken)) in
-    omega (arith, standing-there _ _ _ _ (walk-standing _ _ _ _ (s .pre .1 .2)))
-
-stand-returns : (t : ℕ) → stand-lts.Need-returns (stand-uses t) (stand-at t) stand.Post
-stand-returns t c = c .tip-stands .ensures
-
-stand-node-len-requires : (t : ℕ) → stand-lts.Need-node-len-requires (stand-uses t) (stand-at t) stand.Post
-stand-node-len-requires t c κs =
-    let s = c .before .before .before in
-    noded t s
-
-stand-add-next : (t : ℕ) → stand-lts.Need-add-next (stand-uses t) (stand-at t) stand.Post
-stand-add-next t c =
-    let s = c .before .before .before .before in
-    omega (arith, standing-there _ _ _ _ (walk-standing _ _ _ _ (s .pre .1 .2)), c .node-len .ensures)
+stand-operand-requires : (t : ℕ) → stand-lts.Need-operand-requires (stand-uses t) (stand-at t) stand.Post
+stand-operand-requires t c κs =
+    let after-natural = c .before .before in
+    let s = after-natural .before .before in
+    (walk-most _ _ _ _ (s .pre .1 .2) (s .pre .1 .3), sym (after-natural .natural .ensures) ∙ c .if2 .taken)
 
 stand-sub-child : (t : ℕ) → stand-lts.Need-sub-child (stand-uses t) (stand-at t) stand.Post
 stand-sub-child t c =
@@ -194,145 +174,160 @@ stand-sub-child t c =
 
 stand-child-requires : (t : ℕ) → stand-lts.Need-child-requires (stand-uses t) (stand-at t) stand.Post
 stand-child-requires t c κs =
-    let after-node-len = c .before in
-    let after-natural = after-node-len .before .before in
-    let s = after-natural .before .before in
-    let code = sym (after-natural .natural .ensures) ∙ c .if2 .taken in
-    let one = unary-one (s .args .s .now) (s .args .at) code in
-    let long = after-node-len .node-len .ensures in
-    let all = walk-children _ _ _ _ (s .pre .1 .2) _ 1 long one (λ e. absurd (omega arith)) in
+    let s = c .before .before .before .before .before in
     let left = some t s in
     let is = s .pre .0 in
-    (omega arith, (s .pre .1 .0, s .pre .1 .1, walk-first _ _ _ _ _ (omega arith) all, omega (arith, s .pre .1 .3)))
+    (omega arith, (s .pre .1 .0, s .pre .1 .1, c .operand .ensures .walk _ _ (s .pre .1 .2), omega (arith, s .pre .1 .3)))
 
 stand-handed-requires : (t : ℕ) → stand-lts.Need-handed-requires (stand-uses t) (stand-at t) stand.Post
 stand-handed-requires t c κs = search needs
 
-stand-returns-2 : (t : ℕ) → stand-lts.Need-returns-2 (stand-uses t) (stand-at t) stand.Post
-stand-returns-2 t c =
-    let then2 = c .before .before in
-    let after-node-len = then2 .before in
-    let after-natural = after-node-len .before .before in
-    let s = after-natural .before .before in
-    let code = sym (after-natural .natural .ensures) ∙ then2 .if2 .taken in
-    let long = after-node-len .node-len .ensures in
-    let way = unary-way _ _ _ (s .args .z) long code _ (c .before .child .ensures) in
+stand-returns : (t : ℕ) → stand-lts.Need-returns (stand-uses t) (stand-at t) stand.Post
+stand-returns t c =
+    let after-operand = c .before .before in
+    let s = after-operand .before .before .before .before .before in
+    let way = after-operand .operand .ensures .way (s .args .z) _ (c .before .child .ensures) in
     by-parts (s .args .s .now) (s .args .at) (s .args .z) _ _ (c .handed .ensures) way
 
-stand-sub-stand-all : (t : ℕ) → stand-lts.Need-sub-stand-all (stand-uses t) (stand-at t) stand.Post
-stand-sub-stand-all t c =
-    let s = c .before .before .before .before .before .before in
-    omega (arith, some t s)
+stand-node-len-requires : (t : ℕ) → stand-lts.Need-node-len-requires (stand-uses t) (stand-at t) stand.Post
+stand-node-len-requires t c κs =
+    let s = c .before .before .before .before in
+    noded t s
+
+stand-add-first : (t : ℕ) → stand-lts.Need-add-first (stand-uses t) (stand-at t) stand.Post
+stand-add-first t c =
+    let s = c .before .before .before .before .before in
+    omega (arith, standing-there _ _ _ _ (walk-standing _ _ _ _ (s .pre .1 .2)), c .node-len .ensures)
 
 stand-children-requires : (t : ℕ) → stand-lts.Need-children-requires (stand-uses t) (stand-at t) stand.Post
 stand-children-requires t c κs =
-    let s = c .before .before .before .before .before .before in
+    let s = c .before .before .before .before .before in
     noded t s
 
-stand-alone-requires : (t : ℕ) → stand-lts.Need-alone-requires (stand-uses t) (stand-at t) stand.Post
-stand-alone-requires t c κs = search needs
+stand-own-stands-requires : (t : ℕ) → stand-lts.Need-own-stands-requires (stand-uses t) (stand-at t) stand.Post
+stand-own-stands-requires t c κs =
+    let then1 = c .before .before .before in
+    let after-natural = then1 .before in
+    let s = after-natural .before .before in
+    let code = after-natural .natural .ensures in
+    (s .pre .1 .0, s .pre .1 .1, noded t s, omega (arith, then1 .if1 .taken))
+
+stand-sub-stand-all : (t : ℕ) → stand-lts.Need-sub-stand-all (stand-uses t) (stand-at t) stand.Post
+stand-sub-stand-all t c =
+    let s = c .before .before .before .before .before .before .before in
+    omega (arith, some t s)
 
 stand-stand-all-requires : (t : ℕ) → stand-lts.Need-stand-all-requires (stand-uses t) (stand-at t) stand.Post
 stand-stand-all-requires t c κs =
-    let after-node-len = c .before .before .before .before in
-    let after-natural = after-node-len .before .before in
+    let after-node-len = c .before .before in
+    let then1 = after-node-len .before .before in
+    let after-natural = then1 .before in
     let s = after-natural .before .before in
     let w = s .pre .1 .2 in
     let long = after-node-len .node-len .ensures in
     let many = c .before .children .ensures in
     let code = after-natural .natural .ensures in
-    let high = c .before .before .if3 .taken in
+    let high = then1 .if1 .taken in
     let left = some t s in
     let is = s .pre .0 in
     (omega arith, (s .pre .1 .0, s .pre .1 .1, walk-children _ _ _ _ w _ _ long many (λ e. omega arith), omega (arith, s .pre .1 .3)))
 
-stand-returns-3 : (t : ℕ) → stand-lts.Need-returns-3 (stand-uses t) (stand-at t) stand.Post
-stand-returns-3 t c =
-    let then3 = c .before .before .before in
-    let after-node-len = then3 .before .before in
-    let else1 = after-node-len .before in
-    let after-natural = else1 .before in
+stand-returns-2 : (t : ℕ) → stand-lts.Need-returns-2 (stand-uses t) (stand-at t) stand.Post
+stand-returns-2 t c =
+    let own = c .before in
+    let after-node-len = own .before .before in
+    let then1 = after-node-len .before .before in
+    let after-natural = then1 .before in
     let s = after-natural .before .before in
     let long = after-node-len .node-len .ensures in
-    let many = c .before .before .children .ensures in
+    let many = own .before .children .ensures in
     let code = after-natural .natural .ensures in
-    let low = else1 .if1 .left in
-    children-way _ _ _ (s .args .z) long _ _ many code (omega arith) (then3 .if3 .taken) _ _ (c .before .alone .ensures) (c .stand-all .ensures)
+    children-way _ _ _ (s .args .z) long _ _ many code (then1 .if1 .taken) _ _ (own .own-stands .ensures) (c .stand-all .ensures)
+
+stand-node-len-requires-2 : (t : ℕ) → stand-lts.Need-node-len-requires-2 (stand-uses t) (stand-at t) stand.Post
+stand-node-len-requires-2 t c κs =
+    let s = c .before .before .before in
+    noded t s
+
+stand-add-next : (t : ℕ) → stand-lts.Need-add-next (stand-uses t) (stand-at t) stand.Post
+stand-add-next t c =
+    let s = c .before .before .before .before in
+    omega (arith, standing-there _ _ _ _ (walk-standing _ _ _ _ (s .pre .1 .2)), c .node-len2 .ensures)
 
 stand-add-image-at : (t : ℕ) → stand-lts.Need-add-image-at (stand-uses t) (stand-at t) stand.Post
 stand-add-image-at t c =
-    let s = c .before .before .before .before .before .before .before in
+    let s = c .before .before .before .before .before in
     omega (arith, code-there _ _ _ (noded t s))
 
 stand-image-at-requires : (t : ℕ) → stand-lts.Need-image-at-requires (stand-uses t) (stand-at t) stand.Post
 stand-image-at-requires t c κs =
-    let after-natural = c .before .before .before .before .before in
+    let after-natural = c .before .before .before in
     let s = after-natural .before .before in
-    let code = sym (after-natural .natural .ensures) ∙ c .if4 .taken in
+    let code = sym (after-natural .natural .ensures) ∙ c .if3 .taken in
     (map-stands _ _ _ _ (s .pre .1 .2) code, image-fits _ _ _ _ (s .pre .1 .2) code)
 
 stand-sub-child-2 : (t : ℕ) → stand-lts.Need-sub-child-2 (stand-uses t) (stand-at t) stand.Post
 stand-sub-child-2 t c =
-    let s = c .before .before .before .before .before .before .before .before in
+    let s = c .before .before .before .before .before .before in
     omega (arith, some t s)
 
 stand-child-requires-2 : (t : ℕ) → stand-lts.Need-child-requires-2 (stand-uses t) (stand-at t) stand.Post
 stand-child-requires-2 t c κs =
-    let after-node-len = c .before .before .before .before in
+    let after-node-len = c .before .before in
     let after-natural = after-node-len .before .before in
     let s = after-natural .before .before in
-    let code = sym (after-natural .natural .ensures) ∙ c .before .if4 .taken in
+    let code = sym (after-natural .natural .ensures) ∙ c .before .if3 .taken in
     let left = some t s in
     let is = s .pre .0 in
     let y = c .image-at .ensures in
-    let long = after-node-len .node-len .ensures in
+    let long = after-node-len .node-len2 .ensures in
     let walk = walk-image _ _ _ _ (s .pre .1 .2) code _ (y .read) _ (y .is) (y .rest) in
     (omega arith, (s .pre .1 .0, s .pre .1 .1, rw long walk, omega (arith, s .pre .1 .3)))
 
 stand-handed-requires-2 : (t : ℕ) → stand-lts.Need-handed-requires-2 (stand-uses t) (stand-at t) stand.Post
 stand-handed-requires-2 t c κs = search needs
 
-stand-returns-4 : (t : ℕ) → stand-lts.Need-returns-4 (stand-uses t) (stand-at t) stand.Post
-stand-returns-4 t c =
+stand-returns-3 : (t : ℕ) → stand-lts.Need-returns-3 (stand-uses t) (stand-at t) stand.Post
+stand-returns-3 t c =
     let after-image = c .before .before in
-    let after-node-len = after-image .before .before .before .before in
+    let after-node-len = after-image .before .before in
     let after-natural = after-node-len .before .before in
     let s = after-natural .before .before in
-    let code = sym (after-natural .natural .ensures) ∙ after-image .before .if4 .taken in
-    let long = after-node-len .node-len .ensures in
+    let code = sym (after-natural .natural .ensures) ∙ after-image .before .if3 .taken in
+    let long = after-node-len .node-len2 .ensures in
     let y = after-image .image-at in
     let way = image-way _ _ _ (s .args .z) long _ (y .result) _ code (y .ensures .read) (y .ensures .is) (c .before .child2 .ensures) in
     by-parts (s .args .s .now) (s .args .at) (s .args .z) _ _ (c .handed2 .ensures) way
 
 -- a restriction's code
-seven : (t : ℕ) (c : stand-lts.Else4 (stand-uses t) (stand-at t) stand.Post) →
-    let s = c .before .before .before .before .before .before .before in
+seven : (t : ℕ) (c : stand-lts.Else3 (stand-uses t) (stand-at t) stand.Post) →
+    let s = c .before .before .before .before .before in
     natAbs (field (s .args .s .now) (s .args .at)) ≡ 7
 seven t c =
-    let after-natural = c .before .before .before .before .before in
+    let after-natural = c .before .before .before in
     let s = after-natural .before .before in
     let code = after-natural .natural .ensures in
-    let low = c .before .if3 .left in
-    walk-seven _ _ _ _ (s .pre .1 .2) (omega arith) (λ e. c .if4 .left (code ∙ e))
+    let low = c .before .before .if1 .left in
+    walk-seven _ _ _ _ (s .pre .1 .2) (omega arith) (λ e. c .if3 .left (code ∙ e))
 
 stand-restriction-meets-requires : (t : ℕ) → stand-lts.Need-restriction-meets-requires (stand-uses t) (stand-at t) stand.Post
 stand-restriction-meets-requires t c κs =
-    let s = c .before .before .before .before .before .before .before in
+    let s = c .before .before .before .before .before in
     let code = seven t c in
     restriction-testable _ _ _ _ (s .pre .1 .2) code (wide-fields _ _ _ (noded t s) (omega arith))
 
 stand-sub-child-3 : (t : ℕ) → stand-lts.Need-sub-child-3 (stand-uses t) (stand-at t) stand.Post
 stand-sub-child-3 t c =
-    let s = c .before .before .before .before .before .before .before .before .before in
+    let s = c .before .before .before .before .before .before .before in
     omega (arith, some t s)
 
 stand-child-requires-3 : (t : ℕ) → stand-lts.Need-child-requires-3 (stand-uses t) (stand-at t) stand.Post
 stand-child-requires-3 t c κs =
-    let after-node-len = c .before .before .before .before .before in
+    let after-node-len = c .before .before .before in
     let s = after-node-len .before .before .before .before in
     let left = some t s in
     let is = s .pre .0 in
-    let long = after-node-len .node-len .ensures in
+    let long = after-node-len .node-len2 .ensures in
     let walk = restriction-walk _ _ _ _ (s .pre .1 .2) (seven t (c .before .before)) in
     (omega arith, (s .pre .1 .0, s .pre .1 .1, rw long walk, omega (arith, s .pre .1 .3)))
 
@@ -341,28 +336,28 @@ stand-handed-requires-3 t c κs = search needs
 
 stand-skip-requires : (t : ℕ) → stand-lts.Need-skip-requires (stand-uses t) (stand-at t) stand.Post
 stand-skip-requires t c κs =
-    let s = c .before .before .before .before .before .before .before .before .before in
+    let s = c .before .before .before .before .before .before .before in
     (walk-standing _ _ _ _ (s .pre .1 .2), s .pre .1 .3)
+
+stand-returns-4 : (t : ℕ) → stand-lts.Need-returns-4 (stand-uses t) (stand-at t) stand.Post
+stand-returns-4 t c =
+    let then4 = c .before .before in
+    let else3 = then4 .before .before in
+    let after-node-len = else3 .before in
+    let s = after-node-len .before .before .before .before in
+    let long = after-node-len .node-len2 .ensures in
+    let met = then4 .before .restriction-meets .ensures in
+    let way = restriction-way _ _ _ (s .args .z) long (seven t else3) _ met _ (then4 .if4 .taken) (c .before .child3 .ensures) in
+    by-parts (s .args .s .now) (s .args .at) (s .args .z) _ _ (c .handed3 .ensures) way
 
 stand-returns-5 : (t : ℕ) → stand-lts.Need-returns-5 (stand-uses t) (stand-at t) stand.Post
 stand-returns-5 t c =
-    let then5 = c .before .before in
-    let else4 = then5 .before .before in
-    let after-node-len = else4 .before .before .before in
+    let else3 = c .before .before .before in
+    let after-node-len = else3 .before in
     let s = after-node-len .before .before .before .before in
-    let long = after-node-len .node-len .ensures in
-    let met = then5 .before .restriction-meets .ensures in
-    let way = restriction-way _ _ _ (s .args .z) long (seven t else4) _ met _ (then5 .if5 .taken) (c .before .child3 .ensures) in
-    by-parts (s .args .s .now) (s .args .at) (s .args .z) _ _ (c .handed3 .ensures) way
-
-stand-returns-6 : (t : ℕ) → stand-lts.Need-returns-6 (stand-uses t) (stand-at t) stand.Post
-stand-returns-6 t c =
-    let else4 = c .before .before .before in
-    let after-node-len = else4 .before .before .before in
-    let s = after-node-len .before .before .before .before in
-    let long = after-node-len .node-len .ensures in
+    let long = after-node-len .node-len2 .ensures in
     let met = c .before .before .restriction-meets .ensures in
-    restriction-off-way _ _ _ (s .args .z) long (seven t else4) _ met _ (c .before .if5 .left) (c .skip .ensures)
+    restriction-off-way _ _ _ (s .args .z) long (seven t else3) _ met _ (c .before .if4 .left) (c .skip .ensures)
 
 -- what the trees from here on come to is what all of them do
 abbrev stand-all-Inv-loop : stand-all-lts.InvT-loop
@@ -422,33 +417,33 @@ pub +child+stand+stand-all-spec : {M : Type 1} → statement M
     (λ t. stand-lts.spec (stand-uses t) (stand-at t)
     stand.Post
     (stand-natural-requires t)
-    (stand-tip-stands-requires t)
-    (stand-add-end t)
-    (stand-returns t)
-    (stand-node-len-requires t)
-    (stand-add-next t)
+    (stand-operand-requires t)
     (stand-sub-child t)
     (stand-child-requires t)
     (stand-handed-requires t)
-    (stand-returns-2 t)
-    (stand-sub-stand-all t)
+    (stand-returns t)
+    (stand-node-len-requires t)
+    (stand-add-first t)
     (stand-children-requires t)
-    (stand-alone-requires t)
+    (stand-own-stands-requires t)
+    (stand-sub-stand-all t)
     (stand-stand-all-requires t)
-    (stand-returns-3 t)
+    (stand-returns-2 t)
+    (stand-node-len-requires-2 t)
+    (stand-add-next t)
     (stand-add-image-at t)
     (stand-image-at-requires t)
     (stand-sub-child-2 t)
     (stand-child-requires-2 t)
     (stand-handed-requires-2 t)
-    (stand-returns-4 t)
+    (stand-returns-3 t)
     (stand-restriction-meets-requires t)
     (stand-sub-child-3 t)
     (stand-child-requires-3 t)
     (stand-handed-requires-3 t)
     (stand-skip-requires t)
-    (stand-returns-5 t)
-    (stand-returns-6 t))
+    (stand-returns-4 t)
+    (stand-returns-5 t))
     λ t. stand-all-lts.spec (stand-all-uses t) (stand-all-at t)
     stand-all.Post
     stand-all-Inv-loop
