@@ -1,6 +1,6 @@
 -- The body of a variable at an element: its byte in the table of the elements that are inside, and that it may be walked there.
 -- Assumes nothing.
-use mathlib.Core.Path.{_≡_, refl, sym, ap, _∙_, subst}
+use mathlib.Core.Path.{_≡_, refl, sym, ap, _∙_}
 use Prim.Native.Nat.{ℕ, suc, _+_, _-_, _≤_, _<_}
 use native.Mathlib.Omega.{arith}
 use mathlib.Core.Bool.{Bool, true, false, _&&_}
@@ -9,28 +9,27 @@ use lib.ListN.{length, getD}
 use lib.IntN.{pos, natAbs}
 use Rattle.alpha.specs.declared.Int.{Int}
 use Rattle.alpha.specs.Pick.{ifb}
-use Rattle.alpha.specs.Sheet.{Range, Sheet, Point}
+use Rattle.alpha.specs.Sheet.{Range, Point}
 use Rattle.alpha.specs.Affine.{meetsAll}
-use Rattle.alpha.specs.Box.{size, inBox, index, pointAt}
+use Rattle.alpha.specs.Box.{size, inBox, pointAt}
 use Rattle.alpha.specs.Read.{dimension}
 use Rattle.alpha.specs.Holds.{variable, isInput, inDomain}
 use Rattle.alpha.specs.Reach.{topReach}
-use Rattle.alpha.specs.Ask.{before, numberOf}
+use Rattle.alpha.specs.Ask.{numberOf}
 use Rattle.laws.specs.Sheets.{headsOf, varsOf, sheetOf}
 use Rattle.laws.proofs.Boxes.{index-pointAt, pointAt-inBox, readBox-ordered, inBox-small}
 use Rattle.affine.specs.Value.{pointOf}
 use Rattle.affine.specs.Size.{Near}
 use Rattle.sheet.specs.Record.{dimensionAt}
-use Rattle.points.specs.Number.{boxOf, PointAt}
+use Rattle.points.specs.Number.{PointAt}
 use Rattle.tree.specs.Formed.{Formed}
-use Rattle.domain.specs.declared.Standing.{Standing}
-use Rattle.domain.specs.declared.Standing.the-variants.{Not, Holds, Clash}
+use Rattle.domain.specs.declared.Standing.the-variants.{Holds}
 use Rattle.domain.specs.declared.Stood.{Stood}
 use Rattle.domain.specs.Walk.{Walk}
 use Rattle.domain.specs.Standing.{standing, StandsAt}
 use Rattle.domain.specs.Inside.{Inside, bit}
 use Rattle.domain.specs.Element.{bodyStanding}
-use Rattle.domain.proofs.Records.{VariableLaid, laid-variable}
+use Rattle.domain.proofs.Records.{VariableLaid}
 
 pub near-each : (r : ℕ) (z : Point) → ((i : ℕ) → natAbs (getD z i (pos 0)) ≤ r) → Near r z
 near-each r [] h = tt

@@ -1,9 +1,10 @@
--- That a tree holds at a point is carried to its children: to operands, and below a restriction, at the same point; below a dependence at
--- the image. And it is one thing whichever tree at the place it is said of, since there is one, of one dimension. Assumes nothing.
+-- That a tree holds at a point without a clash is carried to its children: to operands, and below a restriction, at the same point; below
+-- a dependence at the image. And it is one thing whichever tree at the place it is said of, since there is one, of one dimension.
+-- Assumes nothing.
 use mathlib.Core.Path.{_≡_, refl, sym, ap, _∙_}
 use Prim.Native.Nat.{ℕ, _+_, _-_, _≤_}
 use native.Mathlib.Omega.{arith}
-use mathlib.Core.Bool.{true, _&&_}
+use mathlib.Core.Bool.{Bool, true, false, _&&_}
 use mathlib.Core.List.{List}
 use lib.ListN.{length}
 use lib.IntN.{natAbs}
@@ -11,27 +12,31 @@ use lib.Dec.{eqb}
 use borrow.Author.Tests.{eqb-true}
 use Rattle.alpha.specs.declared.Int.{Int}
 use Rattle.alpha.specs.Field.{field}
-use Rattle.alpha.specs.Sheet.{Node, Head, Expr, Exprs, Sheet, Point}
+use Rattle.alpha.specs.Sheet.{Node, Head, Expr, Exprs, Constraint, Sheet, Point}
 use Rattle.alpha.specs.Sheet.{Expr.var, Expr.int, Expr.boo, Expr.un, Expr.bin, Expr.ite, Expr.kase, Expr.restr, Expr.dep, Exprs.none, Exprs.more}
 use Rattle.alpha.specs.Affine.{meetsAll, image}
 use Rattle.alpha.specs.Read.{got, node, dimension}
 use Rattle.alpha.specs.Shape.{fits, allFit}
-use Rattle.alpha.specs.Holds.{holds}
 use Rattle.alpha.specs.Written.{branchCount}
-use Rattle.laws.specs.At.{codeNumber, nodeLen, At, AllAt}
-use Rattle.laws.specs.Children.{childrenOf, arity}
+use Rattle.laws.specs.At.{nodeLen, At, AllAt}
+use Rattle.laws.specs.Children.{arity}
 use Rattle.laws.specs.Sheets.{headsOf, varsOf, sheetOf}
-use Rattle.laws.proofs.Tests.{&&-left, &&-right, &&-true}
+use Rattle.laws.proofs.Tests.{&&-left, &&-right, true-not-false}
 use Rattle.laws.proofs.Trees.{at-unique}
-use Rattle.laws.proofs.Shapes.{at-node, at-restr, at-dep, RestrAt, DepAt, MoreAt}
+use Rattle.laws.proofs.Shapes.{at-node, at-restr, at-dep, RestrAt, DepAt}
 use Rattle.affine.specs.declared.Map.{Map}
-use Rattle.affine.specs.Value.{pointOf, mapOf}
+use Rattle.affine.specs.Value.{pointOf, mapOf, Padded}
 use Rattle.affine.specs.Reading.{MapRead}
 use Rattle.affine.proofs.Meaning.{height-length, width-cols}
-use Rattle.tree.proofs.Standings.{children-at, children-counted, one-more}
-use Rattle.domain.specs.Walk.{Ends}
-use Rattle.domain.specs.Held.{allHold, Held, HeldAll}
-use Rattle.domain.proofs.Walks.{tree-code, code-field, children-fit}
+use Rattle.domain.specs.declared.Standing.{Standing}
+use Rattle.domain.specs.declared.Standing.the-variants.{Not, Holds, Clash}
+use Rattle.domain.specs.Walk.{Ends, Walk, WalkAll}
+use Rattle.domain.specs.Standing.{standing, both, together}
+use Rattle.domain.specs.Held.{Held, HeldAll}
+use Rattle.domain.specs.Holding.{isHeld}
+use Rattle.domain.proofs.Walks.{tree-code, code-field, walk-children, walk-image, walks-split, walk-first, walk-rest}
+use Rattle.domain.proofs.Restrictions.{restriction-walk}
+use Rattle.domain.proofs.Standings.{operands-stand, restriction-stands, restriction-not, dependence-stands}
 
 -- ---- one dimension
 
@@ -67,141 +72,123 @@ module _ (vars : ℕ) (bs : List ℕ) (hs : List Head) (n m : ℕ) where
     fit-once (more e es) p q some h f g =
         fits-once e p (h .middle) (h .before) (&&-left (fits e hs n) (allFit es hs n) f) (&&-left (fits e hs m) (allFit es hs m) g)
 
--- ---- operands
+-- ---- where both of two hold without a clash, each does
 
--- where an operator or an if holds, all its operands do
-operands-hold : (e : Expr) (s : Sheet) (z : Point) → 3 ≤ codeNumber e → codeNumber e ≤ 5 → holds e s z ≡ true → allHold (childrenOf e) s z ≡ true
-unfolding holds allHold
-operands-hold (var v) s z l h t = absurd (omega arith)
-operands-hold (int c) s z l h t = absurd (omega arith)
-operands-hold (boo b) s z l h t = absurd (omega arith)
-operands-hold (un o a) s z l h t = &&-true t refl
-operands-hold (bin o a b) s z l h t = &&-true (&&-left (holds a s z) (holds b s z) t) (&&-true (&&-right (holds a s z) (holds b s z) t) refl)
-operands-hold (ite a b c) s z l h t =
-    let i = &&-left (holds a s z && holds b s z) (holds c s z) t in
-    let j = &&-right (holds a s z && holds b s z) (holds c s z) t in
-    &&-true (&&-left (holds a s z) (holds b s z) i) (&&-true (&&-right (holds a s z) (holds b s z) i) (&&-true j refl))
-operands-hold (kase es) s z l h t = absurd (omega arith)
-operands-hold (restr d cs a) s z l h t = absurd (omega arith)
-operands-hold (dep f a) s z l h t = absurd (omega arith)
+pub not-held : {X : Type 0} → Not ≡ Holds → X
+not-held e = true-not-false {b = true} refl (sym (ap isHeld e))
+
+both-first : (a b : Standing) → both a b ≡ Holds → a ≡ Holds
+both-first Not b e = e
+both-first Holds b e = refl
+both-first Clash Not e = not-held e
+both-first Clash Holds e = e
+both-first Clash Clash e = e
+
+both-second : (a b : Standing) → both a b ≡ Holds → b ≡ Holds
+both-second Not b e = not-held e
+both-second Holds b e = e
+both-second Clash Not e = e
+both-second Clash Holds e = refl
+both-second Clash Clash e = e
+
+-- and so does a restriction's child
+restricted-holds : (d : ℕ) (cs : List Constraint) (a : Expr) (s : Sheet) (z : Point) → standing (Expr.restr d cs a) s z ≡ Holds → standing a s z ≡ Holds
+restricted-holds d cs a s z h = go (meetsAll cs z) refl
+  where
+    go : (b : Bool) → meetsAll cs z ≡ b → standing a s z ≡ Holds
+    go true m = sym (restriction-stands s z d cs a m) ∙ h
+    go false m = not-held (sym (restriction-not s z d cs a m) ∙ h)
 
 module _ (bs : List ℕ) where
-  module _ (p : ℕ) (z : List Int) (h : Held bs p z) where
-    -- every tree there holds
-    pub held-tree : (e : Expr) (q n : ℕ) → At e (varsOf bs) bs p q → fits e (headsOf bs) n ≡ true → holds e (sheetOf bs) (pointOf n z) ≡ true
-    held-tree e q n a f =
-        let same = at-unique (varsOf bs) bs p (h .tree) e (h .end) q (h .at) a .tree-is in
-        let wide = fits-once (varsOf bs) bs (headsOf bs) (h .dims) n e p q a (rw same at (h .fitting)) f in
-        rw (same, wide) at (h .holding)
+  -- a tree that may be walked, by any tree there
+  module _ (p left : ℕ) (z : List Int) (e : Expr) (q n : ℕ) (a : At e (varsOf bs) bs p q) (f : fits e (headsOf bs) n ≡ true) where
+    pub held-by : Walk bs p left z → standing e (sheetOf bs) (pointOf n z) ≡ Holds → Held bs p left z
+    held-by w g =
+        let same = at-unique (varsOf bs) bs p e (w .tree) q (w .end) a (w .at) .tree-is in
+        let wide = fits-once (varsOf bs) bs (headsOf bs) n (w .dims) (w .tree) p (w .end) (w .at) (rw same at f) (w .fitting) in
+        record { walk = w; clear = rw (same, wide) at g }
+
+    -- and any tree there, by it
+    pub held-tree : Held bs p left z → standing e (sheetOf bs) (pointOf n z) ≡ Holds
+    held-tree h =
+        let w = h .walk in
+        let same = at-unique (varsOf bs) bs p (w .tree) e (w .end) q (w .at) a .tree-is in
+        let wide = fits-once (varsOf bs) bs (headsOf bs) (w .dims) n e p q a (rw same at (w .fitting)) f in
+        rw (same, wide) at (h .clear)
+
+  module _ (p left : ℕ) (z : List Int) (h : Held bs p left z) where
+    abbrev w : Walk bs p left z
+    w = h .walk
+
+    abbrev here : Expr → Standing
+    here e = standing e (sheetOf bs) (pointOf (w .dims) z)
 
     -- its operands, where the code says that there are n and that the node has k bytes
     module _ (k n : ℕ) (long : k ≡ nodeLen bs p) (many : (nd : Node) (q : ℕ) → node (varsOf bs) bs p ≡ got nd q → n ≡ arity nd) where
-      pub held-operands : 3 ≤ natAbs (field bs p) → natAbs (field bs p) ≤ 5 → HeldAll bs (p + k) n z
+      pub held-operands : 3 ≤ natAbs (field bs p) → natAbs (field bs p) ≤ 5 → HeldAll bs (p + k) (left - 1) n z
+      unfolding walk-children
       held-operands low high =
-          let e = h .tree in
-          let code = tree-code bs p e (h .end) (h .at) in
+          let code = tree-code bs p (w .tree) (w .end) (w .at) in
           record {
-            trees = childrenOf e;
-            end = h .end;
-            dims = h .dims;
-            at = children-at (varsOf bs) bs p k n long many e (h .end) (h .at);
-            many = children-counted (varsOf bs) bs p k n long many e (h .end) (h .at);
-            fitting = children-fit bs p e (h .end) (h .dims) (h .at) (λ c. omega arith) (h .fitting);
-            holding = operands-hold e (sheetOf bs) (pointOf (h .dims) z) (omega arith) (omega arith) (h .holding);
+            walk = walk-children bs p left z w k n long many (λ c. omega arith);
+            clear = sym (operands-stand (sheetOf bs) (pointOf (w .dims) z) (w .tree) (omega arith) (omega arith)) ∙ h .clear;
           }
 
     -- a restriction's child
-    module _ (code : natAbs (field bs p) ≡ 7) where
-      restricted : RestrAt (h .tree) (varsOf bs) bs p (h .end)
-      restricted = at-restr (varsOf bs) bs (h .tree) p (h .end) (h .at) (code-field bs p (h .tree) (h .end) 7 (h .at) code)
-
-      fit-restricted : eqb (restricted .dim) (h .dims) && fits (restricted .child) (headsOf bs) (h .dims) ≡ true
-      unfolding fits
-      fit-restricted = rw (restricted .is) at (h .fitting)
-
-      hold-restricted : meetsAll (restricted .given) (pointOf (h .dims) z) && holds (restricted .child) (sheetOf bs) (pointOf (h .dims) z) ≡ true
-      unfolding holds
-      hold-restricted = rw (restricted .is) at (h .holding)
-
-      pub held-restricted : Held bs (p + nodeLen bs p) z
-      held-restricted =
-          let x = restricted in
-          record {
-            tree = x .child;
-            end = h .end;
-            dims = h .dims;
-            at = x .below;
-            fitting = &&-right (eqb (x .dim) (h .dims)) (fits (x .child) (headsOf bs) (h .dims)) fit-restricted;
-            holding = &&-right (meetsAll (x .given) (pointOf (h .dims) z)) (holds (x .child) (sheetOf bs) (pointOf (h .dims) z)) hold-restricted;
-          }
+    pub held-restricted : natAbs (field bs p) ≡ 7 → Held bs (p + nodeLen bs p) (left - 1) z
+    held-restricted code =
+        let x = at-restr (varsOf bs) bs (w .tree) p (w .end) (w .at) (code-field bs p (w .tree) (w .end) 7 (w .at) code) in
+        held-by (p + nodeLen bs p) (left - 1) z (x .child) (w .end) (w .dims) (x .below) (fit x) (restriction-walk bs p left z w code)
+        (restricted-holds (x .dim) (x .given) (x .child) (sheetOf bs) (pointOf (w .dims) z) (sym (ap here (x .is)) ∙ h .clear))
+      where
+        fit : (x : RestrAt (w .tree) (varsOf bs) bs p (w .end)) → fits (x .child) (headsOf bs) (w .dims) ≡ true
+        fit x = unfold fits in
+            &&-right (eqb (x .dim) (w .dims)) (fits (x .child) (headsOf bs) (w .dims))
+            (sym (ap (λ t. fits t (headsOf bs) (w .dims)) (x .is)) ∙ w .fitting)
 
     -- a dependence's child at the image, where its map is m
-    module _ (code : natAbs (field bs p) ≡ 8) where
-      imaged : DepAt (h .tree) (varsOf bs) bs p (h .end)
-      imaged = at-dep (varsOf bs) bs (h .tree) p (h .end) (h .at) (code-field bs p (h .tree) (h .end) 8 (h .at) code)
+    pub held-image : natAbs (field bs p) ≡ 8 → (m : Map) → MapRead bs (p + 8) m → (y : List Int) →
+        pointOf (m .height) y ≡ image (mapOf m .rows) (pointOf (m .width) z) → Padded (m .height) y → Held bs (p + nodeLen bs p) (left - 1) y
+    held-image code m r y is rest =
+        let x = at-dep (varsOf bs) bs (w .tree) p (w .end) (w .at) (code-field bs p (w .tree) (w .end) 8 (w .at) code) in
+        let map-is = r .is (x .by) (p + nodeLen bs p) (x .fields .read) in
+        let parts = fit x in
+        let child = fits (x .child) (headsOf bs) (length (x .by .rows)) in
+        let cols = eqb-true (x .by .cols) (w .dims) (&&-left (eqb (x .by .cols) (w .dims)) child parts) in
+        let point : pointOf (length (x .by .rows)) y ≡ image (x .by .rows) (pointOf (w .dims) z) =
+        rw (height-length m map-is, width-cols m map-is, cols) at (is ∙ ap (λ f. image (f .rows) (pointOf (m .width) z)) map-is) in
+        held-by (p + nodeLen bs p) (left - 1) y (x .child) (w .end) (length (x .by .rows)) (x .below)
+        (&&-right (eqb (x .by .cols) (w .dims)) child parts) (walk-image bs p left z w code m r y is rest)
+        (rw point (sym (dependence-stands (sheetOf bs) (pointOf (w .dims) z) (x .by) (x .child)) ∙ sym (ap here (x .is)) ∙ h .clear))
+      where
+        fit : (x : DepAt (w .tree) (varsOf bs) bs p (w .end)) →
+            eqb (x .by .cols) (w .dims) && fits (x .child) (headsOf bs) (length (x .by .rows)) ≡ true
+        fit x = unfold fits in (sym (ap (λ t. fits t (headsOf bs) (w .dims)) (x .is)) ∙ w .fitting)
 
-      fit-imaged : eqb (imaged .by .cols) (h .dims) && fits (imaged .child) (headsOf bs) (length (imaged .by .rows)) ≡ true
-      unfolding fits
-      fit-imaged = rw (imaged .is) at (h .fitting)
+  -- ---- so many operands
 
-      hold-imaged : holds (imaged .child) (sheetOf bs) (image (imaged .by .rows) (pointOf (h .dims) z)) ≡ true
-      unfolding holds
-      hold-imaged = rw (imaged .is) at (h .holding)
+  module _ (p left n : ℕ) (z : List Int) (some : 1 ≤ n) (h : HeldAll bs p left n z) where
+    abbrev all : WalkAll bs p left n z
+    all = h .walk
 
-      pub held-image : (m : Map) → MapRead bs (p + 8) m → (y : List Int) → pointOf (m .height) y ≡ image (mapOf m .rows) (pointOf (m .width) z) →
-          Held bs (p + nodeLen bs p) y
-      held-image m r y is =
-          let x = imaged in
-          let map-is = r .is (x .by) (p + nodeLen bs p) (x .fields .read) in
-          let cols =
-          eqb-true (x .by .cols) (h .dims)
-          (&&-left (eqb (x .by .cols) (h .dims)) (fits (x .child) (headsOf bs) (length (x .by .rows))) fit-imaged) in
-          let point : pointOf (length (x .by .rows)) y ≡ image (x .by .rows) (pointOf (h .dims) z) =
-          rw (height-length m map-is, width-cols m map-is, cols) at (is ∙ ap (λ w. image (w .rows) (pointOf (m .width) z)) map-is) in
-          record {
-            tree = x .child;
-            end = h .end;
-            dims = length (x .by .rows);
-            at = x .below;
-            fitting = &&-right (eqb (x .by .cols) (h .dims)) (fits (x .child) (headsOf bs) (length (x .by .rows))) fit-imaged;
-            holding = rw point hold-imaged;
-          }
+    abbrev stands : Exprs → Standing
+    stands es = together false es (sheetOf bs) (pointOf (all .dims) z)
 
-  -- ---- so many trees
+    abbrev first : Standing
+    first = standing (walks-split bs p left n z some all .first) (sheetOf bs) (pointOf (all .dims) z)
 
-  module _ (p n : ℕ) (z : List Int) (some : 1 ≤ n) (h : HeldAll bs p n z) where
-    split : MoreAt (h .trees) (varsOf bs) bs p (h .end) (n - 1)
-    split = one-more (varsOf bs) bs (h .trees) p (h .end) n some (h .at) (h .many)
+    abbrev rest : Standing
+    rest = stands (walks-split bs p left n z some all .rest)
 
-    fit-all : fits (split .first) (headsOf bs) (h .dims) && allFit (split .rest) (headsOf bs) (h .dims) ≡ true
-    unfolding allFit
-    fit-all = rw (split .is) at (h .fitting)
+    first-rest : both first rest ≡ Holds
+    unfolding together
+    first-rest = sym (ap stands (walks-split bs p left n z some all .is)) ∙ h .clear
 
-    hold-all : holds (split .first) (sheetOf bs) (pointOf (h .dims) z) && allHold (split .rest) (sheetOf bs) (pointOf (h .dims) z) ≡ true
-    unfolding allHold
-    hold-all = rw (split .is) at (h .holding)
-
-    fit-first : fits (split .first) (headsOf bs) (h .dims) ≡ true
-    fit-first = &&-left (fits (split .first) (headsOf bs) (h .dims)) (allFit (split .rest) (headsOf bs) (h .dims)) fit-all
-
-    pub held-first : Held bs p z
-    held-first = record {
-      tree = split .first;
-      end = split .middle;
-      dims = h .dims;
-      at = split .before;
-      fitting = fit-first;
-      holding = &&-left (holds (split .first) (sheetOf bs) (pointOf (h .dims) z)) (allHold (split .rest) (sheetOf bs) (pointOf (h .dims) z)) hold-all;
-    }
+    pub held-first : Held bs p left z
+    unfolding walk-first
+    held-first = record { walk = walk-first bs p left n z some all; clear = both-first first rest first-rest }
 
     -- the others, from where the first ends
-    pub held-rest : (r : ℕ) → Ends bs p r → HeldAll bs r (n - 1) z
-    held-rest r ends = record {
-      trees = split .rest;
-      end = h .end;
-      dims = h .dims;
-      at = rw (ends (split .first) (split .middle) (h .dims) (split .before) fit-first) (split .after);
-      many = split .many;
-      fitting = &&-right (fits (split .first) (headsOf bs) (h .dims)) (allFit (split .rest) (headsOf bs) (h .dims)) fit-all;
-      holding = &&-right (holds (split .first) (sheetOf bs) (pointOf (h .dims) z)) (allHold (split .rest) (sheetOf bs) (pointOf (h .dims) z)) hold-all;
-    }
+    pub held-rest : (r : ℕ) → Ends bs p r → HeldAll bs r left (n - 1) z
+    unfolding walk-rest
+    held-rest r ends = record { walk = walk-rest bs p left n z some all r ends; clear = both-second first rest first-rest }

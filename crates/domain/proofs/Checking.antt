@@ -1,15 +1,15 @@
 -- GAP and CLASH element by element: the ways through one element, through the elements of a variable, and through all variables.
 -- Assumes nothing.
 use mathlib.Core.Path.{_≡_, refl, sym, ap, _∙_, subst}
-use Prim.Native.Nat.{ℕ, zero, suc, _+_, _-_, _≤_, _<_}
+use Prim.Native.Nat.{ℕ, suc, _+_, _-_, _≤_, _<_}
 use native.Mathlib.Omega.{arith}
 use mathlib.Core.Bool.{Bool, true, false, not, _&&_}
-use mathlib.Core.List.{List, [], _∷_, _++_, map}
-use lib.ListN.{length, getD, drop, length-map, drop-of-length-le}
+use mathlib.Core.List.{List, [], _∷_, _++_}
+use lib.ListN.{length, drop, length-map, drop-of-length-le}
 use lib.Seq.{drop-cons}
 use Rattle.alpha.specs.Pick.{ifb}
 use Rattle.alpha.specs.Answer.{Answer, accepted, refused, next, GAP, CLASH}
-use Rattle.alpha.specs.Sheet.{Range, Variable, Sheet, Point}
+use Rattle.alpha.specs.Sheet.{Range, Sheet, Point}
 use Rattle.alpha.specs.Box.{size, pointAt}
 use Rattle.alpha.specs.Holds.{noVariable, variable, isInput, inDomain, holds, clashes}
 use Rattle.alpha.specs.Check.{Element, pointsFrom, points, elementsFrom, elements, fault, faults}
@@ -17,7 +17,7 @@ use Rattle.alpha.specs.Ask.{before}
 use Rattle.laws.proofs.Elements.{length-points, before-suc}
 use Rattle.domain.specs.declared.Standing.{Standing}
 use Rattle.domain.specs.declared.Standing.the-variants.{Not, Holds, Clash}
-use Rattle.domain.specs.Standing.{rated, standing}
+use Rattle.domain.specs.Standing.{rated}
 use Rattle.domain.specs.Element.{elementsAt, elementsOf, isClear, faultOf, bodyStanding}
 
 -- ---- one element

@@ -1,9 +1,9 @@
--- The branch that a case takes, by how each stands: the ways through the search for it, and that its outcome is the case's.
--- Assumes nothing.
-use mathlib.Core.Path.{_≡_, refl, sym, ap, _∙_}
+-- The branch that a case takes: one holds and no other does, so it is the spared one where none of the others is found to hold; and its
+-- outcome is the case's. Assumes nothing.
+use mathlib.Core.Path.{_≡_, refl, sym, ap, _∙_, subst}
 use Prim.Native.Nat.{ℕ, _+_, _-_, _≤_, _<_}
 use native.Mathlib.Omega.{arith}
-use mathlib.Core.Bool.{Bool, true, false, _&&_, _||_}
+use mathlib.Core.Bool.{Bool, true, false, _&&_}
 use mathlib.Core.List.{List}
 use mathlib.Core.Option.{Option, some}
 use mathlib.Core.Option as Option
@@ -14,26 +14,29 @@ use Rattle.alpha.specs.Field.{field}
 use Rattle.alpha.specs.Sheet.{Node, Expr, Expr.kase, Exprs, Exprs.none, Exprs.more, Sheet, Point}
 use Rattle.alpha.specs.Read.{got, node}
 use Rattle.alpha.specs.Shape.{fits, allFit}
-use Rattle.alpha.specs.Holds.{holds, someHolds, clashes}
+use Rattle.alpha.specs.Holds.{holds, clashes}
 use Rattle.alpha.specs.Outcome.{Outcome, outside, eval, evalFirst}
 use Rattle.alpha.specs.Written.{branchCount}
 use Rattle.laws.specs.At.{nodeLen, At, AllAt}
 use Rattle.laws.specs.Children.{arity}
 use Rattle.laws.specs.Sheets.{headsOf, varsOf, sheetOf}
-use Rattle.laws.proofs.Tests.{&&-left, &&-right}
+use Rattle.laws.proofs.Tests.{&&-left, &&-right, true-not-false}
 use Rattle.laws.proofs.Readers.{counted-is}
 use Rattle.laws.proofs.Shapes.{at-kase, KaseAt, MoreAt}
 use Rattle.affine.specs.Value.{pointOf}
+use Rattle.tree.specs.Ends.{EndsAt}
 use Rattle.tree.proofs.Noding.{length-other, arity-case-is}
 use Rattle.tree.proofs.Standings.{standing-noded, children-at, children-counted, one-more}
-use Rattle.domain.specs.declared.Stood.{Stood}
+use Rattle.domain.specs.declared.Standing.{Standing}
+use Rattle.domain.specs.declared.Standing.the-variants.{Not, Holds, Clash}
 use Rattle.domain.specs.declared.Choice.{Choice}
 use Rattle.domain.specs.Walk.{Walk, WalkAll}
 use Rattle.domain.specs.Held.{Held}
-use Rattle.domain.specs.Standing.{rated, standing, StandsAt}
-use Rattle.domain.specs.Holding.{isHeld, firstHolding, Taken, TakesOf, Chooses}
+use Rattle.domain.specs.Standing.{rated, standing, either, together}
+use Rattle.domain.specs.Holding.{isHeld, firstHolding, HoldsAt, StandsSo, Branch, Taken, Sought, Chooses}
+use Rattle.domain.proofs.Standings.{branches-stand}
 use Rattle.domain.proofs.Walks.{code-field, walk-standing, walk-children, walk-first, walk-rest, walks-standing, children-fit}
-use Rattle.domain.proofs.Carried.{held-tree}
+use Rattle.domain.proofs.Carried.{not-held, held-by, held-tree}
 
 -- ---- the outcome of a case
 
@@ -52,7 +55,7 @@ first-outcome (more e es) s look z = go (holds e s z) (first-outcome es s look z
     go true h = refl
     go false h = h
 
--- ---- the ways through the search
+-- ---- one of two
 
 held-is : (e : Expr) (s : Sheet) (z : Point) → isHeld (standing e s z) ≡ holds e s z
 held-is e s z = go (holds e s z) (clashes e s z)
@@ -62,124 +65,194 @@ held-is e s z = go (holds e s z) (clashes e s z)
     go true false = refl
     go true true = refl
 
--- where one of some trees holds: that one, if there is one only
-only-holds : (e : Expr) (es : Exprs) (s : Sheet) (z : Point) → branchCount es ≡ 0 → someHolds (more e es) s z ≡ true → holds e s z ≡ true
-unfolding holds
-only-holds e none s z m h = go (holds e s z) h
-  where
-    go : (b : Bool) → b || false ≡ true → b ≡ true
-    go true t = refl
-    go false t = t
-only-holds e (more f es) s z m h = absurd (omega arith)
+clash-holds : {X : Type 0} → Clash ≡ Holds → X
+clash-holds e = let z : _≡_ {A = ℕ} 0 1 = cc in absurd (omega arith)
 
--- one of the others, if the first does not
-later-holds : (e : Expr) (es : Exprs) (s : Sheet) (z : Point) → holds e s z ≡ false → someHolds (more e es) s z ≡ true → someHolds es s z ≡ true
-unfolding holds
-later-holds e es s z fails h = rw fails at h
+clash-not : {X : Type 0} → Clash ≡ Not → X
+clash-not e = let z : _≡_ {A = ℕ} 0 1 = cc in absurd (omega arith)
 
-module _ (bs : List ℕ) (p left count : ℕ) (z : List Int) (some : 1 ≤ count) (w : WalkAll bs p left count z) where
-  abbrev fitting-all : Exprs → ℕ → Type 0
-  fitting-all es n = allFit es (headsOf bs) n ≡ true
+-- where one of two holds without a clash, the other does not hold
+one-holds : {X : Type 0} (a b : Standing) → either a b ≡ Holds → (a ≡ Holds → b ≡ Not → X) → (a ≡ Not → b ≡ Holds → X) → X
+one-holds Not b e first second = second refl e
+one-holds Holds Not e first second = first refl refl
+one-holds Holds Holds e first second = clash-holds e
+one-holds Holds Clash e first second = clash-holds e
+one-holds Clash b e first second = clash-holds e
 
-  -- the first of any trees there
-  module _ (es : Exprs) (q n : ℕ) (h : AllAt es (varsOf bs) bs p q) (m : branchCount es ≡ count) (f : fitting-all es n) where
-    split : MoreAt es (varsOf bs) bs p q (count - 1)
-    split = one-more (varsOf bs) bs es p q count some h m
+neither-holds : (a b : Standing) → either a b ≡ Not → (a ≡ Not) × (b ≡ Not)
+neither-holds Not b e = (refl, e)
+neither-holds Holds Not e = (e, refl)
+neither-holds Holds Holds e = clash-not e
+neither-holds Holds Clash e = clash-not e
+neither-holds Clash b e = clash-not e
 
-    parts : fits (split .first) (headsOf bs) n && allFit (split .rest) (headsOf bs) n ≡ true
-    unfolding fits
-    parts = rw (split .is) at f
+-- what is found at a place is so of any tree there
+found-so : (bs : List ℕ) (p : ℕ) (z : List Int) (r : Bool) (how : Standing) → HoldsAt bs p z r → StandsSo bs p z how → r ≡ isHeld how
+found-so bs p z r how found x = found (x .tree) (x .end) (x .dims) (x .at) (x .fitting) ∙ ap isHeld (x .so)
 
-    fit-first : fits (split .first) (headsOf bs) n ≡ true
-    fit-first = &&-left (fits (split .first) (headsOf bs) n) (allFit (split .rest) (headsOf bs) n) parts
+-- ---- the ways through the search
 
-    fit-rest : fitting-all (split .rest) n
-    fit-rest = &&-right (fits (split .first) (headsOf bs) n) (allFit (split .rest) (headsOf bs) n) parts
+module _ (bs : List ℕ) (left : ℕ) (z : List Int) where
+  abbrev stands : Expr → ℕ → Standing
+  stands e n = standing e (sheetOf bs) (pointOf n z)
 
-    first-by : (b : Bool) → holds (split .first) (sheetOf bs) (pointOf n z) ≡ b →
-        firstHolding es (sheetOf bs) (pointOf n z) ≡ ifb b (λ _. Option.some (split .first)) (λ _. firstHolding (split .rest) (sheetOf bs) (pointOf n z))
-    unfolding firstHolding
-    first-by b e =
-        let x = split in
-        ap (λ t. firstHolding t (sheetOf bs) (pointOf n z)) (x .is)
-        ∙ ap (λ c. ifb c (λ _. Option.some (x .first)) (λ _. firstHolding (x .rest) (sheetOf bs) (pointOf n z))) e
+  abbrev branches : Exprs → ℕ → Standing
+  branches es n = together true es (sheetOf bs) (pointOf n z)
 
-    some-split : someHolds es (sheetOf bs) (pointOf n z) ≡ true → someHolds (more (split .first) (split .rest)) (sheetOf bs) (pointOf n z) ≡ true
-    some-split g = rw (split .is) at g
+  -- no branch is left
+  pub none-sought : (p count : ℕ) → count < 1 → (spared : Choice) → Branch bs left z spared → Sought bs p left count z spared spared
+  unfolding together
+  none-sought p count l spared b = record {
+    branch = b;
+    itself = λ x es q n h m f none. refl;
+    another = λ x es q n h m f one. not-held (sym (empty es n m) ∙ one);
+  }
+    where
+      empty : (es : Exprs) (n : ℕ) → branchCount es ≡ count → branches es n ≡ Not
+      empty none n m = refl
+      empty (more e es) n m = absurd (omega arith)
 
-    -- it is taken where it holds
-    taken-first : holds (split .first) (sheetOf bs) (pointOf n z) ≡ true → Taken bs es q n z (record { at = p; rest = count - 1 })
-    taken-first g =
-        let x = split in
-        record {
-          tree = x .first;
-          end = x .middle;
-          others = x .rest;
-          at = x .before;
-          fitting = fit-first;
-          holding = g;
-          first = first-by true g;
-          after = x .after;
-          many = x .many;
-        }
+  module _ (p count : ℕ) (some : 1 ≤ count) (w : WalkAll bs p left count z) where
+    -- the first of the branches
+    abbrev this : Choice
+    this = record { at = p; rest = count - 1 }
 
-  pub takes-last : count < 2 → TakesOf bs p left count z (record { at = p; rest = 0 })
-  takes-last l =
-      let none : count - 1 ≡ 0 = omega arith in
-      let last : TakesOf bs p left count z (record { at = p; rest = count - 1 }) =
-      record {
-        says = λ es q n h m f g.
-            let x = split es q n h m f in
-            taken-first es q n h m f (only-holds (x .first) (x .rest) (sheetOf bs) (pointOf n z) (x .many ∙ none) (some-split es q n h m f g));
-        walk = walk-first bs p left count z some w;
-        after = λ r ends. walks-standing bs r left (count - 1) z (walk-rest bs p left count z some w r ends);
-        few = omega arith;
-      } in
-      rw none at last
-
-  module _ (first : Stood) (t : StandsAt bs p z first) where
-    held-first : (es : Exprs) (q n : ℕ) (h : AllAt es (varsOf bs) bs p q) (m : branchCount es ≡ count) (f : fitting-all es n) →
-        holds (split es q n h m f .first) (sheetOf bs) (pointOf n z) ≡ isHeld (first .how)
-    held-first es q n h m f =
-        let x = split es q n h m f in
-        sym (ap isHeld (t (x .first) (x .middle) n (x .before) (fit-first es q n h m f) .1) ∙ held-is (x .first) (sheetOf bs) (pointOf n z))
-
-    pub takes-first : isHeld (first .how) ≡ true → TakesOf bs p left count z (record { at = p; rest = count - 1 })
-    takes-first held = record {
-      says = λ es q n h m f g. taken-first es q n h m f (held-first es q n h m f ∙ held);
+    pub this-branch : count ≤ 64 → Branch bs left z this
+    this-branch few = record {
       walk = walk-first bs p left count z some w;
       after = λ r ends. walks-standing bs r left (count - 1) z (walk-rest bs p left count z some w r ends);
       few = omega arith;
     }
 
-    pub takes-rest : (c : Choice) → isHeld (first .how) ≡ false → TakesOf bs (first .next) left (count - 1) z c → TakesOf bs p left count z c
-    takes-rest c fails r = record {
-      says = λ es q n h m f g.
-          let x = split es q n h m f in
-          let lacks = held-first es q n h m f ∙ fails in
-          let next : first .next ≡ x .middle = t (x .first) (x .middle) n (x .before) (fit-first es q n h m f) .0 in
-          let later = later-holds (x .first) (x .rest) (sheetOf bs) (pointOf n z) lacks (some-split es q n h m f g) in
-          let y = r .says (x .rest) q n (rw next (x .after)) (x .many) (fit-rest es q n h m f) later in
-          record {
-            tree = y .tree;
-            end = y .end;
-            others = y .others;
-            at = y .at;
-            fitting = y .fitting;
-            holding = y .holding;
-            first = first-by es q n h m f false lacks ∙ y .first;
-            after = y .after;
-            many = y .many;
-          };
-      walk = r .walk;
-      after = r .after;
-      few = omega (arith, r .few);
-    }
+    module _ (es : Exprs) (q n : ℕ) (h : AllAt es (varsOf bs) bs p q) (m : branchCount es ≡ count) (f : allFit es (headsOf bs) n ≡ true) where
+      split : MoreAt es (varsOf bs) bs p q (count - 1)
+      split = one-more (varsOf bs) bs es p q count some h m
+
+      abbrev first : Expr
+      first = split .first
+
+      abbrev rest : Exprs
+      rest = split .rest
+
+      parts : fits first (headsOf bs) n && allFit rest (headsOf bs) n ≡ true
+      unfolding fits
+      parts = sym (ap (λ t. allFit t (headsOf bs) n) (split .is)) ∙ f
+
+      fit-first : fits first (headsOf bs) n ≡ true
+      fit-first = &&-left (fits first (headsOf bs) n) (allFit rest (headsOf bs) n) parts
+
+      fit-rest : allFit rest (headsOf bs) n ≡ true
+      fit-rest = &&-right (fits first (headsOf bs) n) (allFit rest (headsOf bs) n) parts
+
+      first-so : (how : Standing) → stands first n ≡ how → StandsSo bs p z how
+      first-so how e = record { tree = first; end = split .middle; dims = n; at = split .before; fitting = fit-first; so = e }
+
+      rest-at : (next : ℕ) → EndsAt (varsOf bs) bs p next → AllAt rest (varsOf bs) bs next q
+      rest-at next ends = rw (ends first (split .middle) (split .before)) (split .after)
+
+      joined-is : branches es n ≡ either (stands first n) (branches rest n)
+      unfolding together
+      joined-is = ap (λ t. branches t n) (split .is)
+
+      first-by : (b : Bool) → isHeld (stands first n) ≡ b →
+          firstHolding es (sheetOf bs) (pointOf n z) ≡ ifb b (λ _. Option.some first) (λ _. firstHolding rest (sheetOf bs) (pointOf n z))
+      unfolding firstHolding
+      first-by b e =
+          ap (λ t. firstHolding t (sheetOf bs) (pointOf n z)) (split .is)
+          ∙ ap (λ c. ifb c (λ _. Option.some first) (λ _. firstHolding rest (sheetOf bs) (pointOf n z)))
+          (sym (held-is first (sheetOf bs) (pointOf n z)) ∙ e)
+
+      -- it is taken where it holds
+      taken-first : stands first n ≡ Holds → Taken bs es q n z this
+      taken-first g = record {
+        tree = first;
+        end = split .middle;
+        others = rest;
+        at = split .before;
+        fitting = fit-first;
+        clear = g;
+        first = first-by true (ap isHeld g);
+        after = split .after;
+        many = split .many;
+      }
+
+      -- and else what is taken of the others
+      taken-rest : (c : Choice) → stands first n ≡ Not → Taken bs rest q n z c → Taken bs es q n z c
+      taken-rest c g y = record {
+        tree = y .tree;
+        end = y .end;
+        others = y .others;
+        at = y .at;
+        fitting = y .fitting;
+        clear = y .clear;
+        first = first-by false (ap isHeld g) ∙ y .first;
+        after = y .after;
+        many = y .many;
+      }
+
+      -- where one branch holds, and the first is spared from here on
+      pub taken-by : (next : ℕ) → EndsAt (varsOf bs) bs p next → (c : Choice) → Sought bs next left (count - 1) z this c →
+          branches es n ≡ Holds → Taken bs es q n z c
+      taken-by next ends c r g =
+          one-holds (stands first n) (branches rest n) (sym joined-is ∙ g)
+          (λ one none.
+          let same = r .itself (first-so Holds one) rest q n (rest-at next ends) (split .many) fit-rest none in
+          subst (Taken bs es q n z) (sym same) (taken-first one))
+          (λ not one. taken-rest c not (r .another (first-so Not not) rest q n (rest-at next ends) (split .many) fit-rest one))
+
+    module _ (spared : Choice) where
+      -- the spared one holds
+      pub spared-held : Branch bs left z spared → HoldsAt bs (spared .at) z true → Sought bs p left count z spared spared
+      spared-held b found = record {
+        branch = b;
+        itself = λ x es q n h m f none. refl;
+        another = λ x es q n h m f one. true-not-false refl (found-so bs (spared .at) z true Not found x);
+      }
+
+      -- the first of the others does
+      pub this-held : count ≤ 64 → HoldsAt bs p z true → Sought bs p left count z spared this
+      this-held few found = record {
+        branch = this-branch few;
+        itself = λ x es q n h m f none.
+            let not = neither-holds (stands (first es q n h m f) n) (branches (rest es q n h m f) n) (sym (joined-is es q n h m f) ∙ none) .0 in
+            true-not-false refl (found-so bs p z true Not found (first-so es q n h m f Not not));
+        another = λ x es q n h m f one.
+            one-holds (stands (first es q n h m f) n) (branches (rest es q n h m f) n) (sym (joined-is es q n h m f) ∙ one)
+            (λ held none. taken-first es q n h m f held)
+            (λ not held. true-not-false refl (found-so bs p z true Not found (first-so es q n h m f Not not)));
+      }
+
+      module _ (next : ℕ) (ends : EndsAt (varsOf bs) bs p next) (c : Choice) where
+        -- the spared one does not, and the first of the others is spared instead
+        pub spared-lacks : HoldsAt bs (spared .at) z false → Sought bs next left (count - 1) z this c → Sought bs p left count z spared c
+        spared-lacks found r = record {
+          branch = r .branch;
+          itself = λ x es q n h m f none. true-not-false (found-so bs (spared .at) z false Holds found x) refl;
+          another = λ x es q n h m f one. taken-by es q n h m f next ends c r one;
+        }
+
+        -- the first of the others does not
+        pub this-lacks : HoldsAt bs p z false → Sought bs next left (count - 1) z spared c → Sought bs p left count z spared c
+        this-lacks found r = record {
+          branch = r .branch;
+          itself = λ x es q n h m f none.
+              let no = neither-holds (stands (first es q n h m f) n) (branches (rest es q n h m f) n) (sym (joined-is es q n h m f) ∙ none) in
+              r .itself x (rest es q n h m f) q n (rest-at es q n h m f next ends) (split es q n h m f .many) (fit-rest es q n h m f) (no .1);
+          another = λ x es q n h m f one.
+              one-holds (stands (first es q n h m f) n) (branches (rest es q n h m f) n) (sym (joined-is es q n h m f) ∙ one)
+              (λ held none. true-not-false (found-so bs p z false Holds found (first-so es q n h m f Holds held)) refl)
+              (λ not held.
+              taken-rest es q n h m f c not
+              (r .another x (rest es q n h m f) q n (rest-at es q n h m f next ends) (split es q n h m f .many) (fit-rest es q n h m f) held));
+        }
 
 -- ---- a case
 
-module _ (bs : List ℕ) (p left count : ℕ) (z : List Int) (w : Walk bs p left z) (code : natAbs (field bs p) ≡ 6)
+module _ (bs : List ℕ) (p left count : ℕ) (z : List Int) (held : Held bs p left z) (code : natAbs (field bs p) ≡ 6)
     (many : count ≡ natAbs (field bs (p + 8))) where
+  abbrev w : Walk bs p left z
+  w = held .walk
+
   other : (c : ℕ) → (c ≡ 6 → ⊥) → natAbs (field bs p) ≡ c → ⊥
   other c ne e = ne (sym e ∙ code)
 
@@ -200,27 +273,28 @@ module _ (bs : List ℕ) (p left count : ℕ) (z : List Int) (w : Walk bs p left
   pub some-branch : 1 ≤ count
   some-branch = let x = case-at (w .tree) (w .end) (w .at) .many in omega (arith, x .low, counted-is x, many)
 
-  few-branches : count ≤ 64
+  pub few-branches : count ≤ 64
   few-branches = let x = case-at (w .tree) (w .end) (w .at) .many in omega (arith, x .high, counted-is x, many)
 
-  module _ (h : Held bs p z) (c : Choice) (r : TakesOf bs (p + 16) (left - 1) count z c) where
+  -- where its first branch is spared at first
+  module _ (next : ℕ) (ends : EndsAt (varsOf bs) bs (p + 16) next) (c : Choice)
+      (r : Sought bs next (left - 1) (count - 1) z (record { at = p + 16; rest = count - 1 }) c) where
     taken : (es : Exprs) (q n : ℕ) → At (kase es) (varsOf bs) bs p q → fits (kase es) (headsOf bs) n ≡ true → Taken bs es q n z c
     taken es q n a f =
-        r .says es q n (children-at (varsOf bs) bs p 16 count long counted (kase es) q a)
+        taken-by bs (left - 1) z (p + 16) count some-branch walk-branches es q n
+        (children-at (varsOf bs) bs p 16 count long counted (kase es) q a)
         (children-counted (varsOf bs) bs p 16 count long counted (kase es) q a)
-        (children-fit bs p (kase es) q n a (other 8 (λ e. omega arith)) f) (held-some (held-tree bs p z h (kase es) q n a f))
-      where
-        held-some : holds (kase es) (sheetOf bs) (pointOf n z) ≡ true → someHolds es (sheetOf bs) (pointOf n z) ≡ true
-        held-some g = unfold holds in g
+        (children-fit bs p (kase es) q n a (other 8 (λ e. omega arith)) f) next ends c r
+        (sym (branches-stand (sheetOf bs) (pointOf n z) es) ∙ held-tree bs p left z (kase es) q n a f held)
 
     pub chooses : Chooses bs p (left - 1) z c
     chooses =
-        let x = case-at (h .tree) (h .end) (h .at) in
-        let y = taken (x .branches) (h .end) (h .dims) (rw (x .is) at (h .at)) (rw (x .is) at (h .fitting)) in
+        let x = case-at (w .tree) (w .end) (w .at) in
+        let here : At (kase (x .branches)) (varsOf bs) bs p (w .end) = subst (λ t. At t (varsOf bs) bs p (w .end)) (x .is) (w .at) in
+        let y = taken (x .branches) (w .end) (w .dims) here (sym (ap (λ t. fits t (headsOf bs) (w .dims)) (x .is)) ∙ w .fitting) in
         record {
           says = taken;
-          walk = r .walk;
-          held = record { tree = y .tree; end = y .end; dims = h .dims; at = y .at; fitting = y .fitting; holding = y .holding };
-          after = r .after;
-          few = omega (arith, r .few, few-branches);
+          held = held-by bs (c .at) (left - 1) z (y .tree) (y .end) (w .dims) (y .at) (y .fitting) (r .branch .walk) (y .clear);
+          after = r .branch .after;
+          few = r .branch .few;
         }

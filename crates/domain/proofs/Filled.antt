@@ -30,12 +30,10 @@ use Rattle.laws.proofs.Heads.{DeclaredAt, declared-at, declared-next}
 use Rattle.laws.proofs.Boxes.{index-low, pointAt-index, inBox-small}
 use Rattle.laws.proofs.Elements.{before-suc}
 use Rattle.affine.specs.Value.{pointOf}
-use Rattle.affine.specs.Size.{Near}
 use Rattle.affine.proofs.Several.{lt-or-le}
-use Rattle.tree.specs.Prepared.{Prepared}
 use Rattle.tree.specs.Formed.{DeclaredRead, Formed}
 use Rattle.tree.proofs.Heading.{prepared-sections}
-use Rattle.domain.specs.Constraints.{constraintFields, Testable}
+use Rattle.domain.specs.Constraints.{constraintFields}
 use Rattle.domain.specs.Inside.{Inside, bit}
 use Rattle.domain.specs.Filling.{declaredMeets, DeclaredTestable, FilledBelow}
 use Rattle.domain.proofs.Restrictions.{constraint-is, constraint-testable}

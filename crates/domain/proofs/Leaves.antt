@@ -5,7 +5,7 @@ use Prim.Native.Nat.{ℕ, _+_, _<_}
 use native.Mathlib.Omega.{arith}
 use mathlib.Core.Bool.{Bool, true, false, _&&_}
 use mathlib.Core.List.{List}
-use lib.ListN.{length, getD}
+use lib.ListN.{getD}
 use Rattle.alpha.specs.declared.Int.{Int}
 use Rattle.alpha.specs.Pick.{ifb}
 use Rattle.alpha.specs.Sheet.{Range, Point, Expr.var}
@@ -20,8 +20,7 @@ use Rattle.sheet.specs.Record.{dimensionAt}
 use Rattle.points.specs.declared.Found.{Found}
 use Rattle.points.specs.declared.Found.the-variants.{At, Off}
 use Rattle.points.specs.Number.{boxOf, numberIn}
-use Rattle.domain.specs.declared.Standing.{Standing}
-use Rattle.domain.specs.declared.Standing.the-variants.{Not, Holds, Clash}
+use Rattle.domain.specs.declared.Standing.the-variants.{Not, Holds}
 use Rattle.domain.specs.Standing.{rated, standing}
 use Rattle.domain.specs.Inside.{Inside, bit}
 use Rattle.domain.proofs.Records.{VariableLaid}

@@ -4,11 +4,11 @@ use Prim.Native.Nat.{ℕ, zero, suc, _+_, _*_, _≤_, _<_}
 use native.Mathlib.Omega.{arith}
 use mathlib.Core.Bool.{true, _&&_}
 use mathlib.Core.List.{List, [], _∷_, _++_, map}
-use lib.ListN.{length, getD, take, length-map, List·getD-map}
-use lib.IntN.{ℤ, pos, negℤ, natAbs}
+use lib.ListN.{length, getD, length-map, List·getD-map}
+use lib.IntN.{ℤ, pos, negℤ}
 use lib.Signed.{leZ}
 use Rattle.alpha.specs.Field.{field}
-use Rattle.alpha.specs.Sheet.{Head, Range, Variable, Sheet}
+use Rattle.alpha.specs.Sheet.{Head, Range, Sheet}
 use Rattle.alpha.specs.Box.{within, size}
 use Rattle.alpha.specs.Read.{noHead, dimension}
 use Rattle.alpha.specs.Holds.{noVariable, variable}
@@ -23,7 +23,7 @@ use Rattle.laws.proofs.Order.{leZ-trans}
 use Rattle.laws.proofs.Heads.{RangeAt, HeadAt, head-at, head-range, head-box}
 use Rattle.laws.proofs.Bodies.{BodiesRead, bodies-read}
 use Rattle.laws.proofs.Elements.{before-suc, before-fits}
-use Rattle.sheet.specs.Record.{boxAt, dimensionAt, Ranges, Recorded}
+use Rattle.sheet.specs.Record.{boxAt, dimensionAt, Recorded}
 use Rattle.sheet.specs.Record as Record
 use Rattle.points.specs.Number.{boxOf}
 use Rattle.tree.proofs.Heading.{prepared-sections, prepared-few}

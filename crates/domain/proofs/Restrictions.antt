@@ -1,9 +1,9 @@
 -- A restriction's constraints are what its fields say, and may be tested at any point that the walk may be at. Assumes nothing.
 use mathlib.Core.Path.{_≡_, refl, sym, ap, _∙_, subst}
-use Prim.Native.Nat.{ℕ, zero, suc, _+_, _-_, _*_, _^_, _≤_, _<_}
+use Prim.Native.Nat.{ℕ, suc, _+_, _-_, _*_, _^_, _≤_, _<_}
 use native.Mathlib.Omega.{arith}
 use native.Mathlib.Nat.{suc-mul}
-use mathlib.Core.Bool.{Bool, true, false, _&&_}
+use mathlib.Core.Bool.{true, false, _&&_}
 use mathlib.Core.List.{List, [], _∷_}
 use lib.ListN.{length, getD}
 use lib.IntN.{natAbs}
@@ -11,9 +11,8 @@ use lib.Dec.{leb, eqb}
 use borrow.Author.Tests.{leb-true, eqb-true}
 use Rattle.alpha.specs.declared.Int.{Int}
 use Rattle.alpha.specs.Field.{field}
-use Rattle.alpha.specs.Sheet.{Relation, Row, Constraint, Expr, Expr.restr, Point}
+use Rattle.alpha.specs.Sheet.{Relation, Row, Constraint, Point}
 use Rattle.alpha.specs.Affine.{meets, meetsAll}
-use Rattle.alpha.specs.Read.{relationOf}
 use Rattle.alpha.specs.Shape.{fits}
 use Rattle.alpha.specs.Reach.{limit, rowReach, allReach, reach}
 use Rattle.alpha.specs.Written.{nodeCount}

@@ -1,11 +1,10 @@
 -- How the standing of a tree follows from its children's: by its node where there are none, together where it is an operator, an if or a
 -- case, as the child where a restriction's constraints hold, and as the child at the image for a dependence. Assumes nothing.
 use mathlib.Core.Path.{_≡_, refl, sym, ap, _∙_}
-use Prim.Native.Nat.{ℕ, _≤_, _<_}
+use Prim.Native.Nat.{ℕ, _≤_}
 use native.Mathlib.Omega.{arith}
 use mathlib.Core.Bool.{Bool, true, false, _&&_, _||_}
 use mathlib.Core.List.{List}
-use Rattle.alpha.specs.Pick.{ifb}
 use Rattle.alpha.specs.Sheet.{Constraint, Map, Expr, Exprs, Sheet, Point}
 use Rattle.alpha.specs.Sheet.{Expr.var, Expr.int, Expr.boo, Expr.un, Expr.bin, Expr.ite, Expr.kase, Expr.restr, Expr.dep, Exprs.none, Exprs.more}
 use Rattle.alpha.specs.Affine.{meetsAll, image}

@@ -1,40 +1,40 @@
 -- What a walk at a point knows at a node, and that it may go on at the children: at the same point, or at the image below a dependence;
 -- and that no sum of a constraint or of an image leaves an i64. Assumes nothing.
 use mathlib.Core.Path.{_≡_, refl, sym, ap, _∙_}
-use Prim.Native.Nat.{ℕ, suc, _+_, _-_, _*_, _^_, _≤_, _<_}
+use Prim.Native.Nat.{ℕ, suc, _+_, _-_, _≤_}
 use native.Mathlib.Omega.{arith}
-use mathlib.Core.Bool.{Bool, true, false, _&&_}
-use mathlib.Core.List.{List, [], _∷_}
-use lib.ListN.{length, getD}
-use lib.IntN.{ℤ, pos, natAbs}
+use mathlib.Core.Bool.{true, _&&_}
+use mathlib.Core.List.{List}
+use lib.ListN.{length}
+use lib.IntN.{pos, natAbs}
 use lib.Dec.{leb, eqb}
 use borrow.Author.Tests.{leb-true, eqb-true}
 use Rattle.alpha.specs.declared.Int.{Int}
 use Rattle.alpha.specs.Field.{field}
-use Rattle.alpha.specs.Sheet.{Node, Expr, Exprs, Point}
-use Rattle.alpha.specs.Sheet.{Expr.var, Expr.int, Expr.boo, Expr.un, Expr.bin, Expr.ite, Expr.kase, Expr.restr, Expr.dep, Exprs.none, Exprs.more}
+use Rattle.alpha.specs.Sheet.{Node, Expr}
+use Rattle.alpha.specs.Sheet.{Expr.var, Expr.int, Expr.boo, Expr.un, Expr.bin, Expr.ite, Expr.kase, Expr.restr, Expr.dep}
 use Rattle.alpha.specs.Affine.{image}
 use Rattle.alpha.specs.Read.{got, node}
 use Rattle.alpha.specs.Shape.{fits, allFit}
-use Rattle.alpha.specs.Reach.{limit, mapReach, allReach, reach, reachAll}
-use Rattle.alpha.specs.Written.{branchCount, nodeCount, nodeCounts}
-use Rattle.laws.specs.At.{nodeOf, codeNumber, nodeLen, At, AllAt}
+use Rattle.alpha.specs.Reach.{limit, mapReach, reach, reachAll}
+use Rattle.alpha.specs.Written.{nodeCount, nodeCounts}
+use Rattle.laws.specs.At.{nodeOf, codeNumber, nodeLen, At}
 use Rattle.laws.specs.Children.{childrenOf, arity, fitsHere, wanted, reachHere, reachBelow}
 use Rattle.laws.specs.Sheets.{headsOf, varsOf}
 use Rattle.laws.proofs.Tests.{&&-left, &&-right}
-use Rattle.laws.proofs.Shapes.{code-high, at-code, at-dep, at-restr, DepAt, RestrAt, MoreAt}
+use Rattle.laws.proofs.Shapes.{code-high, at-code, at-dep, DepAt, MoreAt}
 use Rattle.laws.proofs.Children.{children-count, fits-children, reach-children}
 use Rattle.laws.proofs.NormalReach.{mapReach-pos}
 use Rattle.affine.specs.declared.Map.{Map}
 use Rattle.affine.specs.Value.{pointOf, mapOf, Padded}
-use Rattle.affine.specs.Size.{Near, Fit}
+use Rattle.affine.specs.Size.{Fit}
 use Rattle.affine.specs.Reading.{MapRead, MapThere}
 use Rattle.affine.proofs.Meaning.{height-length, width-cols}
 use Rattle.affine.proofs.Fetched.{map-there}
 use Rattle.affine.proofs.Bounds.{image-near, map-fits}
 use Rattle.tree.specs.Standing.{Standing, StandingAll}
 use Rattle.tree.proofs.Standings.{children-at, children-counted, one-more}
-use Rattle.domain.specs.Walk.{Ends, Bounded, Walk, WalkAll}
+use Rattle.domain.specs.Walk.{Ends, Walk, WalkAll}
 
 -- only a dependence changes the point for its children
 pub same-below : (e : Expr) (n r : ℕ) → (codeNumber e ≡ 8 → ⊥) → (wanted (nodeOf e) n ≡ n) × (reachBelow (nodeOf e) r ≡ r)
@@ -75,7 +75,7 @@ module _ (bs : List ℕ) where
 
     module _ (k n : ℕ) (long : k ≡ nodeLen bs p) (many : (nd : Node) (q : ℕ) → node (varsOf bs) bs p ≡ got nd q → n ≡ arity nd) where
       -- at the same point
-      pub walk-children : (natAbs (field bs p) ≡ 8 → ⊥) → WalkAll bs (p + k) (left - 1) n z
+      unfoldable pub walk-children : (natAbs (field bs p) ≡ 8 → ⊥) → WalkAll bs (p + k) (left - 1) n z
       walk-children c =
           let e = h .tree in
           let same = same-below e (h .dims) (h .bound) (λ x. c (tree-code p e (h .end) (h .at) ∙ x)) in
@@ -165,48 +165,48 @@ module _ (bs : List ℕ) where
   walks-standing p left n z h = record { trees = h .trees; end = h .end; at = h .at; few = h .few; many = h .many }
 
   module _ (p left n : ℕ) (z : List Int) (some : 1 ≤ n) (h : WalkAll bs p left n z) where
-    split : MoreAt (h .trees) (varsOf bs) bs p (h .end) (n - 1)
-    split = one-more (varsOf bs) bs (h .trees) p (h .end) n some (h .at) (h .many)
+    pub walks-split : MoreAt (h .trees) (varsOf bs) bs p (h .end) (n - 1)
+    walks-split = one-more (varsOf bs) bs (h .trees) p (h .end) n some (h .at) (h .many)
 
-    count-all : nodeCounts (h .trees) ≡ nodeCount (split .first) + nodeCounts (split .rest)
+    pub count-all : nodeCounts (h .trees) ≡ nodeCount (walks-split .first) + nodeCounts (walks-split .rest)
     unfolding nodeCounts
-    count-all = ap nodeCounts (split .is)
+    count-all = ap nodeCounts (walks-split .is)
 
-    fit-all : fits (split .first) (headsOf bs) (h .dims) && allFit (split .rest) (headsOf bs) (h .dims) ≡ true
+    pub fit-all : fits (walks-split .first) (headsOf bs) (h .dims) && allFit (walks-split .rest) (headsOf bs) (h .dims) ≡ true
     unfolding allFit
-    fit-all = rw (split .is) at (h .fitting)
+    fit-all = rw (walks-split .is) at (h .fitting)
 
-    reach-all : reach (split .first) (h .bound) && reachAll (split .rest) (h .bound) ≡ true
+    pub reach-all : reach (walks-split .first) (h .bound) && reachAll (walks-split .rest) (h .bound) ≡ true
     unfolding reachAll
-    reach-all = rw (split .is) at (h .reaches)
+    reach-all = rw (walks-split .is) at (h .reaches)
 
-    fit-first : fits (split .first) (headsOf bs) (h .dims) ≡ true
-    fit-first = &&-left (fits (split .first) (headsOf bs) (h .dims)) (allFit (split .rest) (headsOf bs) (h .dims)) fit-all
+    pub fit-first : fits (walks-split .first) (headsOf bs) (h .dims) ≡ true
+    fit-first = &&-left (fits (walks-split .first) (headsOf bs) (h .dims)) (allFit (walks-split .rest) (headsOf bs) (h .dims)) fit-all
 
-    pub walk-first : Walk bs p left z
+    unfoldable pub walk-first : Walk bs p left z
     walk-first = record {
-      tree = split .first;
-      end = split .middle;
+      tree = walks-split .first;
+      end = walks-split .middle;
       dims = h .dims;
       bound = h .bound;
-      at = split .before;
+      at = walks-split .before;
       few = omega (arith, count-all, h .few);
       fitting = fit-first;
-      reaches = &&-left (reach (split .first) (h .bound)) (reachAll (split .rest) (h .bound)) reach-all;
+      reaches = &&-left (reach (walks-split .first) (h .bound)) (reachAll (walks-split .rest) (h .bound)) reach-all;
       point = h .point;
     }
 
     -- the others, from where the first ends
-    pub walk-rest : (r : ℕ) → Ends bs p r → WalkAll bs r left (n - 1) z
+    unfoldable pub walk-rest : (r : ℕ) → Ends bs p r → WalkAll bs r left (n - 1) z
     walk-rest r ends = record {
-      trees = split .rest;
+      trees = walks-split .rest;
       end = h .end;
       dims = h .dims;
       bound = h .bound;
-      at = rw (ends (split .first) (split .middle) (h .dims) (split .before) fit-first) (split .after);
+      at = rw (ends (walks-split .first) (walks-split .middle) (h .dims) (walks-split .before) fit-first) (walks-split .after);
       few = omega (arith, count-all, h .few);
-      many = split .many;
-      fitting = &&-right (fits (split .first) (headsOf bs) (h .dims)) (allFit (split .rest) (headsOf bs) (h .dims)) fit-all;
-      reaches = &&-right (reach (split .first) (h .bound)) (reachAll (split .rest) (h .bound)) reach-all;
+      many = walks-split .many;
+      fitting = &&-right (fits (walks-split .first) (headsOf bs) (h .dims)) (allFit (walks-split .rest) (headsOf bs) (h .dims)) fit-all;
+      reaches = &&-right (reach (walks-split .first) (h .bound)) (reachAll (walks-split .rest) (h .bound)) reach-all;
       point = h .point;
     }

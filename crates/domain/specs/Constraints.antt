@@ -1,6 +1,5 @@
 -- Constraints by their places: what the fields from a place on say, and that they can be tested at a point with no sum leaving an i64.
 -- Assumes nothing.
-use mathlib.Core.Path.{_≡_}
 use Prim.Native.Nat.{ℕ, zero, suc, _+_, _*_, _^_, _≤_, _<_}
 use mathlib.Core.Bool.{Bool}
 use mathlib.Core.List.{List, [], _∷_}

@@ -15,7 +15,7 @@ use Rattle.laws.specs.Sheets.{headsOf, varsOf}
 use Rattle.affine.specs.Value.{pointOf, Padded}
 use Rattle.affine.specs.Size.{Near}
 
--- r is where every tree at p ends
+-- r is where every tree at p that has a dimension ends
 abbrev pub Ends : List ℕ → ℕ → ℕ → Type 0
 Ends bs p r = (e : Expr) (q n : ℕ) → At e (varsOf bs) bs p q → fits e (headsOf bs) n ≡ true → r ≡ q
 

@@ -1,13 +1,11 @@
 -- What an answer says of a thing, from what the answers to its parts say. Assumes nothing.
-use mathlib.Core.Path.{_≡_, refl, sym, ap, _∙_, subst}
-use Prim.Native.Nat.{ℕ, zero, suc, _+_, _≤_, _<_}
-use native.Mathlib.Nat.{le-refl, le-trans}
+use mathlib.Core.Path.{_≡_, refl, sym, ap, _∙_}
+use Prim.Native.Nat.{ℕ, _+_, _≤_}
 use native.Mathlib.Omega.{arith}
 use lib.IntN.{ℤ}
 use Rattle.alpha.specs.Outcome.{Outcome, outside, value, divzero, overflow, loop, andThen}
 use Rattle.alpha.specs.declared.Int.{Int}
 use Rattle.laws.specs.Under.{Under}
-use Rattle.laws.proofs.Growth.{under-refl, under-loop}
 use Rattle.evaluate.specs.declared.Work.{Work}
 use Rattle.evaluate.specs.declared.Work.the-variants.{Outside, Value, DivZero, Overflow, Loop, Deep}
 use Rattle.evaluate.specs.Memo.{Thing, Elements, Grows, Says}

@@ -1,24 +1,22 @@
 -- Things that are worked out one after another, for every input list: nothing to do, another thing first, a thing that is handed back.
 -- Assumes nothing.
-use mathlib.Core.Path.{_≡_, refl, sym, ap, _∙_, subst}
-use Prim.Native.Nat.{ℕ, zero, suc, _+_, _≤_, _<_}
+use mathlib.Core.Path.{_≡_, refl, sym, ap, _∙_}
+use Prim.Native.Nat.{ℕ}
 use native.Mathlib.Omega.{arith}
 use mathlib.Core.List.{List}
-use lib.ListN.{length, getD}
 use lib.IntN.{ℤ}
 use Rattle.alpha.specs.declared.Int.{Int}
 use Rattle.alpha.specs.declared.Outcome as Outcomes
 use Rattle.alpha.specs.declared.Outcome.the-variants as Declared
 use Rattle.alpha.specs.Sheet.{Expr, Sheet, Point}
 use Rattle.alpha.specs.Check.{total}
-use Rattle.alpha.specs.Outcome.{Outcome, outside, value, divzero, overflow, loop, andThen}
-use Rattle.alpha.specs.Verdict.{outcomeOf}
+use Rattle.alpha.specs.Outcome.{Outcome, outside, value, loop, andThen}
 use Rattle.laws.proofs.Growth.{outcome-under, eval-grows}
 use Rattle.integer.specs.Range as Range
 use Rattle.integer.specs.Range.{In32}
 use Rattle.evaluate.specs.declared.Work.{Work}
-use Rattle.evaluate.specs.declared.Work.the-variants.{Outside, Value, DivZero, Overflow, Loop, Deep}
-use Rattle.evaluate.specs.Memo.{Thing, Grows, element, Memo, count, Sized, Right, Waits, Says, Said, Kept, Wanted, Small}
+use Rattle.evaluate.specs.declared.Work.the-variants.{Outside, Value, DivZero, Overflow, Loop}
+use Rattle.evaluate.specs.Memo.{Thing, Grows, element, Memo, count, Sized, Waits, Says, Kept}
 use Rattle.evaluate.specs.Working.{workOf, elementAt, outcomes, expression, Ready, Done}
 use Rattle.evaluate.proofs.Answers.{says-same, says-next, says-first, never}
 use Rattle.evaluate.proofs.Stores.{kept-same, kept-two, waits-sub, waits-kept}

@@ -4,36 +4,33 @@ use mathlib.Core.Path.{_≡_, refl, sym, ap, _∙_, subst}
 use Prim.Native.Nat.{ℕ, zero, suc, _+_, _-_, _≤_, _<_}
 use native.Mathlib.Decide.{ℕ-discrete}
 use native.Mathlib.Omega.{arith}
-use mathlib.Core.Bool.{Bool, true, false, _&&_}
-use mathlib.Core.List.{List, [], _∷_}
+use mathlib.Core.Bool.{true, false, _&&_}
+use mathlib.Core.List.{List, []}
 use lib.ListN.{length, getD, length-set}
 use lib.IntN.{ℤ, pos, natAbs}
-use lib.Dec.{eqb}
 use borrow.Author.Tests.{eqb-true}
 use Rattle.alpha.specs.declared.Int.{Int}
 use Rattle.alpha.specs.Field.{field}
 use Rattle.alpha.specs.Sheet.{Expr, Expr.var, Sheet, Point, Range}
 use Rattle.alpha.specs.Affine.{meetsAll}
-use Rattle.alpha.specs.Box.{size, inBox, index, pointAt}
+use Rattle.alpha.specs.Box.{inBox, index, pointAt}
 use Rattle.alpha.specs.Read.{dimension}
 use Rattle.alpha.specs.Shape.{fits}
 use Rattle.alpha.specs.Holds.{variable, isInput, inDomain}
-use Rattle.alpha.specs.Check.{Element, elements, total}
-use Rattle.alpha.specs.Outcome.{Outcome, outside, value, divzero, overflow, loop, eval, outcome}
-use Rattle.alpha.specs.Ask.{numberOf}
+use Rattle.alpha.specs.Check.{total}
+use Rattle.alpha.specs.Outcome.{outside, value, loop, eval, outcome}
 use Rattle.laws.specs.At.{At}
-use Rattle.laws.specs.Coded.{decoded}
 use Rattle.laws.specs.Sheets.{headsOf, varsOf, sheetOf}
 use Rattle.laws.proofs.Boxes.{index-low, pointAt-index}
 use Rattle.laws.proofs.Elements.{number-low, element-of-number}
 use Rattle.laws.proofs.Growth.{outcome-outside, outcome-none, outcome-body}
 use Rattle.laws.proofs.Readers.{counted-is}
-use Rattle.laws.proofs.Shapes.{VarAt, at-var, var-known}
+use Rattle.laws.proofs.Shapes.{at-var, var-known}
 use Rattle.affine.specs.Value.{pointOf, Padded}
 use Rattle.sheet.specs.Record.{dimensionAt}
 use Rattle.points.specs.declared.Found.{Found}
 use Rattle.points.specs.declared.Found.the-variants as Found
-use Rattle.points.specs.Number.{boxOf, numberIn, PointAt}
+use Rattle.points.specs.Number.{boxOf, numberIn}
 use Rattle.tree.specs.Formed.{Formed}
 use Rattle.domain.specs.Walk.{Walk}
 use Rattle.domain.specs.Held.{Held}
@@ -41,12 +38,13 @@ use Rattle.domain.proofs.Walks.{code-field}
 use Rattle.domain.proofs.Records.{VariableLaid, laid-variable}
 use Rattle.domain.proofs.Leaves.{Numbered, at-numbered, off-outside, number-is}
 use Rattle.domain.proofs.Bodying.{body-walk}
+use Rattle.domain.proofs.Carried.{held-by}
 use Rattle.evaluate.specs.declared.Work.{Work}
-use Rattle.evaluate.specs.declared.Work.the-variants.{Outside, Value, DivZero, Overflow, Loop, Deep}
+use Rattle.evaluate.specs.declared.Work.the-variants.{Outside, Deep}
 use Rattle.evaluate.specs.declared.Worked.{Worked}
-use Rattle.evaluate.specs.Memo.{busy, unknown, Thing, element, Memo, codeAt, valueAt, count, Right, Waits, Says, Said, Kept, Wanted, Small}
+use Rattle.evaluate.specs.Memo.{busy, unknown, element, Memo, codeAt, valueAt, count, Right, Waits, Says, Wanted, Small}
 use Rattle.evaluate.specs.Memo.{noted, codeOf, valueOf}
-use Rattle.evaluate.specs.Working.{entryOf, elementAt, outcomes, expression, Bodied, Ready, Done, ElementIs, Evaluated, EvaluatesAt}
+use Rattle.evaluate.specs.Working.{entryOf, elementAt, outcomes, expression, Bodied, Ready, Done, ElementIs, EvaluatesAt}
 use Rattle.evaluate.specs.Settling.{bodyOf}
 use Rattle.evaluate.proofs.Stores.{decide, code-same, code-other, kept-same, kept-stored, still-busy, in-last, wanted-stored, sized-noted}
 use Rattle.evaluate.proofs.Stores.{sized-kept, busy-loops, right-mark, waits-mark, said-stored}
@@ -91,7 +89,7 @@ module _ (bs tab : List ℕ) (F : Formed bs tab) (v e : ℕ) (z : List Int) (I :
     pub steps : (ins : List ℤ) (k : ℕ) → outcomes sheet ins (suc k) e ≡ expression sheet ins (variable sheet v .body) point k
     steps ins k = outcome-is ins (suc k) ∙ outcome-body sheet ins v point (bodied .domain) (bodied .no-input) k
 
-    pub element-walk : (place : ℕ) → place ≡ getD tab (69 + v) 0 → Walk bs place 2048 z
+    element-walk : (place : ℕ) → place ≡ getD tab (69 + v) 0 → Walk bs place 2048 z
     element-walk place is =
         body-walk bs tab v (index box point) laid (index-low box point (I .in-box)) F (I .known) no-input z
         (record {
@@ -112,15 +110,10 @@ module _ (bs tab : List ℕ) (F : Formed bs tab) (v e : ℕ) (z : List Int) (I :
           let wide : length box ≡ dimension (headsOf bs) v = ap (λ x. length (x .box)) (laid .head-is) in
           rw wide at (F .placed .body v (I .known) no-input .fitting)
 
-      pub element-held : Held bs place z
-      element-held = record {
-        tree = variable sheet v .body;
-        end = variable sheet v .end;
-        dims = dimension (headsOf bs) v;
-        at = body-at;
-        fitting = body-fits;
-        holding = bodied .holding;
-      }
+      pub element-held : Held bs place 2048 z
+      element-held =
+          held-by bs place 2048 z (variable sheet v .body) (variable sheet v .end) (dimension (headsOf bs) v) body-at body-fits
+          (element-walk place place-is) (bodied .clear)
 
       pub body-evaluated : (memo last : Memo) (r : Worked) → EvaluatesAt bs place z memo last r →
           Done sheet memo last (λ ins. expression sheet ins (variable sheet v .body) point) (r .out)
@@ -204,10 +197,7 @@ module _ (bs tab : List ℕ) (F : Formed bs tab) (v e : ℕ) (z : List Int) (I :
             (λ other. M .opens m h (rw (code-other memo e busy (pos 0) m other) at u));
       }
 
-      pub walk-body : (place : ℕ) → place ≡ getD tab (69 + v) 0 → Walk bs place 2048 z
-      walk-body place is = element-walk open-body place is
-
-      pub held-body : (place : ℕ) → place ≡ getD tab (69 + v) 0 → Held bs place z
+      pub held-body : (place : ℕ) → place ≡ getD tab (69 + v) 0 → Held bs place 2048 z
       held-body place is = element-held open-body place is
 
       -- that is worked out by its body

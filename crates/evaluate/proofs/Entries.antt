@@ -1,11 +1,10 @@
 -- Entries of the memo and what they say. Assumes nothing.
 use mathlib.Core.Path.{_≡_, refl, sym, ap, _∙_}
-use Prim.Native.Nat.{ℕ, zero, suc, _<_}
+use Prim.Native.Nat.{ℕ, zero, suc}
 use native.Mathlib.Omega.{arith}
 use mathlib.Core.List.{List, [], _∷_}
 use lib.ListN.{set}
 use lib.IntN.{ℤ, pos}
-use lib.Signed.{mag}
 use types.Run.{OneOf, miss}
 use denote.Enum.Declared.{tagOf}
 use mir.Syntax.{w32}
@@ -15,7 +14,7 @@ use Rattle.alpha.specs.declared.Int.{Int}
 use Rattle.integer.specs.Range.{In32}
 use Rattle.evaluate.specs.declared.Work.{Work}
 use Rattle.evaluate.proofs.Work.{the-type}
-use Rattle.evaluate.specs.declared.Work.the-variants.{Outside, Value, DivZero, Overflow, Loop, Deep}
+use Rattle.evaluate.specs.declared.Work.the-variants.{Value, Loop, Deep}
 use Rattle.evaluate.specs.Memo.{Memo, Small, valueOf, noted}
 use Rattle.evaluate.specs.Working.{entryOf, memoOf}
 

@@ -1,4 +1,4 @@
--- Below a restriction or a dependence: the child may be walked at its own point, it holds there, and what is worked out of it is what
+-- Below a restriction or a dependence: the child may be walked at its own point and holds there, and what is worked out of it is what
 -- its parent gives. Assumes nothing.
 use mathlib.Core.Path.{_≡_, refl, subst, sym}
 use mathlib.Core.Logic.{⊎-elim}
@@ -15,8 +15,7 @@ use Rattle.affine.specs.Size.{Fit}
 use Rattle.affine.specs.Reading.{MapThere, MapRead, ImageAt}
 use Rattle.domain.specs.Walk.{Walk}
 use Rattle.domain.specs.Held.{Held}
-use Rattle.domain.proofs.Walks.{walk-seven, walk-image, map-stands, image-fits}
-use Rattle.domain.proofs.Restrictions.{restriction-walk}
+use Rattle.domain.proofs.Walks.{walk-seven, map-stands, image-fits}
 use Rattle.domain.proofs.Carried.{held-restricted, held-image}
 use Rattle.evaluate.specs.declared.Worked.{Worked}
 use Rattle.evaluate.specs.Memo.{Memo}
@@ -24,7 +23,10 @@ use Rattle.evaluate.specs.Working.{Lowered, EvaluatesAt}
 use Rattle.evaluate.proofs.Operands.{there}
 use Rattle.evaluate.proofs.Ways.{restriction-way, image-way}
 
-module _ (bs : List ℕ) (p left : ℕ) (z : List Int) (w : Walk bs p left z) (high : 6 < natAbs (field bs p)) where
+module _ (bs : List ℕ) (p left : ℕ) (z : List Int) (h : Held bs p left z) (high : 6 < natAbs (field bs p)) where
+  abbrev w : Walk bs p left z
+  w = h .walk
+
   abbrev Code : ℕ → Type 0
   Code c = natAbs (field bs p) ≡ c
 
@@ -45,16 +47,11 @@ module _ (bs : List ℕ) (p left : ℕ) (z : List Int) (w : Walk bs p left z) (h
         (λ h. subst P (sym (h .1)) (seven (walk-seven bs p left z w (omega arith) (h .0))))
         low
 
-    pub lowered-walk : Walk bs (p + k) (left - 1) y
-    lowered-walk =
-        subst (λ i. Walk bs (p + i) (left - 1) y) (sym long)
-        (by-code (λ x. Walk bs (p + nodeLen bs p) (left - 1) x) (λ c. restriction-walk bs p left z w c)
-        λ c i. walk-image bs p left z w c (i .map) (i .read) y (i .is) (i .rest))
-
-    pub lowered-held : Held bs p z → Held bs (p + k) y
-    lowered-held h =
-        subst (λ i. Held bs (p + i) y) (sym long)
-        (by-code (λ x. Held bs (p + nodeLen bs p) x) (λ c. held-restricted bs p z h c) λ c i. held-image bs p z h c (i .map) (i .read) y (i .is))
+    pub lowered-held : Held bs (p + k) (left - 1) y
+    lowered-held =
+        subst (λ i. Held bs (p + i) (left - 1) y) (sym long)
+        (by-code (λ x. Held bs (p + nodeLen bs p) (left - 1) x) (λ c. held-restricted bs p left z h c)
+        λ c i. held-image bs p left z h c (i .map) (i .read) y (i .is) (i .rest))
 
     pub lowered-way : (memo last : Memo) (r : Worked) → EvaluatesAt bs (p + k) y memo last r → EvaluatesAt bs p z memo last r
     lowered-way memo last r =

@@ -10,18 +10,17 @@ use Rattle.alpha.specs.declared.Int.{Int}
 use Rattle.alpha.specs.Field.{field}
 use Rattle.alpha.specs.Sheet.{Node}
 use Rattle.alpha.specs.Read.{got, node}
-use Rattle.laws.specs.At.{nodeLen, At}
 use Rattle.laws.specs.Children.{arity}
 use Rattle.laws.specs.Sheets.{varsOf, sheetOf}
-use Rattle.laws.proofs.Shapes.{code-high, at-un, at-bin}
+use Rattle.laws.proofs.Shapes.{at-un, at-bin}
 use Rattle.tree.specs.Standing.{Noded}
 use Rattle.tree.specs.Formed.{Formed}
 use Rattle.tree.proofs.Noding.{length-if, length-other, second-there, arity-one-is, arity-two-is, arity-three-is}
 use Rattle.tree.proofs.Heading.{prepared-sections}
 use Rattle.tree.proofs.Standings.{standing-noded, standing-some}
-use Rattle.domain.specs.Walk.{Ends, Walk, WalkAll}
+use Rattle.domain.specs.Walk.{Ends, Walk}
 use Rattle.domain.specs.Held.{Held, HeldAll}
-use Rattle.domain.proofs.Walks.{tree-code, code-field, walk-standing, walk-children, walk-first, walk-rest}
+use Rattle.domain.proofs.Walks.{code-field, walk-standing}
 use Rattle.domain.proofs.Carried.{held-operands, held-first, held-rest}
 use Rattle.integer.specs.Range.{In32}
 use Rattle.affine.specs.Value.{pointOf}
@@ -58,94 +57,59 @@ module _ (bs : List ℕ) (p left : ℕ) (z : List Int) (w : Walk bs p left z) wh
     pub there : (code ≡ 5 → ⊥) → p + 16 ≤ length bs
     there ne = second-there (varsOf bs) bs p walk-noded (other 5 ne)
 
-  -- the operands of an operator, n of them, stand after its two fields
-  module _ (n : ℕ) (low : 3 ≤ natAbs (field bs p)) (high : natAbs (field bs p) ≤ 4)
-      (many : (nd : Node) (q : ℕ) → node (varsOf bs) bs p ≡ got nd q → n ≡ arity nd) where
-    long-operator : 16 ≡ nodeLen bs p
-    long-operator = length-other (varsOf bs) bs p walk-noded (λ e. omega arith) (λ e. omega arith) (λ e. omega arith)
+  pub one-few : natAbs (field bs p) ≡ 3 → natAbs (field bs (p + 8)) ≤ 1
+  one-few is = at-un (varsOf bs) bs (w .tree) p (w .end) (w .at) (code-field bs p (w .tree) (w .end) 3 (w .at) is) .chosen .high
 
-    operands-walk : WalkAll bs (p + 16) (left - 1) n z
-    operands-walk = walk-children bs p left z w 16 n long-operator many (λ e. omega arith)
+  pub two-few : natAbs (field bs p) ≡ 4 → natAbs (field bs (p + 8)) ≤ 15
+  two-few is = at-bin (varsOf bs) bs (w .tree) p (w .end) (w .at) (code-field bs p (w .tree) (w .end) 4 (w .at) is) .chosen .high
 
-    operands-held : Held bs p z → HeldAll bs (p + 16) n z
-    operands-held h = held-operands bs p z h 16 n long-operator many (omega arith) (omega arith)
+-- ---- the operands
 
-  module _ (is : natAbs (field bs p) ≡ 3) where
-    pub one-few : natAbs (field bs (p + 8)) ≤ 1
-    one-few = at-un (varsOf bs) bs (w .tree) p (w .end) (w .at) (code-field bs p (w .tree) (w .end) 3 (w .at) is) .chosen .high
+module _ (bs : List ℕ) (p left : ℕ) (z : List Int) (h : Held bs p left z) where
+  here : Noded (varsOf bs) bs p
+  here = walk-noded bs p left z (h .walk)
 
-    one-many : (nd : Node) (q : ℕ) → node (varsOf bs) bs p ≡ got nd q → 1 ≡ arity nd
-    one-many nd q read = arity-one-is (varsOf bs) bs p nd q read (omega (arith, is)) (λ e. omega arith) (λ e. omega arith) (λ e. omega arith)
+  -- those of an operator, n of them, stand after its two fields
+  operands : (n : ℕ) → 3 ≤ natAbs (field bs p) → natAbs (field bs p) ≤ 4 →
+      ((nd : Node) (q : ℕ) → node (varsOf bs) bs p ≡ got nd q → n ≡ arity nd) → HeldAll bs (p + 16) (left - 1) n z
+  operands n low high many =
+      held-operands bs p left z h 16 n (length-other (varsOf bs) bs p here (λ e. omega arith) (λ e. omega arith) (λ e. omega arith)) many (omega arith)
+      (omega arith)
 
-    pub one-walk : Walk bs (p + 16) (left - 1) z
-    one-walk = walk-first bs (p + 16) (left - 1) 1 z (omega arith) (operands-walk 1 (omega arith) (omega arith) one-many)
-
-    pub one-held : Held bs p z → Held bs (p + 16) z
-    one-held h = held-first bs (p + 16) 1 z (omega arith) (operands-held 1 (omega arith) (omega arith) one-many h)
+  pub one-held : natAbs (field bs p) ≡ 3 → Held bs (p + 16) (left - 1) z
+  one-held is = held-first bs (p + 16) (left - 1) 1 z (omega arith) (operands 1 (omega arith) (omega arith) many)
+    where
+      many : (nd : Node) (q : ℕ) → node (varsOf bs) bs p ≡ got nd q → 1 ≡ arity nd
+      many nd q read = arity-one-is (varsOf bs) bs p nd q read (omega (arith, is)) (λ e. omega arith) (λ e. omega arith) (λ e. omega arith)
 
   module _ (is : natAbs (field bs p) ≡ 4) where
-    pub two-few : natAbs (field bs (p + 8)) ≤ 15
-    two-few = at-bin (varsOf bs) bs (w .tree) p (w .end) (w .at) (code-field bs p (w .tree) (w .end) 4 (w .at) is) .chosen .high
+    two : HeldAll bs (p + 16) (left - 1) 2 z
+    two = operands 2 (omega arith) (omega arith) (λ nd q read. arity-two-is (varsOf bs) bs p nd q read is)
 
-    two-many : (nd : Node) (q : ℕ) → node (varsOf bs) bs p ≡ got nd q → 2 ≡ arity nd
-    two-many nd q read = arity-two-is (varsOf bs) bs p nd q read is
+    pub left-held : Held bs (p + 16) (left - 1) z
+    left-held = held-first bs (p + 16) (left - 1) 2 z (omega arith) two
 
-    two-walk : WalkAll bs (p + 16) (left - 1) 2 z
-    two-walk = operands-walk 2 (omega arith) (omega arith) two-many
-
-    pub left-walk : Walk bs (p + 16) (left - 1) z
-    left-walk = walk-first bs (p + 16) (left - 1) 2 z (omega arith) two-walk
-
-    pub right-walk : (r : ℕ) → Ends bs (p + 16) r → Walk bs r (left - 1) z
-    right-walk r ends = walk-first bs r (left - 1) 1 z (omega arith) (walk-rest bs (p + 16) (left - 1) 2 z (omega arith) two-walk r ends)
-
-    module _ (h : Held bs p z) where
-      two-held : HeldAll bs (p + 16) 2 z
-      two-held = operands-held 2 (omega arith) (omega arith) two-many h
-
-      pub left-held : Held bs (p + 16) z
-      left-held = held-first bs (p + 16) 2 z (omega arith) two-held
-
-      pub right-held : (r : ℕ) → Ends bs (p + 16) r → Held bs r z
-      right-held r ends = held-first bs r 1 z (omega arith) (held-rest bs (p + 16) 2 z (omega arith) two-held r ends)
+    pub right-held : (r : ℕ) → Ends bs (p + 16) r → Held bs r (left - 1) z
+    right-held r ends = held-first bs r (left - 1) 1 z (omega arith) (held-rest bs (p + 16) (left - 1) 2 z (omega arith) two r ends)
 
   module _ (is : natAbs (field bs p) ≡ 5) where
-    long : 8 ≡ nodeLen bs p
-    long = length-if (varsOf bs) bs p walk-noded is
+    parts : HeldAll bs (p + 8) (left - 1) 3 z
+    parts =
+        held-operands bs p left z h 8 3 (length-if (varsOf bs) bs p here is) (λ nd q read. arity-three-is (varsOf bs) bs p nd q read is) (omega arith)
+        (omega arith)
 
-    three-many : (nd : Node) (q : ℕ) → node (varsOf bs) bs p ≡ got nd q → 3 ≡ arity nd
-    three-many nd q read = arity-three-is (varsOf bs) bs p nd q read is
-
-    parts : WalkAll bs (p + 8) (left - 1) 3 z
-    parts = walk-children bs p left z w 8 3 long three-many (λ e. omega arith)
-
-    parts-held : Held bs p z → HeldAll bs (p + 8) 3 z
-    parts-held h = held-operands bs p z h 8 3 long three-many (omega arith) (omega arith)
-
-    pub test-walk : Walk bs (p + 8) (left - 1) z
-    test-walk = walk-first bs (p + 8) (left - 1) 3 z (omega arith) parts
-
-    pub test-held : Held bs p z → Held bs (p + 8) z
-    test-held h = held-first bs (p + 8) 3 z (omega arith) (parts-held h)
+    pub test-held : Held bs (p + 8) (left - 1) z
+    test-held = held-first bs (p + 8) (left - 1) 3 z (omega arith) parts
 
     module _ (r : ℕ) (ends : Ends bs (p + 8) r) where
-      arms : WalkAll bs r (left - 1) 2 z
-      arms = walk-rest bs (p + 8) (left - 1) 3 z (omega arith) parts r ends
+      arms : HeldAll bs r (left - 1) 2 z
+      arms = held-rest bs (p + 8) (left - 1) 3 z (omega arith) parts r ends
 
-      arms-held : Held bs p z → HeldAll bs r 2 z
-      arms-held h = held-rest bs (p + 8) 3 z (omega arith) (parts-held h) r ends
+      pub first-held : Held bs r (left - 1) z
+      first-held = held-first bs r (left - 1) 2 z (omega arith) arms
 
-      pub first-walk : Walk bs r (left - 1) z
-      first-walk = walk-first bs r (left - 1) 2 z (omega arith) arms
-
-      pub first-held : Held bs p z → Held bs r z
-      first-held h = held-first bs r 2 z (omega arith) (arms-held h)
-
-      pub second-walk : (t : ℕ) → Ends bs r t → Walk bs t (left - 1) z
-      second-walk t ended = walk-first bs t (left - 1) 1 z (omega arith) (walk-rest bs r (left - 1) 2 z (omega arith) arms t ended)
-
-      pub second-held : Held bs p z → (t : ℕ) → Ends bs r t → Held bs t z
-      second-held h t ended = held-first bs t 1 z (omega arith) (held-rest bs r 2 z (omega arith) (arms-held h) t ended)
+      pub second-held : (t : ℕ) → Ends bs r t → Held bs t (left - 1) z
+      second-held t ended = held-first bs t (left - 1) 1 z (omega arith) (held-rest bs r (left - 1) 2 z (omega arith) arms t ended)
 
 -- ---- what is known of an operand that was worked out
 

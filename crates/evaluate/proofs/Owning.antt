@@ -1,12 +1,11 @@
 -- The variable of an element, and its point, found by the table of places. Assumes nothing.
-use mathlib.Core.Path.{_≡_, refl, sym, ap, _∙_, subst}
-use Prim.Native.Nat.{ℕ, zero, suc, _+_, _-_, _≤_, _<_}
+use mathlib.Core.Path.{_≡_, ap, _∙_, subst}
+use Prim.Native.Nat.{ℕ, suc, _+_, _-_, _≤_, _<_}
 use native.Mathlib.Omega.{arith}
-use mathlib.Core.Bool.{true}
 use mathlib.Core.List.{List}
 use lib.ListN.{length, getD}
 use Rattle.alpha.specs.declared.Int.{Int}
-use Rattle.alpha.specs.Box.{size, pointAt}
+use Rattle.alpha.specs.Box.{size}
 use Rattle.alpha.specs.Holds.{variable}
 use Rattle.alpha.specs.Check.{total}
 use Rattle.alpha.specs.Ask.{before}

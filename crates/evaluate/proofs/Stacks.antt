@@ -2,7 +2,6 @@
 -- Assumes nothing.
 use mathlib.Core.Path.{_≡_, refl, sym, ap, _∙_, subst}
 use Prim.Native.Nat.{ℕ, zero, suc, _+_, _-_, _≤_, _<_}
-use native.Mathlib.Nat.{le-trans}
 use native.Mathlib.Decide.{ℕ-discrete}
 use native.Mathlib.Omega.{arith}
 use mathlib.Core.List.{List, [], _∷_}
@@ -15,11 +14,11 @@ use Rattle.alpha.specs.Outcome.{loop}
 use Rattle.laws.proofs.Growth.{outcome-none, outcome-body}
 use Rattle.evaluate.specs.declared.Work.{Work}
 use Rattle.evaluate.specs.declared.Work.the-variants.{Outside, Value, DivZero, Overflow, Loop, Deep}
-use Rattle.evaluate.specs.Memo.{busy, unknown, Memo, codeAt, sum, settledOne, busyOne, toDo, Right, Waits, Says, Said, Kept, noted, codeOf}
+use Rattle.evaluate.specs.Memo.{busy, unknown, Memo, codeAt, sum, busyOne, toDo, Right, Waits, Says, Said, noted, codeOf}
 use Rattle.evaluate.specs.Memo.{valueOf}
 use Rattle.evaluate.specs.Working.{elementAt, outcomes, Bodied, Ready, Done}
 use Rattle.evaluate.specs.Settling.{bodyOf, standing, Stacked, Linked, Turned, Idle, Settled}
-use Rattle.evaluate.proofs.Stores.{decide, code-same, code-other, sum-store, answer-unmarked, sized-kept, loop-down, right-set, said-stored}
+use Rattle.evaluate.proofs.Stores.{decide, code-same, code-other, sum-store, answer-unmarked, loop-down, right-set, said-stored}
 use Rattle.evaluate.proofs.Doing.{element-grows, ready-sized, ready-kept}
 
 -- ---- sums over the entries

@@ -14,7 +14,7 @@ use Rattle.alpha.specs.declared.Int.{Int}
 use Rattle.alpha.specs.declared.Outcome as Outcomes
 use Rattle.alpha.specs.Field.{field}
 use Rattle.alpha.specs.Sheet.{Expr, Exprs, Sheet, Point, Unary, Binary}
-use Rattle.alpha.specs.Sheet.{Expr.var, Expr.int, Expr.boo, Expr.un, Expr.bin, Expr.ite, Expr.kase, Expr.restr, Expr.dep}
+use Rattle.alpha.specs.Sheet.{Expr.un, Expr.bin, Expr.ite, Expr.kase, Expr.restr, Expr.dep}
 use Rattle.alpha.specs.Affine.{image}
 use Rattle.alpha.specs.Read.{unaryOf, binaryOf}
 use Rattle.alpha.specs.Shape.{fits}

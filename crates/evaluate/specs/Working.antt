@@ -2,7 +2,7 @@
 -- list, since the memo has an entry for each input element from the start. Assumes nothing.
 use mathlib.Core.Path.{_≡_}
 use Prim.Native.Nat.{ℕ, _+_, _≤_, _<_}
-use mathlib.Core.Bool.{Bool, true, false}
+use mathlib.Core.Bool.{true, false}
 use mathlib.Core.List.{List, [], _∷_}
 use lib.ListN.{length, getD}
 use mathlib.Core.Logic.{_⊎_}
@@ -15,7 +15,7 @@ use Rattle.alpha.specs.Sheet.{Expr, Sheet, Point}
 use Rattle.alpha.specs.Box.{inBox}
 use Rattle.alpha.specs.Shape.{fits}
 use Rattle.alpha.specs.Read.{dimension}
-use Rattle.alpha.specs.Holds.{variable, isInput, inDomain, holds}
+use Rattle.alpha.specs.Holds.{variable, isInput, inDomain}
 use Rattle.alpha.specs.Check.{Element, elements, total}
 use Rattle.alpha.specs.Outcome.{Outcome, eval, outcome}
 use Rattle.alpha.specs.Ask.{numberOf}
@@ -23,10 +23,12 @@ use Rattle.laws.specs.At.{At}
 use Rattle.laws.specs.Sheets.{headsOf, varsOf, sheetOf}
 use Rattle.affine.specs.Value.{pointOf, Padded}
 use Rattle.affine.specs.Reading.{ImageAt}
+use Rattle.domain.specs.declared.Standing.the-variants.{Holds}
+use Rattle.domain.specs.Standing.{standing}
 use Rattle.evaluate.specs.declared.Work.{Work}
-use Rattle.evaluate.specs.declared.Work.the-variants.{Outside, Value, DivZero, Overflow, Loop, Deep}
+use Rattle.evaluate.specs.declared.Work.the-variants.{Outside, Value, DivZero, Overflow, Loop}
 use Rattle.evaluate.specs.declared.Worked.{Worked}
-use Rattle.evaluate.specs.Memo.{unknown, Thing, Elements, element, Memo, codeAt, Sized, Right, Waits, Said, Kept, Wanted, Small}
+use Rattle.evaluate.specs.Memo.{unknown, Thing, Elements, Memo, codeAt, Right, Waits, Said, Kept, Wanted, Small}
 
 -- what an entry that is not unknown says: an element in progress is LOOP
 abbrev pub entryOf : ℕ → Int → Work
@@ -66,12 +68,12 @@ expression s ins e z k = eval e s (outcome k s ins) z
 abbrev pub memoOf : List ℕ → List ℤ → Memo
 memoOf codes values = record { codes = codes; values = values }
 
--- an element that is worked out by its body, which holds there
+-- an element that is worked out by its body, which holds there without a clash
 pub record Bodied (s : Sheet) (e : Element) : Type 0 where
   pub known : e .who < length s
   pub domain : inDomain (variable s (e .who)) (e .at) ≡ true
   pub no-input : isInput (variable s (e .who)) ≡ false
-  pub holding : holds (variable s (e .who) .body) s (e .at) ≡ true
+  pub clear : standing (variable s (e .who) .body) s (e .at) ≡ Holds
 
 -- a memo to work with: two tables of 4,096 entries, in which each element that is not settled has a body
 pub record Ready (s : Sheet) (memo : Memo) : Type 0 where

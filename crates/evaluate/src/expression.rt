@@ -26,8 +26,8 @@ ghost use Rattle.affine.specs.declared.Map.{Map};
 ghost use Rattle.affine.specs.Size.{Fit};
 ghost use Rattle.affine.specs.Reading.{MapThere, MapRead};
 ghost use Rattle.tree.specs.Formed.{Formed};
+ghost use Rattle.tree.specs.Ends.{EndsKept};
 ghost use Rattle.domain.specs.Inside.{Inside};
-ghost use Rattle.domain.specs.Walk.{Walk};
 ghost use Rattle.domain.specs.Held.{Held};
 ghost use Rattle.evaluate.specs.Working.{memoOf, outcomes, Ready, Done, ElementIs, ConstantRead, Lowered, EvaluatesAt};
 ghost use Rattle.evaluate.specs.Memo as Memo;
@@ -38,6 +38,7 @@ pub fn element(
     s: &[u8],
     tab: &[usize; 102],
     inside: &[u8; 4096],
+    ends: &[u16; 8192],
     codes: &mut [u8; 4096],
     values: &mut [i32; 4096],
     v: usize,
@@ -45,7 +46,7 @@ pub fn element(
     z: [Int; 4],
     depth: usize,
 ) -> Work
-    requires { ⌜ Formed (now s) (now tab) × Inside (sheetOf (now s)) (now inside) × Ready (sheetOf (now s)) (memoOf (now codes) (now values)) × ElementIs (now s) v e z ⌝ }
+    requires { ⌜ Formed (now s) (now tab) × Inside (sheetOf (now s)) (now inside) × Ready (sheetOf (now s)) (memoOf (now codes) (now values)) × ElementIs (now s) v e z × EndsKept (now s) (now ends) ⌝ }
     ensures { λ r. ⌜ Done (sheetOf (now (s .entry))) (memoOf (now (codes .entry)) (now (values .entry))) (memoOf (now (codes .exit)) (now (values .exit))) (λ ins. Memo.element (outcomes (sheetOf (now (s .entry))) ins) e) r ⌝ }
 {
     let code = codes[e];
@@ -57,18 +58,19 @@ pub fn element(
     }
     note(codes, values, e, 5, integer::of(0));
     let at = body_place(tab, v);
-    let r = expression(s, tab, inside, codes, values, at, 2048, z, depth - 1);
+    let r = expression(s, tab, inside, ends, codes, values, at, 2048, z, depth - 1);
     let out = r.out;
     note(codes, values, e, code_of(out), value_of(out));
     out
 }
 
-// The tree at `at`, of at most `left` nodes, at z, where it holds. Restrictions and dependences are passed on the way to the first other
+// The tree at `at`, of at most `left` nodes, at z, where it holds without a clash. Restrictions and dependences are passed on the way to the first other
 // node, which spares a call for each.
 pub fn expression(
     s: &[u8],
     tab: &[usize; 102],
     inside: &[u8; 4096],
+    ends: &[u16; 8192],
     codes: &mut [u8; 4096],
     values: &mut [i32; 4096],
     at: usize,
@@ -76,7 +78,7 @@ pub fn expression(
     z: [Int; 4],
     depth: usize,
 ) -> Worked
-    requires { ⌜ Formed (now s) (now tab) × Inside (sheetOf (now s)) (now inside) × Ready (sheetOf (now s)) (memoOf (now codes) (now values)) × Walk (now s) at left z × (left ≤ 2048) × Held (now s) at z ⌝ }
+    requires { ⌜ Formed (now s) (now tab) × Inside (sheetOf (now s)) (now inside) × Ready (sheetOf (now s)) (memoOf (now codes) (now values)) × Held (now s) at left z × (left ≤ 2048) × EndsKept (now s) (now ends) ⌝ }
     ensures { λ r. ⌜ EvaluatesAt (now (s .entry)) at z (memoOf (now (codes .entry)) (now (values .entry))) (memoOf (now (codes .exit)) (now (values .exit))) r ⌝ }
 {
     let mut p = at;
@@ -89,12 +91,12 @@ pub fn expression(
         n -= 1;
     }
     match natural(s, p) {
-        0 => variable(s, tab, inside, codes, values, p, n, y, depth),
+        0 => variable(s, tab, inside, ends, codes, values, p, n, y, depth),
         1 | 2 => constant(s, p),
-        3 => one(s, tab, inside, codes, values, p, n, y, depth),
-        4 => two(s, tab, inside, codes, values, p, n, y, depth),
-        5 => three(s, tab, inside, codes, values, p, n, y, depth),
-        _ => branch(s, tab, inside, codes, values, p, n, y, depth),
+        3 => one(s, tab, inside, ends, codes, values, p, n, y, depth),
+        4 => two(s, tab, inside, ends, codes, values, p, n, y, depth),
+        5 => three(s, tab, inside, ends, codes, values, p, n, y, depth),
+        _ => branch(s, tab, inside, ends, codes, values, p, n, y, depth),
     }
 }
 
@@ -125,6 +127,7 @@ fn variable(
     s: &[u8],
     tab: &[usize; 102],
     inside: &[u8; 4096],
+    ends: &[u16; 8192],
     codes: &mut [u8; 4096],
     values: &mut [i32; 4096],
     at: usize,
@@ -132,7 +135,7 @@ fn variable(
     z: [Int; 4],
     depth: usize,
 ) -> Worked
-    requires { ⌜ Formed (now s) (now tab) × Inside (sheetOf (now s)) (now inside) × Ready (sheetOf (now s)) (memoOf (now codes) (now values)) × Walk (now s) at left z × (left ≤ 2048) × (natAbs (field (now s) at) ≡ 0) × Held (now s) at z ⌝ }
+    requires { ⌜ Formed (now s) (now tab) × Inside (sheetOf (now s)) (now inside) × Ready (sheetOf (now s)) (memoOf (now codes) (now values)) × Held (now s) at left z × (left ≤ 2048) × (natAbs (field (now s) at) ≡ 0) × EndsKept (now s) (now ends) ⌝ }
     ensures { λ r. ⌜ EvaluatesAt (now (s .entry)) at z (memoOf (now (codes .entry)) (now (values .entry))) (memoOf (now (codes .exit)) (now (values .exit))) r ⌝ }
 {
     let v = natural(s, at + 8);
@@ -145,7 +148,7 @@ fn variable(
         };
     };
     let e = first_element(tab, v) + i;
-    let out = element(s, tab, inside, codes, values, v, e, z, depth);
+    let out = element(s, tab, inside, ends, codes, values, v, e, z, depth);
     Worked { out, next }
 }
 
@@ -154,6 +157,7 @@ fn one(
     s: &[u8],
     tab: &[usize; 102],
     inside: &[u8; 4096],
+    ends: &[u16; 8192],
     codes: &mut [u8; 4096],
     values: &mut [i32; 4096],
     at: usize,
@@ -161,10 +165,11 @@ fn one(
     z: [Int; 4],
     depth: usize,
 ) -> Worked
-    requires { ⌜ Formed (now s) (now tab) × Inside (sheetOf (now s)) (now inside) × Ready (sheetOf (now s)) (memoOf (now codes) (now values)) × Walk (now s) at left z × (left ≤ 2048) × (natAbs (field (now s) at) ≡ 3) × Held (now s) at z ⌝ }
+    requires { ⌜ Formed (now s) (now tab) × Inside (sheetOf (now s)) (now inside) × Ready (sheetOf (now s)) (memoOf (now codes) (now values)) × Held (now s) at left z × (left ≤ 2048) × (natAbs (field (now s) at) ≡ 3) × EndsKept (now s) (now ends) ⌝ }
     ensures { λ r. ⌜ EvaluatesAt (now (s .entry)) at z (memoOf (now (codes .entry)) (now (values .entry))) (memoOf (now (codes .exit)) (now (values .exit))) r ⌝ }
 {
-    let a = expression(s, tab, inside, codes, values, at + 16, left - 1, z, depth);
+    let n = left - 1;
+    let a = expression(s, tab, inside, ends, codes, values, at + 16, n, z, depth);
     let o = a.out;
     let Work::Value(x) = o else {
         return a;
@@ -180,6 +185,7 @@ fn two(
     s: &[u8],
     tab: &[usize; 102],
     inside: &[u8; 4096],
+    ends: &[u16; 8192],
     codes: &mut [u8; 4096],
     values: &mut [i32; 4096],
     at: usize,
@@ -187,16 +193,17 @@ fn two(
     z: [Int; 4],
     depth: usize,
 ) -> Worked
-    requires { ⌜ Formed (now s) (now tab) × Inside (sheetOf (now s)) (now inside) × Ready (sheetOf (now s)) (memoOf (now codes) (now values)) × Walk (now s) at left z × (left ≤ 2048) × (natAbs (field (now s) at) ≡ 4) × Held (now s) at z ⌝ }
+    requires { ⌜ Formed (now s) (now tab) × Inside (sheetOf (now s)) (now inside) × Ready (sheetOf (now s)) (memoOf (now codes) (now values)) × Held (now s) at left z × (left ≤ 2048) × (natAbs (field (now s) at) ≡ 4) × EndsKept (now s) (now ends) ⌝ }
     ensures { λ r. ⌜ EvaluatesAt (now (s .entry)) at z (memoOf (now (codes .entry)) (now (values .entry))) (memoOf (now (codes .exit)) (now (values .exit))) r ⌝ }
 {
-    let first = expression(s, tab, inside, codes, values, at + 16, left - 1, z, depth);
+    let n = left - 1;
+    let first = expression(s, tab, inside, ends, codes, values, at + 16, n, z, depth);
     let o = first.out;
     let Work::Value(x) = o else {
         return first;
     };
     let middle = first.next;
-    let second = expression(s, tab, inside, codes, values, middle, left - 1, z, depth);
+    let second = expression(s, tab, inside, ends, codes, values, middle, n, z, depth);
     let p = second.out;
     let Work::Value(y) = p else {
         return second;
@@ -212,6 +219,7 @@ fn three(
     s: &[u8],
     tab: &[usize; 102],
     inside: &[u8; 4096],
+    ends: &[u16; 8192],
     codes: &mut [u8; 4096],
     values: &mut [i32; 4096],
     at: usize,
@@ -219,22 +227,23 @@ fn three(
     z: [Int; 4],
     depth: usize,
 ) -> Worked
-    requires { ⌜ Formed (now s) (now tab) × Inside (sheetOf (now s)) (now inside) × Ready (sheetOf (now s)) (memoOf (now codes) (now values)) × Walk (now s) at left z × (left ≤ 2048) × (natAbs (field (now s) at) ≡ 5) × Held (now s) at z ⌝ }
+    requires { ⌜ Formed (now s) (now tab) × Inside (sheetOf (now s)) (now inside) × Ready (sheetOf (now s)) (memoOf (now codes) (now values)) × Held (now s) at left z × (left ≤ 2048) × (natAbs (field (now s) at) ≡ 5) × EndsKept (now s) (now ends) ⌝ }
     ensures { λ r. ⌜ EvaluatesAt (now (s .entry)) at z (memoOf (now (codes .entry)) (now (values .entry))) (memoOf (now (codes .exit)) (now (values .exit))) r ⌝ }
 {
-    let test = expression(s, tab, inside, codes, values, at + 8, left - 1, z, depth);
+    let n = left - 1;
+    let test = expression(s, tab, inside, ends, codes, values, at + 8, n, z, depth);
     let o = test.out;
     let Work::Value(t) = o else {
         return test;
     };
     let middle = test.next;
-    let then = expression(s, tab, inside, codes, values, middle, left - 1, z, depth);
+    let then = expression(s, tab, inside, ends, codes, values, middle, n, z, depth);
     let p = then.out;
     let Work::Value(x) = p else {
         return then;
     };
     let last = then.next;
-    let other = expression(s, tab, inside, codes, values, last, left - 1, z, depth);
+    let other = expression(s, tab, inside, ends, codes, values, last, n, z, depth);
     let q = other.out;
     let Work::Value(y) = q else {
         return other;
@@ -245,11 +254,12 @@ fn three(
     }
 }
 
-// A case, which holds: its first holding branch. The case ends after the branches that follow that one.
+// A case: the branch that holds. The case ends after the branches that follow that one.
 fn branch(
     s: &[u8],
     tab: &[usize; 102],
     inside: &[u8; 4096],
+    ends: &[u16; 8192],
     codes: &mut [u8; 4096],
     values: &mut [i32; 4096],
     at: usize,
@@ -257,12 +267,13 @@ fn branch(
     z: [Int; 4],
     depth: usize,
 ) -> Worked
-    requires { ⌜ Formed (now s) (now tab) × Inside (sheetOf (now s)) (now inside) × Ready (sheetOf (now s)) (memoOf (now codes) (now values)) × Walk (now s) at left z × (left ≤ 2048) × (natAbs (field (now s) at) ≡ 6) × Held (now s) at z ⌝ }
+    requires { ⌜ Formed (now s) (now tab) × Inside (sheetOf (now s)) (now inside) × Ready (sheetOf (now s)) (memoOf (now codes) (now values)) × Held (now s) at left z × (left ≤ 2048) × (natAbs (field (now s) at) ≡ 6) × EndsKept (now s) (now ends) ⌝ }
     ensures { λ r. ⌜ EvaluatesAt (now (s .entry)) at z (memoOf (now (codes .entry)) (now (values .entry))) (memoOf (now (codes .exit)) (now (values .exit))) r ⌝ }
 {
-    let choice = holding(s, tab, inside, at, left, z);
+    let n = left - 1;
+    let choice = holding(s, tab, inside, ends, at, left, z);
     let taken = choice.at;
-    let r = expression(s, tab, inside, codes, values, taken, left - 1, z, depth);
+    let r = expression(s, tab, inside, ends, codes, values, taken, n, z, depth);
     let o = r.out;
     let Work::Value(x) = o else {
         return r;
@@ -270,6 +281,6 @@ fn branch(
     let rest = choice.rest;
     Worked {
         out: Work::Value(x),
-        next: skip_all(s, r.next, left - 1, rest),
+        next: skip_all(s, r.next, n, rest),
     }
 }

@@ -14,6 +14,7 @@ ghost use lib.ListN.{length};
 ghost use Rattle.alpha.specs.Check.{total};
 ghost use Rattle.laws.specs.Sheets.{sheetOf};
 ghost use Rattle.tree.specs.Formed.{Formed};
+ghost use Rattle.tree.specs.Ends.{EndsKept};
 ghost use Rattle.domain.specs.Inside.{Inside};
 ghost use Rattle.evaluate.specs.Memo.{busy, codeAt};
 ghost use Rattle.evaluate.specs.Working.{memoOf, Ready, Done};
@@ -38,11 +39,12 @@ fn body(
     s: &[u8],
     tab: &[usize; 102],
     inside: &[u8; 4096],
+    ends: &[u16; 8192],
     codes: &mut [u8; 4096],
     values: &mut [i32; 4096],
     e: usize,
 ) -> Work
-    requires { ⌜ Formed (now s) (now tab) × Inside (sheetOf (now s)) (now inside) × Ready (sheetOf (now s)) (memoOf (now codes) (now values)) × (e < total (sheetOf (now s))) × (codeAt (memoOf (now codes) (now values)) e ≡ busy) ⌝ }
+    requires { ⌜ Formed (now s) (now tab) × Inside (sheetOf (now s)) (now inside) × Ready (sheetOf (now s)) (memoOf (now codes) (now values)) × (e < total (sheetOf (now s))) × (codeAt (memoOf (now codes) (now values)) e ≡ busy) × EndsKept (now s) (now ends) ⌝ }
     ensures { λ r. ⌜ Done (sheetOf (now (s .entry))) (memoOf (now (codes .entry)) (now (values .entry))) (memoOf (now (codes .exit)) (now (values .exit))) (bodyOf (sheetOf (now (s .entry))) e) r ⌝ }
 {
     let v = owner(s, tab, e);
@@ -50,7 +52,7 @@ fn body(
     let size = first_element(tab, v + 1) - first;
     let z = points::point(s, record_place(tab, v), size, e - first);
     let at = body_place(tab, v);
-    let r = expression(s, tab, inside, codes, values, at, 2048, z, DEPTH);
+    let r = expression(s, tab, inside, ends, codes, values, at, 2048, z, DEPTH);
     r.out
 }
 
@@ -60,16 +62,17 @@ fn turn(
     s: &[u8],
     tab: &[usize; 102],
     inside: &[u8; 4096],
+    ends: &[u16; 8192],
     codes: &mut [u8; 4096],
     values: &mut [i32; 4096],
     stack: &mut [u16; 4096],
     high: usize,
 ) -> usize
-    requires { ⌜ Formed (now s) (now tab) × Inside (sheetOf (now s)) (now inside) × Ready (sheetOf (now s)) (memoOf (now codes) (now values)) × Stacked (sheetOf (now s)) (memoOf (now codes) (now values)) (now stack) high × (1 ≤ high) ⌝ }
+    requires { ⌜ Formed (now s) (now tab) × Inside (sheetOf (now s)) (now inside) × Ready (sheetOf (now s)) (memoOf (now codes) (now values)) × Stacked (sheetOf (now s)) (memoOf (now codes) (now values)) (now stack) high × (1 ≤ high) × EndsKept (now s) (now ends) ⌝ }
     ensures { λ r. ⌜ Turned (sheetOf (now (s .entry))) (memoOf (now (codes .entry)) (now (values .entry))) (now (stack .entry)) high (memoOf (now (codes .exit)) (now (values .exit))) (now (stack .exit)) r ⌝ }
 {
     let top = stack[high - 1] as usize;
-    let r = body(s, tab, inside, codes, values, top);
+    let r = body(s, tab, inside, ends, codes, values, top);
     if let Work::Deep(d) = r {
         note(codes, values, d, 5, integer::of(0));
         stack[high] = d as u16;
@@ -84,12 +87,13 @@ pub fn settle(
     s: &[u8],
     tab: &[usize; 102],
     inside: &[u8; 4096],
+    ends: &[u16; 8192],
     codes: &mut [u8; 4096],
     values: &mut [i32; 4096],
     stack: &mut [u16; 4096],
     e: usize,
 )
-    requires { ⌜ Formed (now s) (now tab) × Inside (sheetOf (now s)) (now inside) × Ready (sheetOf (now s)) (memoOf (now codes) (now values)) × Idle (memoOf (now codes) (now values)) × (length (now stack) ≡ 4096) × (e < total (sheetOf (now s))) ⌝ }
+    requires { ⌜ Formed (now s) (now tab) × Inside (sheetOf (now s)) (now inside) × Ready (sheetOf (now s)) (memoOf (now codes) (now values)) × Idle (memoOf (now codes) (now values)) × (length (now stack) ≡ 4096) × (e < total (sheetOf (now s))) × EndsKept (now s) (now ends) ⌝ }
     ensures { λ _. ⌜ Settled (sheetOf (now (s .entry))) e (memoOf (now (codes .entry)) (now (values .entry))) (memoOf (now (codes .exit)) (now (values .exit))) × (length (now (stack .exit)) ≡ 4096) ⌝ }
 {
     if codes[e] < 6 {
@@ -99,6 +103,6 @@ pub fn settle(
     stack[0] = e as u16;
     let mut high = 1;
     while 0 < high {
-        high = turn(s, tab, inside, codes, values, stack, high);
+        high = turn(s, tab, inside, ends, codes, values, stack, high);
     }
 }

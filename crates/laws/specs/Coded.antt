@@ -5,6 +5,6 @@ use lib.ListN.{getD}
 use lib.IntN.{ℤ}
 use Rattle.alpha.specs.Outcome.{Outcome, outside, value, divzero, overflow, loop}
 
--- the outcome with that code and that value: 0 outside, 1 value, 2 DIVZERO, 3 OVERFLOW, 4 LOOP
+-- the outcome with that code and that value: 0 outside, 1 value, 2 DIVZERO, 3 OVERFLOW, 4 (and any other) LOOP
 abbrev pub decoded : ℕ → ℤ → Outcome
 decoded code x = getD (outside ∷ value x ∷ divzero ∷ overflow ∷ []) code loop

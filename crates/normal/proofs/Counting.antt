@@ -27,7 +27,8 @@ use Rattle.tree.proofs.Standings.{children-at, children-counted, one-more}
 use Rattle.domain.proofs.Walks.{tree-code}
 use Rattle.normal.specs.declared.Chosen.{Chosen}
 use Rattle.normal.specs.Count.{countOf, sumOf, productOf, alone, joined, countsOf, capped, Picked, pick}
-use Rattle.normal.specs.Counted.{Counts, CountsAll, Ends, EndsAll, ChildrenAt, PicksOf, Picks, OperandAt, SplitsOf, Splits}
+use Rattle.tree.specs.Ends.{EndsAt}
+use Rattle.normal.specs.Counted.{Counts, CountsAll, ChildrenAt, PicksOf, Picks, OperandAt, SplitsOf, Splits}
 use Rattle.normal.proofs.Numbered.{positive}
 
 -- ---- by the children
@@ -135,7 +136,7 @@ module _ (bs : List ℕ) (p : ℕ) where
   )
 
   pub more-way : (many : ℕ) (t : Bool) (sofar first next both r : ℕ) → 1 ≤ many → Counts bs p first →
-      ((e : Expr) (q : ℕ) → At e (varsOf bs) bs p q → next ≡ q) → both ≡ capped (joined t sofar first) → CountsAll bs next (many - 1) t both r →
+      EndsAt (varsOf bs) bs p next → both ≡ capped (joined t sofar first) → CountsAll bs next (many - 1) t both r →
       CountsAll bs p many t sofar r
   more-way many t sofar first next both r some one ends sum rest = (
     rest .0,
@@ -151,24 +152,11 @@ module _ (bs : List ℕ) (p : ℕ) where
 
   -- ---- where they end
 
-  pub node-ends : (k n r : ℕ) → k ≡ nodeLen bs p → ((nd : Node) (q : ℕ) → node (varsOf bs) bs p ≡ got nd q → n ≡ arity nd) → EndsAll bs (p + k) n r →
-      Ends bs p r
-  node-ends k n r long many h e q at =
-      h (childrenOf e) q (children-at (varsOf bs) bs p k n long many e q at) (children-counted (varsOf bs) bs p k n long many e q at)
-
-  pub leaf-ends : (code k : ℕ) → code ≡ natAbs (field bs p) → code < 3 → k ≡ nodeLen bs p → Ends bs p (p + k)
+  pub leaf-ends : (code k : ℕ) → code ≡ natAbs (field bs p) → code < 3 → k ≡ nodeLen bs p → EndsAt (varsOf bs) bs p (p + k)
   leaf-ends code k is low long e q at =
       let c = is ∙ tree-code bs p e q at in
       let few = ap branchCount (leaf-none e (omega arith)) in
       omega (arith, allAt-none (varsOf bs) bs (childrenOf e) (p + nodeLen bs p) q (at-children (varsOf bs) bs e p q at) few .end)
-
-  pub none-ends : (many : ℕ) → many < 1 → EndsAll bs p many p
-  none-ends many l es q h m = allAt-none (varsOf bs) bs es p q h (omega arith) .end
-
-  pub more-ends : (many next r : ℕ) → 1 ≤ many → Ends bs p next → EndsAll bs next (many - 1) r → EndsAll bs p many r
-  more-ends many next r some first rest es q h m =
-      let x = one-more (varsOf bs) bs es p q many some h m in
-      rest (x .rest) q (subst (λ i. AllAt (x .rest) (varsOf bs) bs i q) (sym (first (x .first) (x .middle) (x .before))) (x .after)) (x .many)
 
 -- ---- the ways through the choice
 
@@ -242,7 +230,7 @@ module _ (bs : List ℕ) (p left many b of : ℕ) (h : ChildrenAt bs p left many
 
     module _ (past : n ≤ b) where
       -- the others, from where the first ends
-      pub children-rest : (next : ℕ) → Ends bs p next → ChildrenAt bs next left (many - 1) (b - n) (of - n)
+      pub children-rest : (next : ℕ) → EndsAt (varsOf bs) bs p next → ChildrenAt bs next left (many - 1) (b - n) (of - n)
       children-rest next ends =
           let sum = sum-more (h .trees) (split .first) (split .rest) (split .is) in
           record {
@@ -256,7 +244,7 @@ module _ (bs : List ℕ) (p left many b of : ℕ) (h : ChildrenAt bs p left many
             some = omega (arith, h .some);
           }
 
-      pub later-way : (next : ℕ) (r : Chosen) → Ends bs p next → Picks bs next (many - 1) (b - n) (of - n) r → Picks bs p many b of r
+      pub later-way : (next : ℕ) (r : Chosen) → EndsAt (varsOf bs) bs p next → Picks bs next (many - 1) (b - n) (of - n) r → Picks bs p many b of r
       later-way next r ends rest es q at m sum =
           let x = one-more (varsOf bs) bs es p q many children-some at m in
           let same = exact (x .first) (x .middle) (x .before) in
@@ -312,7 +300,7 @@ module _ (bs : List ℕ) (p left b of : ℕ) (h : OperandAt bs p left b of) wher
   some = omega (arith, h .some)
 
   -- where there is one combination, each operand has one branch
-  pub one-split : of < 2 → (next : ℕ) → Ends bs p next → Splits bs p b of (record { b = b; of = of; next = next; rest = b; among = of })
+  pub one-split : of < 2 → (next : ℕ) → EndsAt (varsOf bs) bs p next → Splits bs p b of (record { b = b; of = of; next = next; rest = b; among = of })
   one-split few next ends e others q at product =
       let f = factors (countOf e) (productOf others) of product some in
       let one : productOf others ≡ 1 = omega (arith, f .right-some, f .right-low) in
@@ -348,7 +336,7 @@ module _ (bs : List ℕ) (p left b of : ℕ) (h : OperandAt bs p left b of) wher
         let f = factors (countOf (h .tree)) (productOf (h .others)) of (h .product) some in
         omega (arith, f .right-some, rest-is (h .tree) (h .others) (h .end) (h .at) (h .product))
 
-    pub counted-split : (next : ℕ) → Ends bs p next →
+    pub counted-split : (next : ℕ) → EndsAt (varsOf bs) bs p next →
         Splits bs p b of (record { b = b / (of / n); of = n; next = next; rest = b % (of / n); among = of / n })
     counted-split next ends e others q at product =
         let rest = rest-is e others q at product in

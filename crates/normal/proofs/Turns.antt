@@ -25,7 +25,8 @@ use Rattle.domain.proofs.Walks.{code-field}
 use Rattle.tree.proofs.Standings.{children-at, children-counted, one-more}
 use Rattle.normal.specs.declared.Taken.{Taken}
 use Rattle.normal.specs.Count.{countOf, sumOf}
-use Rattle.normal.specs.Counted.{Counts, Ends}
+use Rattle.tree.specs.Ends.{EndsAt}
+use Rattle.normal.specs.Counted.{Counts}
 use Rattle.normal.specs.Body.{takenBy, both, total, branchesIn, allBranchesIn, BodyAt, IsBody, BodiesAt, AreBodies}
 use Rattle.normal.specs.Body.{TakesFrom, TakesAll, RoomFrom, RoomAll, StoresFrom, StoresAll}
 use Rattle.normal.proofs.Counting.{sum-none, sum-more}
@@ -166,7 +167,7 @@ module _ (bs : List ℕ) (p n many of : ℕ) (some : 1 ≤ many) (h : BodiesAt b
   counted-exact k counted e q at = omega (arith, counted .1 e q at, counted .1 (split .first) (split .middle) (split .before), sums, h .low)
 
   -- the first has k branches and ends at `next`
-  module _ (k next : ℕ) (exact : (e : Expr) (q : ℕ) → At e (varsOf bs) bs p q → countOf e ≡ k) (ends : Ends bs p next) where
+  module _ (k next : ℕ) (exact : (e : Expr) (q : ℕ) → At e (varsOf bs) bs p q → countOf e ≡ k) (ends : EndsAt (varsOf bs) bs p next) where
     pub first-low : k ≤ of
     first-low = omega (arith, exact (split .first) (split .middle) (split .before), sums)
 
@@ -313,7 +314,7 @@ module _ (bs : List ℕ) (p n many of : ℕ) (some : 1 ≤ many) (h : BodiesAt b
     last-exact : (e : Expr) (q : ℕ) → At e (varsOf bs) bs p q → countOf e ≡ of
     last-exact e q at = ap countOf (at-unique (varsOf bs) bs p e (split .first) q (split .middle) at (split .before) .tree-is) ∙ last-is
 
-    last-ends : Ends bs p (split .middle)
+    last-ends : EndsAt (varsOf bs) bs p (split .middle)
     last-ends e q at = at-unique (varsOf bs) bs p (split .first) e (split .middle) q (split .before) at .end-is
 
     pub last-body : BodyAt bs p n of

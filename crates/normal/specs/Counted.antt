@@ -21,13 +21,6 @@ CountsAll bs p many branches sofar r =
     (r ≤ 65) × ((es : Exprs) (q : ℕ) → AllAt es (varsOf bs) bs p q → branchCount es ≡ many →
     r ≡ capped (joined branches sofar (countsOf branches es)))
 
--- r is where the tree at p ends, and where so many trees from p on end
-abbrev pub Ends : List ℕ → ℕ → ℕ → Type 0
-Ends bs p r = (e : Expr) (q : ℕ) → At e (varsOf bs) bs p q → r ≡ q
-
-abbrev pub EndsAll : List ℕ → ℕ → ℕ → ℕ → Type 0
-EndsAll bs p many r = (es : Exprs) (q : ℕ) → AllAt es (varsOf bs) bs p q → branchCount es ≡ many → r ≡ q
-
 -- ---- a branch of a case
 
 -- so many children of a case, of at most `left` nodes in all, stand from p on; they have `of` branches, at most 64, and b is one of them

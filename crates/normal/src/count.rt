@@ -8,8 +8,9 @@ ghost use mathlib.Core.Path.{_≡_};
 ghost use Prim.Native.Nat.{_≤_};
 ghost use Rattle.laws.specs.Sheets.{varsOf};
 ghost use Rattle.tree.specs.Standing.{Standing, StandingAll};
+ghost use Rattle.tree.specs.Ends.{EndsAt, AllEnd};
 ghost use Rattle.normal.specs.Count as Count;
-ghost use Rattle.normal.specs.Counted.{Counts, CountsAll, Ends, EndsAll};
+ghost use Rattle.normal.specs.Counted.{Counts, CountsAll};
 
 const MANY: usize = 65;
 
@@ -41,7 +42,7 @@ fn alone(branches: bool) -> usize
 // The tree at `at`, of at most `left` nodes, and where it ends. A leaf has one branch.
 pub fn count_tree(s: &[u8], at: usize, left: usize) -> Branches
     requires { ⌜ Standing (varsOf (now s)) (now s) at left × (left ≤ 2048) ⌝ }
-    ensures { λ r. ⌜ Counts (now (s .entry)) at (r .many) × Ends (now (s .entry)) at (r .next) ⌝ }
+    ensures { λ r. ⌜ Counts (now (s .entry)) at (r .many) × EndsAt (varsOf (now (s .entry))) (now (s .entry)) at (r .next) ⌝ }
 {
     let code = natural(s, at);
     let next = at + node_len(s, at);
@@ -69,7 +70,7 @@ fn count_trees(
     sofar: usize,
 ) -> Branches
     requires { ⌜ StandingAll (varsOf (now s)) (now s) at left many × (left ≤ 2048) × (many ≤ 64) × (sofar ≤ 65) ⌝ }
-    ensures { λ r. ⌜ CountsAll (now (s .entry)) at many branches sofar (r .many) × EndsAll (now (s .entry)) at many (r .next) ⌝ }
+    ensures { λ r. ⌜ CountsAll (now (s .entry)) at many branches sofar (r .many) × AllEnd (varsOf (now (s .entry))) (now (s .entry)) at many (r .next) ⌝ }
 {
     let mut sum = sofar;
     let mut next = at;

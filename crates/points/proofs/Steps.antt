@@ -1,19 +1,18 @@
 -- The number of a point, coordinate by coordinate. Assumes nothing.
 use mathlib.Core.Path.{_≡_, refl, sym, ap, _∙_}
 use Prim.Native.Nat.{ℕ, zero, suc, _+_, _*_, _-_, _≤_, _<_}
-use native.Mathlib.Nat.{add-mul, mul-assoc, add-assoc, mul-one, add-zero, suc-mul, mul-le-mul-left, mul-le-mul-right}
+use native.Mathlib.Nat.{add-mul, mul-assoc, add-assoc, mul-one, add-zero, mul-le-mul-left, mul-le-mul-right}
 use native.Mathlib.Numerals.{sub-one}
 use native.Mathlib.Omega.{arith}
-use mathlib.Core.Bool.{Bool, true, false, _&&_}
+use mathlib.Core.Bool.{Bool, true, false}
 use mathlib.Core.List.{List, [], _∷_}
 use lib.IntN.{ℤ, natAbs, _-ℤ_}
 use Rattle.alpha.specs.Pick.{ifb}
 use Rattle.alpha.specs.Sheet.{Range, Point}
 use Rattle.alpha.specs.Box.{within, side, size, inBox, index}
 use Rattle.alpha.specs.declared.Int.{Int}
-use Rattle.affine.specs.Value.{several, at, pointOf}
+use Rattle.affine.specs.Value.{at, pointOf}
 use Rattle.affine.proofs.Several.{several-same}
-use Rattle.alpha.specs.Field.{field}
 use Rattle.sheet.specs.Record.{boxAt, Ranges}
 use Rattle.laws.proofs.Order.{within-among}
 use Rattle.laws.proofs.Boxes.{size-pos}

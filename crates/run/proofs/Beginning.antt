@@ -4,7 +4,7 @@ use mathlib.Core.Path.{_≡_, refl, sym, ap, _∙_, subst}
 use Prim.Native.Nat.{ℕ, zero, suc, _+_, _-_, _≤_, _<_}
 use native.Mathlib.Decide.{ℕ-discrete}
 use native.Mathlib.Omega.{arith}
-use mathlib.Core.Bool.{Bool, true, false, _&&_}
+use mathlib.Core.Bool.{Bool, true, false}
 use mathlib.Core.List.{List, [], _∷_}
 use lib.ListN.{length, getD, replicate, length-set, length-replicate}
 use lib.Seq.{getD-set-same, getD-set-other}
@@ -14,20 +14,23 @@ use borrow.Author.Tests.{eq-eqb, ne-eqb}
 use Rattle.alpha.specs.Pick.{ifb}
 use Rattle.alpha.specs.Sheet.{Range, Sheet, Point}
 use Rattle.alpha.specs.Affine.{meetsAll}
-use Rattle.alpha.specs.Box.{size, inBox, index, pointAt}
-use Rattle.alpha.specs.Holds.{variable, isInput, inDomain, holds}
+use Rattle.alpha.specs.Box.{size, inBox, pointAt}
+use Rattle.alpha.specs.Holds.{variable, isInput, inDomain}
 use Rattle.alpha.specs.Answer.{accepted}
-use Rattle.alpha.specs.Check.{Element, elements, total, check}
+use Rattle.alpha.specs.Check.{Element, total, check}
 use Rattle.alpha.specs.Ask.{before, numberOf}
-use Rattle.alpha.specs.Outcome.{Outcome, outside, value, loop, inputsBefore, entry}
+use Rattle.alpha.specs.Outcome.{value, loop, inputsBefore}
 use Rattle.laws.specs.Coded.{decoded}
 use Rattle.laws.specs.Sheets.{sheetOf}
 use Rattle.laws.proofs.Tests.{ifb-true, ifb-false}
 use Rattle.laws.proofs.Boxes.{index-pointAt, pointAt-inBox, readBox-ordered}
-use Rattle.laws.proofs.Elements.{element-at, before-fits, number-of-element}
+use Rattle.laws.proofs.Elements.{element-at, number-of-element}
 use Rattle.laws.proofs.Growth.{outcome-outside, outcome-input}
 use Rattle.laws.proofs.Checked.{check-accepts}
+use Rattle.tree.specs.Ends.{EndsKept}
 use Rattle.domain.specs.Inside.{Inside, bit}
+use Rattle.domain.specs.declared.Standing.the-variants.{Holds}
+use Rattle.domain.specs.Standing.{standing}
 use Rattle.domain.proofs.Records.{VariableLaid}
 use Rattle.evaluate.specs.Memo.{busy, unknown, Memo, codeAt, valueAt, sum, busyOne, count, Right, noted}
 use Rattle.evaluate.specs.Working.{elementAt, outcomes, Bodied, Ready}
@@ -75,7 +78,7 @@ code-idle input byte = go (eqb byte 1) input
     go true false e = omega arith
     go false i e = omega arith
 
--- ---- two tables of zeros
+-- ---- tables of zeros
 
 getD-zeros : {X : Type 0} (n m : ℕ) (x : X) → getD (replicate n x) m x ≡ x
 getD-zeros zero m x = refl
@@ -90,6 +93,14 @@ started-none s ins = record {
   idle = λ m b. let z = getD-zeros {X = ℕ} 4096 m 0 in omega (arith, z, b);
   code = λ m h. absurd (omega arith);
   value = λ m h one. absurd (omega arith);
+}
+
+-- a table that keeps no end
+pub no-end-kept : (bs : List ℕ) → EndsKept bs (replicate 8192 0)
+no-end-kept bs = record {
+  sized = length-replicate {A = ℕ} 8192 0;
+  low = λ i. let z = getD-zeros {X = ℕ} 8192 i 0 in omega (arith, z);
+  right = λ i some. let z = getD-zeros {X = ℕ} 8192 i 0 in absurd (omega (arith, z, some));
 }
 
 -- ---- one element more
@@ -198,12 +209,15 @@ unmarked (suc (suc (suc (suc zero)))) n = refl
 unmarked (suc (suc (suc (suc (suc zero))))) n = absurd (n refl)
 unmarked (suc (suc (suc (suc (suc (suc c)))))) n = refl
 
--- each body holds in its variable's declared domain
+-- each body holds in its variable's declared domain, and no case of it clashes there
 abbrev Covered : Sheet → Type 0
-Covered s = (v : ℕ) (z : Point) → v < length s → isInput (variable s v) ≡ false → inDomain (variable s v) z ≡ true → holds (variable s v .body) s z ≡ true
+Covered s =
+    (v : ℕ) (z : Point) → v < length s → isInput (variable s v) ≡ false → inDomain (variable s v) z ≡ true → standing (variable s v .body) s z ≡ Holds
 
 pub accepted-covered : (bs : List ℕ) → check bs ≡ accepted (sheetOf bs) → Covered (sheetOf bs)
-accepted-covered bs e = check-accepts e .holds-all .covered
+accepted-covered bs e v z known body inside =
+    let a = check-accepts e .holds-all in
+    rw (a .covered v z known body inside, a .clear v z known body inside) refl
 
 module _ (s : Sheet) (ins : List ℤ) (memo : Memo) (few : total s ≤ 4096) (S : Started s ins memo (total s)) where
   pub started-idle : Idle memo
@@ -229,7 +243,7 @@ module _ (s : Sheet) (ins : List ℤ) (memo : Memo) (few : total s ≤ 4096) (S 
     bodied covered u = cases (λ d c. absurd (omega (arith, c, u))) (λ d i c. absurd (omega (arith, c, u)))
         (λ d i c.
         let known = number-of-element s m (record { who = 0; at = [] }) lt .known in
-        record { known = known; domain = d; no-input = i; holding = covered (here .who) (here .at) known i d })
+        record { known = known; domain = d; no-input = i; clear = covered (here .who) (here .at) known i d })
 
     settled : codeAt memo m ≤ 3 → outcomes s ins (count memo) m ≡ decoded (codeAt memo m) (valueAt memo m)
     settled l = cases

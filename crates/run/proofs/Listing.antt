@@ -1,6 +1,6 @@
 -- The input list by its parts: how many entries each variable has, where they start, and INPUT from the variables one after another.
 -- Assumes nothing.
-use mathlib.Core.Path.{_≡_, refl, sym, ap, _∙_, subst}
+use mathlib.Core.Path.{_≡_, refl, sym, ap, _∙_}
 use Prim.Native.Nat.{ℕ, zero, suc, _+_, _-_, _≤_, _<_}
 use native.Mathlib.Omega.{arith}
 use mathlib.Core.Bool.{Bool, true, false}
@@ -12,7 +12,7 @@ use lib.Dec.{eqb}
 use borrow.Author.Tests.{eqb-true, eq-eqb}
 use Rattle.alpha.specs.Pick.{ifb}
 use Rattle.alpha.specs.Answer.{Answer, accepted, refused, next, INPUT}
-use Rattle.alpha.specs.Sheet.{Sort, Sort.integer, Sort.boolean, Kind, Sheet, Variable}
+use Rattle.alpha.specs.Sheet.{Sort.integer, Sort.boolean, Sheet}
 use Rattle.alpha.specs.Box.{within, size}
 use Rattle.alpha.specs.Read.{kindOf, sortOf}
 use Rattle.alpha.specs.Holds.{noVariable, variable, isInput, isInputKind}

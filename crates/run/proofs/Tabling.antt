@@ -4,7 +4,6 @@ use mathlib.Core.Path.{_≡_, refl, sym, ap, _∙_, subst}
 use Prim.Native.Nat.{ℕ, zero, suc, _+_, _-_, _≤_, _<_}
 use native.Mathlib.Decide.{ℕ-discrete, decLt}
 use native.Mathlib.Omega.{arith}
-use mathlib.Core.Bool.{Bool, true, false}
 use mathlib.Core.List.{List, [], _∷_, _++_}
 use lib.ListN.{length, getD, set, take, drop, length-set, length-append, length-drop, List·getD-append}
 use lib.Seq.{getD-set-same, getD-set-other, length-take-le, getD-append-add, getD-take, getD-drop}
@@ -17,7 +16,7 @@ use Rattle.alpha.specs.Box.{size}
 use Rattle.alpha.specs.Holds.{variable}
 use Rattle.alpha.specs.Check.{total}
 use Rattle.alpha.specs.Ask.{before}
-use Rattle.alpha.specs.Outcome.{Outcome, loop, deepest}
+use Rattle.alpha.specs.Outcome.{deepest}
 use Rattle.alpha.specs.Run.{codeOf, valueOf, outcomeAt}
 use Rattle.laws.specs.Coded.{decoded}
 use Rattle.laws.proofs.Tests.{ifb-true, ifb-false}

@@ -2,6 +2,7 @@
 use evaluate::settle::settle;
 use sheet::table::first_element;
 use sheet::table::variable_count;
+use tree::ends::keep_all;
 ghost use mathlib.Core.Path.{_≡_};
 ghost use Prim.Native.Nat.{ℕ, _≤_, _<_};
 ghost use lib.ListN.{length, getD, set};
@@ -10,6 +11,7 @@ ghost use Rattle.alpha.specs.Check.{total};
 ghost use Rattle.alpha.specs.Holds.{variable};
 ghost use Rattle.laws.specs.Sheets.{varsOf, sheetOf};
 ghost use Rattle.tree.specs.Formed.{Formed};
+ghost use Rattle.tree.specs.Ends.{EndsKept};
 ghost use Rattle.domain.specs.Inside.{Inside};
 ghost use Rattle.evaluate.specs.Working.{memoOf, Ready};
 ghost use Rattle.evaluate.specs.Settling.{Idle};
@@ -41,6 +43,7 @@ fn fill(
     s: &[u8],
     tab: &[usize; 102],
     inside: &[u8; 4096],
+    ends: &[u16; 8192],
     known: &mut [u8; 4096],
     found: &mut [i32; 4096],
     stack: &mut [u16; 4096],
@@ -48,7 +51,7 @@ fn fill(
     codes: &mut [u8],
     values: &mut [i32],
 )
-    requires { ⌜ Formed (now s) (now tab) × Inside (sheetOf (now s)) (now inside) × Ready (sheetOf (now s)) (memoOf (now known) (now found)) × Idle (memoOf (now known) (now found)) × (length (now stack) ≡ 4096) × (v < varsOf (now s)) × (length (now codes) ≡ size (variable (sheetOf (now s)) v .head .box)) × (length (now values) ≡ size (variable (sheetOf (now s)) v .head .box)) ⌝ }
+    requires { ⌜ Formed (now s) (now tab) × Inside (sheetOf (now s)) (now inside) × Ready (sheetOf (now s)) (memoOf (now known) (now found)) × Idle (memoOf (now known) (now found)) × (length (now stack) ≡ 4096) × (v < varsOf (now s)) × (length (now codes) ≡ size (variable (sheetOf (now s)) v .head .box)) × (length (now values) ≡ size (variable (sheetOf (now s)) v .head .box)) × EndsKept (now s) (now ends) ⌝ }
     ensures { λ _. ⌜ FillsVariable (sheetOf (now (s .entry))) v (memoOf (now (known .entry)) (now (found .entry))) (memoOf (now (known .exit)) (now (found .exit))) (now (codes .exit)) (now (values .exit)) × (length (now (stack .exit)) ≡ 4096) ⌝ }
 {
     let first = first_element(tab, v);
@@ -56,7 +59,7 @@ fn fill(
     let mut i = 0;
     while i < n {
         let e = first + i;
-        settle(s, tab, inside, known, found, stack, e);
+        settle(s, tab, inside, ends, known, found, stack, e);
         put(known, found, e, codes, values, i);
         i += 1;
     }
@@ -75,6 +78,8 @@ pub fn fill_all(
     requires { ⌜ Formed (now s) (now tab) × Inside (sheetOf (now s)) (now inside) × Ready (sheetOf (now s)) (memoOf (now known) (now found)) × Idle (memoOf (now known) (now found)) × (total (sheetOf (now s)) ≤ length (now codes)) × (total (sheetOf (now s)) ≤ length (now values)) ⌝ }
     ensures { λ _. ⌜ FillsAll (sheetOf (now (s .entry))) (memoOf (now (known .entry)) (now (found .entry))) (total (sheetOf (now (s .entry)))) (now (codes .entry)) (now (codes .exit)) (now (values .entry)) (now (values .exit)) ⌝ }
 {
+    let mut ends = [0u16; 8192];
+    keep_all(s, tab, &mut ends);
     let mut stack = [0u16; 4096];
     let n = variable_count(tab);
     let mut v = 0;
@@ -85,6 +90,7 @@ pub fn fill_all(
             s,
             tab,
             inside,
+            &ends,
             known,
             found,
             &mut stack,

@@ -1,6 +1,7 @@
 -- Laws that the proofs of the walkers cite.
 pub mod Noding
 pub mod Standings
+pub mod Ending
 pub mod Heading
 pub mod Fitting
 pub mod Judging

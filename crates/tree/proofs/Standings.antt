@@ -13,6 +13,7 @@ use Rattle.laws.specs.Children.{childrenOf, arity}
 use Rattle.laws.proofs.Shapes.{at-node, at-got, allAt-more, allAt-none, MoreAt}
 use Rattle.laws.proofs.Children.{arity-few, children-many, children-count, at-children}
 use Rattle.tree.specs.Standing.{Noded, Standing, StandingAll}
+use Rattle.tree.specs.Ends.{EndsAt, AllEnd}
 
 -- ---- the trees of two lists
 
@@ -117,7 +118,7 @@ module _ (vars : ℕ) (bs : List ℕ) where
     first-standing = record { tree = split .first; end = split .middle; at = split .before; few = omega (arith, counts, h .few) }
 
     -- the rest stand where the first ends
-    pub rest-standing : (r : ℕ) → ((e : Expr) (q : ℕ) → At e vars bs p q → r ≡ q) → StandingAll vars bs r left (n - 1)
+    pub rest-standing : (r : ℕ) → EndsAt vars bs p r → StandingAll vars bs r left (n - 1)
     rest-standing r ends = record {
       trees = split .rest;
       end = h .end;
@@ -130,13 +131,24 @@ module _ (vars : ℕ) (bs : List ℕ) where
     pub trees-few : n ≤ left
     trees-few = omega (arith, h .few, h .many, count-nodes (h .trees))
 
+  -- ---- where trees end
+
+  -- a tree where its node's children end
+  pub node-ends : (p k n r : ℕ) → k ≡ nodeLen bs p → ((nd : Node) (q : ℕ) → node vars bs p ≡ got nd q → n ≡ arity nd) → AllEnd vars bs (p + k) n r →
+      EndsAt vars bs p r
+  node-ends p k n r long many t e q h = t (childrenOf e) q (children-at p k n long many e q h) (children-counted p k n long many e q h)
+
+  pub none-ends : (p n : ℕ) → n < 1 → AllEnd vars bs p n p
+  none-ends p n l es q h m = none-left es p q n l h m
+
+  pub more-ends : (p n next r : ℕ) → 1 ≤ n → EndsAt vars bs p next → AllEnd vars bs next (n - 1) r → AllEnd vars bs p n r
+  more-ends p n next r some first rest es q h m =
+      let x = one-more es p q n some h m in
+      rest (x .rest) q (rw (first (x .first) (x .middle) (x .before)) (x .after)) (x .many)
+
   -- ---- past a node
 
-  -- any n trees at p end at r
-  abbrev pub Ends : ℕ → ℕ → ℕ → Type 0
-  Ends p n r = (es : Exprs) (q : ℕ) → AllAt es vars bs p q → branchCount es ≡ n → r ≡ q
-
-  pub one-ends : (p r : ℕ) → Ends p 1 r → (e : Expr) (q : ℕ) → At e vars bs p q → r ≡ q
+  pub one-ends : (p r : ℕ) → AllEnd vars bs p 1 r → EndsAt vars bs p r
   unfolding At
   one-ends p r t e q h = t (more e none) q (record { middle = q; before = h; after = refl }) refl
 
@@ -176,5 +188,5 @@ module _ (vars : ℕ) (bs : List ℕ) where
           many = opened-many es (h .end) (h .at) (h .many);
         }
 
-    pub past-ends : (r : ℕ) → Ends (p + k) (n - 1 + c) r → Ends p n r
+    pub past-ends : (r : ℕ) → AllEnd vars bs (p + k) (n - 1 + c) r → AllEnd vars bs p n r
     past-ends r t es q h m = t (opened es q h m) q (opened-at es q h m) (opened-many es q h m)

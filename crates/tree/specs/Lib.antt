@@ -1,5 +1,6 @@
 -- What the walkers over prefix nodes require and answer, by the definitions of crate alpha.
 pub mod Standing
+pub mod Ends
 pub mod Prepared
 pub mod Judged
 pub mod Sorted

@@ -9,6 +9,7 @@ use types::types;
 ghost use Rattle.tree.specs.Prepared.{Prepared};
 ghost use Rattle.tree.specs.Formed.{Forms};
 
+pub mod ends;
 pub mod node;
 pub mod reach;
 mod reaches;

@@ -1,5 +1,5 @@
 -- `domain::meets` meets its contract: what is read there is the constraint that the fields say. Assumes nothing.
-use mathlib.Core.Path.{_≡_, ap, _∙_}
+use mathlib.Core.Path.{ap, _∙_}
 use native.Mathlib.Omega.{arith}
 use borrow.Author.Needs.{needs}
 use Rattle.alpha.specs.Affine as Affine

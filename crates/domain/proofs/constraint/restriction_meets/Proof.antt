@@ -1,6 +1,5 @@
 -- `domain::restriction_meets` meets its contract: its constraints are those that its two numbers say. Assumes nothing.
-use mathlib.Core.Path.{_≡_, _∙_}
-use native.Mathlib.Omega.{arith}
+use mathlib.Core.Path.{_∙_}
 use borrow.Author.Needs.{needs}
 use Rattle.domain.proofs.constraint.restriction_meets.Statement.{statement}
 use Rattle.domain.proofs.constraint.restriction_meets.Tie as tie

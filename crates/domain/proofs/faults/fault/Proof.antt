@@ -1,5 +1,5 @@
 -- `domain::fault` meets its contract, case by case. Assumes nothing.
-use mathlib.Core.Path.{_≡_, refl}
+use mathlib.Core.Path.{refl}
 use borrow.Author.Needs.{needs}
 use Rattle.domain.proofs.faults.fault.Statement.{statement}
 use Rattle.domain.proofs.faults.fault.Tie as tie

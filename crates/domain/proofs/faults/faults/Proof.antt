@@ -1,7 +1,7 @@
 -- `domain::faults` meets its contract. The loop's invariant: the elements of the variables from v on decide. The measure is how many
 -- variables are left. Assumes nothing.
 use mathlib.Core.Path.{_≡_, sym, ap, _∙_}
-use Prim.Native.Nat.{ℕ, _+_, _-_, _≤_, _<_}
+use Prim.Native.Nat.{_-_, _<_}
 use native.Mathlib.Omega.{arith}
 use lib.ListN.{length}
 use borrow.Author.Needs.{needs}

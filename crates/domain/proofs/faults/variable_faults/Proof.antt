@@ -1,5 +1,4 @@
 -- `domain::variable_faults` meets its contract: an input has no fault, and of any other its body is asked. Assumes nothing.
-use mathlib.Core.Path.{_≡_}
 use borrow.Author.Needs.{needs}
 use Rattle.tree.proofs.Passing.{is-input, no-input}
 use Rattle.domain.proofs.Checking.{input-clear}

@@ -1,9 +1,8 @@
 -- `domain::all_declared_meet` meets its contract. The loop's invariant: those that are left stand there and decide. The measure is how
 -- many are left. Assumes nothing.
-use mathlib.Core.Path.{_≡_, sym, ap, _∙_}
-use Prim.Native.Nat.{ℕ, _+_, _-_, _≤_, _<_}
+use mathlib.Core.Path.{_≡_, ap, _∙_}
+use Prim.Native.Nat.{_+_, _-_}
 use native.Mathlib.Omega.{arith}
-use lib.ListN.{length}
 use lib.IntN.{natAbs}
 use borrow.Author.Needs.{needs}
 use borrow.Author.Tests.{not-true, not-false}

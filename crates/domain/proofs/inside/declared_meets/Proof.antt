@@ -1,12 +1,11 @@
 -- `domain::declared_meets` meets its contract: a constraint of another variable, or this one's at the point. Assumes nothing.
-use mathlib.Core.Path.{_≡_, sym, ap, _∙_}
-use Prim.Native.Nat.{ℕ, _+_, _<_}
+use mathlib.Core.Path.{sym, ap, _∙_}
+use Prim.Native.Nat.{_+_}
 use native.Mathlib.Omega.{arith}
-use borrow.Author.Needs.{needs}
 use Rattle.alpha.specs.Affine as Affine
 use Rattle.affine.specs.Value.{pointOf}
 use Rattle.tree.proofs.Declaring.{who-there, who-known}
-use Rattle.domain.specs.Constraints.{constraintFields, Testable}
+use Rattle.domain.specs.Constraints.{constraintFields}
 use Rattle.domain.proofs.Filled.{other-meets, own-meets}
 use Rattle.domain.proofs.inside.declared_meets.Statement.{statement}
 use Rattle.domain.proofs.inside.declared_meets.Tie as tie

@@ -1,7 +1,7 @@
 -- `domain::fill` meets its contract. The loop's invariant: the bytes of the variables before v are as they must be. The measure is how
 -- many variables are left. Assumes nothing.
 use mathlib.Core.Path.{_≡_, _∙_}
-use Prim.Native.Nat.{ℕ, _+_, _-_, _≤_, _<_}
+use Prim.Native.Nat.{_-_}
 use native.Mathlib.Omega.{arith}
 use borrow.Author.Needs.{needs}
 use Rattle.laws.specs.Sheets.{varsOf, sheetOf}

@@ -1,9 +1,8 @@
 -- `domain::fill_variable` meets its contract. The loop's invariant: the bytes of the variables before v and of v's first i elements are
 -- as they must be. The measure is how many elements are left. Assumes nothing.
-use mathlib.Core.Path.{_≡_, sym, ap, _∙_}
-use Prim.Native.Nat.{ℕ, _+_, _-_, _≤_, _<_}
+use mathlib.Core.Path.{_≡_, ap, _∙_}
+use Prim.Native.Nat.{_+_, _-_, _<_}
 use native.Mathlib.Omega.{arith}
-use borrow.Author.Needs.{needs}
 use Rattle.alpha.specs.Affine.{meetsAll}
 use Rattle.alpha.specs.Box as Box
 use Rattle.alpha.specs.Holds.{variable}

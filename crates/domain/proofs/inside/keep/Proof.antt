@@ -1,5 +1,5 @@
 -- `domain::keep` meets its contract: 1 where the constraints are met, 0 where they are not. Assumes nothing.
-use mathlib.Core.Path.{_≡_, refl}
+use mathlib.Core.Path.{refl}
 use borrow.Author.Needs.{needs}
 use Rattle.domain.proofs.inside.keep.Statement.{statement}
 use Rattle.domain.proofs.inside.keep.Tie as tie

@@ -1,5 +1,4 @@
 -- `domain::joined` meets its contract: as branches or as operands. Assumes nothing.
-use mathlib.Core.Path.{_≡_, refl, _∙_}
 use borrow.Author.Needs.{needs}
 use Rattle.domain.proofs.join.joined.Statement.{statement}
 use Rattle.domain.proofs.join.joined.Tie as tie

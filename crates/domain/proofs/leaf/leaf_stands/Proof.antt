@@ -1,6 +1,6 @@
 -- `domain::leaf_stands` meets its contract: off the box it does not hold, and in the box the element's byte tells. Assumes nothing.
-use mathlib.Core.Path.{_≡_, sym, _∙_}
-use Prim.Native.Nat.{ℕ, _+_, _<_}
+use mathlib.Core.Path.{sym, _∙_}
+use Prim.Native.Nat.{_+_, _<_}
 use native.Mathlib.Omega.{arith}
 use borrow.Author.Needs.{needs}
 use Rattle.domain.proofs.Records.{VariableLaid, laid-variable}

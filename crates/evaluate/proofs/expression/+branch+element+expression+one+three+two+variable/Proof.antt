@@ -55,18 +55,17 @@ use Rattle.evaluate.proofs.expression.+branch+element+expression+one+th
 use Prim.Native.Nat.{ℕ, _+_, _*_, _-_, _<_, _≤_}
 use mathlib.Core.Path.{_≡_, refl, sym, ap, _∙_, subst}
 use native.Mathlib.Omega.{arith}
-use lib.ListN.{length, set}
+use lib.ListN.{set}
 use denote.Ref.{now}
 use lib.IntN.{pos, natAbs}
 use borrow.Author.Needs.{needs, sfits-of}
 use mir.Facts.{toZ-ofZ}
 use Rattle.alpha.specs.Field.{field}
 use Rattle.laws.specs.Sheets.{varsOf, sheetOf}
-use Rattle.tree.proofs.Noding.{code-there, wide-fields}
+use Rattle.tree.proofs.Noding.{code-there}
 use Rattle.tree.proofs.Standings.{standing-there}
 use Rattle.domain.proofs.Walks.{walk-standing}
 use Rattle.domain.proofs.Records.{VariableLaid, laid-variable}
-use Rattle.domain.specs.Walk.{Walk}
 use Rattle.domain.specs.Held.{Held}
 use Rattle.evaluate.specs.declared.Worked.{Worked}
 use Rattle.evaluate.specs.Memo as Memo
@@ -76,80 +75,79 @@ use Rattle.evaluate.proofs.Entries.{no-value, noted-is}
 use Rattle.evaluate.proofs.Doing.{ready-kept}
 use Rattle.evaluate.proofs.Operands.{not-zero, case-code, some-variable, walk-noded, walk-some, there, one-few, two-few, ready-after}
 use Rattle.evaluate.proofs.Operands.{small-value, operand-ends}
-use Rattle.evaluate.proofs.Operands.{one-walk, left-walk, right-walk, test-walk, first-walk, second-walk}
 use Rattle.evaluate.proofs.Operands.{one-held, left-held, right-held, test-held, first-held, second-held}
 use Rattle.evaluate.proofs.Ways.{constant-way, one-back, one-way, left-back, right-back, two-way, test-back, first-back, second-back}
 use Rattle.evaluate.proofs.Ways.{three-way, branch-back, branch-way}
-use Rattle.evaluate.proofs.Lowering.{lowered-there, lowered-fits, lowered-walk, lowered-held, lowered-way}
-use Rattle.evaluate.proofs.Elements.{element-low, known-way, deep-way, ready-marked, walk-body, held-body, body-done, worked-way}
+use Rattle.evaluate.proofs.Lowering.{lowered-there, lowered-fits, lowered-held, lowered-way}
+use Rattle.evaluate.proofs.Elements.{element-low, known-way, deep-way, ready-marked, held-body, body-done, worked-way}
 use Rattle.evaluate.proofs.Elements.{variable-known, off-way, named-element, number-few, variable-way}
 
 -- a depth is worth more than all nodes of a body
-abbrev μ-branch : Measures 5 branch-kinds.ps ℕ
-μ-branch κs a = a .1 .1 .1 .1 .1 .1 .1 .1 .0 * 6150 + 3 * a .1 .1 .1 .1 .1 .1 .0 + 1
+abbrev μ-branch : Measures 6 branch-kinds.ps ℕ
+μ-branch κs a = a .1 .1 .1 .1 .1 .1 .1 .1 .1 .0 * 6150 + 3 * a .1 .1 .1 .1 .1 .1 .1 .0 + 1
 
-abbrev μ-element : Measures 5 element-kinds.ps ℕ
-μ-element κs a = a .1 .1 .1 .1 .1 .1 .1 .1 .0 * 6150
+abbrev μ-element : Measures 6 element-kinds.ps ℕ
+μ-element κs a = a .1 .1 .1 .1 .1 .1 .1 .1 .1 .0 * 6150
 
-abbrev μ-expression : Measures 5 expression-kinds.ps ℕ
-μ-expression κs a = a .1 .1 .1 .1 .1 .1 .1 .1 .0 * 6150 + 3 * a .1 .1 .1 .1 .1 .1 .0 + 2
+abbrev μ-expression : Measures 6 expression-kinds.ps ℕ
+μ-expression κs a = a .1 .1 .1 .1 .1 .1 .1 .1 .1 .0 * 6150 + 3 * a .1 .1 .1 .1 .1 .1 .1 .0 + 2
 
-abbrev μ-one : Measures 5 one-kinds.ps ℕ
-μ-one κs a = a .1 .1 .1 .1 .1 .1 .1 .1 .0 * 6150 + 3 * a .1 .1 .1 .1 .1 .1 .0 + 1
+abbrev μ-one : Measures 6 one-kinds.ps ℕ
+μ-one κs a = a .1 .1 .1 .1 .1 .1 .1 .1 .1 .0 * 6150 + 3 * a .1 .1 .1 .1 .1 .1 .1 .0 + 1
 
-abbrev μ-three : Measures 5 three-kinds.ps ℕ
-μ-three κs a = a .1 .1 .1 .1 .1 .1 .1 .1 .0 * 6150 + 3 * a .1 .1 .1 .1 .1 .1 .0 + 1
+abbrev μ-three : Measures 6 three-kinds.ps ℕ
+μ-three κs a = a .1 .1 .1 .1 .1 .1 .1 .1 .1 .0 * 6150 + 3 * a .1 .1 .1 .1 .1 .1 .1 .0 + 1
 
-abbrev μ-two : Measures 5 two-kinds.ps ℕ
-μ-two κs a = a .1 .1 .1 .1 .1 .1 .1 .1 .0 * 6150 + 3 * a .1 .1 .1 .1 .1 .1 .0 + 1
+abbrev μ-two : Measures 6 two-kinds.ps ℕ
+μ-two κs a = a .1 .1 .1 .1 .1 .1 .1 .1 .1 .0 * 6150 + 3 * a .1 .1 .1 .1 .1 .1 .1 .0 + 1
 
-abbrev μ-variable : Measures 5 variable-kinds.ps ℕ
-μ-variable κs a = a .1 .1 .1 .1 .1 .1 .1 .1 .0 * 6150 + 3 * a .1 .1 .1 .1 .1 .1 .0 + 1
+abbrev μ-variable : Measures 6 variable-kinds.ps ℕ
+μ-variable κs a = a .1 .1 .1 .1 .1 .1 .1 .1 .1 .0 * 6150 + 3 * a .1 .1 .1 .1 .1 .1 .1 .0 + 1
 
-abbrev branch-at : ℕ → In 5 branch-kinds.ps
-branch-at t = and 5 branch-kinds.ps (is 5 branch-kinds.ps μ-branch t) branch.Pre
+abbrev branch-at : ℕ → In 6 branch-kinds.ps
+branch-at t = and 6 branch-kinds.ps (is 6 branch-kinds.ps μ-branch t) branch.Pre
 
-abbrev branch-below : ℕ → In 5 branch-kinds.ps
-branch-below t = and 5 branch-kinds.ps (falls 5 branch-kinds.ps _<_ μ-branch t) branch.Pre
+abbrev branch-below : ℕ → In 6 branch-kinds.ps
+branch-below t = and 6 branch-kinds.ps (falls 6 branch-kinds.ps _<_ μ-branch t) branch.Pre
 
-abbrev element-at : ℕ → In 5 element-kinds.ps
-element-at t = and 5 element-kinds.ps (is 5 element-kinds.ps μ-element t) element.Pre
+abbrev element-at : ℕ → In 6 element-kinds.ps
+element-at t = and 6 element-kinds.ps (is 6 element-kinds.ps μ-element t) element.Pre
 
-abbrev element-below : ℕ → In 5 element-kinds.ps
-element-below t = and 5 element-kinds.ps (falls 5 element-kinds.ps _<_ μ-element t) element.Pre
+abbrev element-below : ℕ → In 6 element-kinds.ps
+element-below t = and 6 element-kinds.ps (falls 6 element-kinds.ps _<_ μ-element t) element.Pre
 
-abbrev expression-at : ℕ → In 5 expression-kinds.ps
+abbrev expression-at : ℕ → In 6 expression-kinds.ps
 expression-at t =
-    and 5 expression-kinds.ps (is 5 expression-kinds.ps μ-expression t) expression.Pre
+    and 6 expression-kinds.ps (is 6 expression-kinds.ps μ-expression t) expression.Pre
 
-abbrev expression-below : ℕ → In 5 expression-kinds.ps
+abbrev expression-below : ℕ → In 6 expression-kinds.ps
 expression-below t =
-    and 5 expression-kinds.ps (falls 5 expression-kinds.ps _<_ μ-expression t) expression.Pre
+    and 6 expression-kinds.ps (falls 6 expression-kinds.ps _<_ μ-expression t) expression.Pre
 
-abbrev one-at : ℕ → In 5 one-kinds.ps
-one-at t = and 5 one-kinds.ps (is 5 one-kinds.ps μ-one t) one.Pre
+abbrev one-at : ℕ → In 6 one-kinds.ps
+one-at t = and 6 one-kinds.ps (is 6 one-kinds.ps μ-one t) one.Pre
 
-abbrev one-below : ℕ → In 5 one-kinds.ps
-one-below t = and 5 one-kinds.ps (falls 5 one-kinds.ps _<_ μ-one t) one.Pre
+abbrev one-below : ℕ → In 6 one-kinds.ps
+one-below t = and 6 one-kinds.ps (falls 6 one-kinds.ps _<_ μ-one t) one.Pre
 
-abbrev three-at : ℕ → In 5 three-kinds.ps
-three-at t = and 5 three-kinds.ps (is 5 three-kinds.ps μ-three t) three.Pre
+abbrev three-at : ℕ → In 6 three-kinds.ps
+three-at t = and 6 three-kinds.ps (is 6 three-kinds.ps μ-three t) three.Pre
 
-abbrev three-below : ℕ → In 5 three-kinds.ps
-three-below t = and 5 three-kinds.ps (falls 5 three-kinds.ps _<_ μ-three t) three.Pre
+abbrev three-below : ℕ → In 6 three-kinds.ps
+three-below t = and 6 three-kinds.ps (falls 6 three-kinds.ps _<_ μ-three t) three.Pre
 
-abbrev two-at : ℕ → In 5 two-kinds.ps
-two-at t = and 5 two-kinds.ps (is 5 two-kinds.ps μ-two t) two.Pre
+abbrev two-at : ℕ → In 6 two-kinds.ps
+two-at t = and 6 two-kinds.ps (is 6 two-kinds.ps μ-two t) two.Pre
 
-abbrev two-below : ℕ → In 5 two-kinds.ps
-two-below t = and 5 two-kinds.ps (falls 5 two-kinds.ps _<_ μ-two t) two.Pre
+abbrev two-below : ℕ → In 6 two-kinds.ps
+two-below t = and 6 two-kinds.ps (falls 6 two-kinds.ps _<_ μ-two t) two.Pre
 
-abbrev variable-at : ℕ → In 5 variable-kinds.ps
-variable-at t = and 5 variable-kinds.ps (is 5 variable-kinds.ps μ-variable t) variable.Pre
+abbrev variable-at : ℕ → In 6 variable-kinds.ps
+variable-at t = and 6 variable-kinds.ps (is 6 variable-kinds.ps μ-variable t) variable.Pre
 
-abbrev variable-below : ℕ → In 5 variable-kinds.ps
+abbrev variable-below : ℕ → In 6 variable-kinds.ps
 variable-below t =
-    and 5 variable-kinds.ps (falls 5 variable-kinds.ps _<_ μ-variable t) variable.Pre
+    and 6 variable-kinds.ps (falls 6 variable-kinds.ps _<_ μ-variable t) variable.Pre
 
 abbrev branch-uses : ℕ → branch-lts.Claims
 branch-uses t = (holding-reads.Asked, holding-reads.Learnt, expression-below t, expression.Post, skip-all-reads.Asked, skip-all-reads.Learnt)
@@ -246,16 +244,14 @@ variable-uses t = (
   element.Post,
 )
 
+branch-sub-n : (t : ℕ) → branch-lts.Need-sub-n (branch-uses t) (branch-at t) branch.Post
+branch-sub-n t c = omega (arith, walk-some _ _ _ _ (c .before .pre .1 .3 .walk))
+
 branch-holding-requires : (t : ℕ) → branch-lts.Need-holding-requires (branch-uses t) (branch-at t) branch.Post
 branch-holding-requires t c κs =
     let s = c .before in
     let p = s .pre .1 in
-    (p .0 .placed, p .1, p .3, p .4, p .5, p .6)
-
-branch-sub-expression : (t : ℕ) → branch-lts.Need-sub-expression (branch-uses t) (branch-at t) branch.Post
-branch-sub-expression t c =
-    let s = c .before .before .before .before in
-    omega (arith, walk-some _ _ _ _ (s .pre .1 .3))
+    (p .0 .placed, p .1, p .6, p .3, p .4, p .5)
 
 branch-expression-requires : (t : ℕ) → branch-lts.Need-expression-requires (branch-uses t) (branch-at t) branch.Post
 branch-expression-requires t c κs =
@@ -263,9 +259,9 @@ branch-expression-requires t c κs =
     let s = at-holding .before .before in
     let p = s .pre .1 in
     let is = s .pre .0 in
-    let some = walk-some _ _ _ _ (p .3) in
+    let some = walk-some _ _ _ _ (p .3 .walk) in
     let taken = at-holding .holding .ensures in
-    (omega arith, (p .0, p .1, p .2, taken .walk, omega (arith, p .4), taken .held))
+    (omega arith, (p .0, p .1, p .2, taken .held, omega (arith, p .4), p .6))
 
 branch-enum-known-o : (t : ℕ) → branch-lts.Need-enum-known-o (branch-uses t) (branch-at t) branch.Post
 branch-enum-known-o t c = search needs
@@ -278,11 +274,6 @@ branch-returns t c =
     let p = s .pre .1 in
     branch-back _ _ (s .args .z) _ (p .5) _ (at-holding .holding .ensures) _ _ _ (at-expression .expression .ensures) (no-value _ (c .match .keys2))
 
-branch-sub-skip-all : (t : ℕ) → branch-lts.Need-sub-skip-all (branch-uses t) (branch-at t) branch.Post
-branch-sub-skip-all t c =
-    let s = c .before .before .before .before .before .before .before .before in
-    omega (arith, walk-some _ _ _ _ (s .pre .1 .3))
-
 branch-skip-all-requires : (t : ℕ) → branch-lts.Need-skip-all-requires (branch-uses t) (branch-at t) branch.Post
 branch-skip-all-requires t c κs =
     let at-o = c .before in
@@ -291,7 +282,7 @@ branch-skip-all-requires t c κs =
     let s = at-holding .before .before in
     let p = s .pre .1 in
     let taken = at-holding .holding .ensures in
-    let ends = operand-ends _ _ _ _ (taken .walk) _ _ _ (at-expression .expression .ensures) _ (at-o .o .given .1) in
+    let ends = operand-ends _ _ _ _ (taken .held .walk) _ _ _ (at-expression .expression .ensures) _ (at-o .o .given .1) in
     (taken .after _ ends, omega (arith, p .4), taken .few)
 
 branch-returns-2 : (t : ℕ) → branch-lts.Need-returns-2 (branch-uses t) (branch-at t) branch.Post
@@ -381,16 +372,15 @@ element-expression-requires t c κs =
     let some = at-else2 .if2 .left in
     let late = at-else1 .if1 .left in
     let ready = subst (Ready (sheetOf (now (s .args .s)))) (sym (element-marked t at-note)) (ready-marked _ _ (p .0) _ _ _ (p .3) _ (p .2) late) in
-    let walk = walk-body _ _ (p .0) _ _ _ (p .3) _ (p .2) late _ (at-body-place .body-place .ensures) in
     let held = held-body _ _ (p .0) _ _ _ (p .3) _ (p .2) late _ (at-body-place .body-place .ensures) in
-    (omega arith, (p .0, p .1, ready, walk, omega arith, held))
+    (omega arith, (p .0, p .1, ready, held, omega arith, p .4))
 
 element-code-of-requires : (t : ℕ) → element-lts.Need-code-of-requires (element-uses t) (element-at t) element.Post
 element-code-of-requires t c κs = search needs
 
 -- the memo after the body was worked out
 abbrev element-after : (t : ℕ) → element-lts.After-expression (element-uses t) (element-at t) element.Post → Memo
-element-after t c = memoOf (c .expression .last .1 .1 .1 .0) (c .expression .last .1 .1 .1 .1 .0)
+element-after t c = memoOf (c .expression .last .1 .1 .1 .1 .0) (c .expression .last .1 .1 .1 .1 .1 .0)
 
 -- what was worked out of the body, from the memo in which the element is marked
 element-body : (t : ℕ) (c : element-lts.After-expression (element-uses t) (element-at t) element.Post) →
@@ -455,21 +445,21 @@ element-returns-3 t c =
 
 -- what is worked out of the node that is reached is what the tree gives
 abbrev expression-Inv-loop : expression-lts.InvT-loop
-expression-Inv-loop s tab inside codes values at left depth p₀ n₀ y₀ p n y =
-    Walk s p n y × (n ≤ left) × Held s p y × ((memo last : Memo) (r : Worked) → EvaluatesAt s p y memo last r → EvaluatesAt s at y₀ memo last r)
+expression-Inv-loop s tab inside ends codes values at left depth p₀ n₀ y₀ p n y =
+    Held s p n y × (n ≤ left) × ((memo last : Memo) (r : Worked) → EvaluatesAt s p y memo last r → EvaluatesAt s at y₀ memo last r)
 
 abbrev expression-μ-loop : expression-lts.MeasureT-loop
-expression-μ-loop s tab inside codes values at left depth p₀ n₀ y₀ p n y = n
+expression-μ-loop s tab inside ends codes values at left depth p₀ n₀ y₀ p n y = n
 
 expression-loop-holds : (t : ℕ) →
     expression-lts.Need-loop-holds (expression-uses t) (expression-at t) expression.Post expression-Inv-loop expression-μ-loop
 expression-loop-holds t c =
     let p = c .before .pre .1 in
-    (p .3, omega arith, p .5, λ memo last r h. h)
+    (p .3, omega arith, λ memo last r h. h)
 
 expression-natural-requires : (t : ℕ) →
     expression-lts.Need-natural-requires (expression-uses t) (expression-at t) expression.Post expression-Inv-loop expression-μ-loop
-expression-natural-requires t c κs = code-there _ _ _ (walk-noded _ _ _ _ (c .loop .inv .0))
+expression-natural-requires t c κs = code-there _ _ _ (walk-noded _ _ _ _ (c .loop .inv .0 .walk))
 
 -- its code is past the others where the loop goes on
 expression-high : (t : ℕ) (c : expression-lts.Then1 (expression-uses t) (expression-at t) expression.Post expression-Inv-loop expression-μ-loop) →
@@ -479,31 +469,31 @@ expression-high t c = omega (arith, c .before .natural .ensures, c .if1 .taken)
 expression-lowered-requires : (t : ℕ) →
     expression-lts.Need-lowered-requires (expression-uses t) (expression-at t) expression.Post expression-Inv-loop expression-μ-loop
 expression-lowered-requires t c κs =
-    let w = c .before .before .loop .inv .0 in
-    (lowered-there _ _ _ _ w (expression-high t c), lowered-fits _ _ _ _ w (expression-high t c))
+    let held = c .before .before .loop .inv .0 in
+    (lowered-there _ _ _ _ held (expression-high t c), lowered-fits _ _ _ _ held (expression-high t c))
 
 expression-node-len-requires : (t : ℕ) →
     expression-lts.Need-node-len-requires (expression-uses t) (expression-at t) expression.Post expression-Inv-loop expression-μ-loop
 expression-node-len-requires t c κs =
     let at-loop = c .before .before .before in
-    walk-noded _ _ _ _ (at-loop .loop .inv .0)
+    walk-noded _ _ _ _ (at-loop .loop .inv .0 .walk)
 
 expression-add-p : (t : ℕ) → expression-lts.Need-add-p (expression-uses t) (expression-at t) expression.Post expression-Inv-loop expression-μ-loop
 expression-add-p t c =
     let at-loop = c .before .before .before .before in
-    let w = at-loop .loop .inv .0 in
+    let w = at-loop .loop .inv .0 .walk in
     omega (arith, standing-there _ _ _ _ (walk-standing _ _ _ _ w), c .node-len .ensures)
 
 expression-sub-n : (t : ℕ) → expression-lts.Need-sub-n (expression-uses t) (expression-at t) expression.Post expression-Inv-loop expression-μ-loop
 expression-sub-n t c =
     let at-loop = c .before .before .before .before in
-    omega (arith, walk-some _ _ _ _ (at-loop .loop .inv .0))
+    omega (arith, walk-some _ _ _ _ (at-loop .loop .inv .0 .walk))
 
 expression-loop-less : (t : ℕ) →
     expression-lts.Need-loop-less (expression-uses t) (expression-at t) expression.Post expression-Inv-loop expression-μ-loop
 expression-loop-less t c =
     let at-loop = c .before .before .before .before in
-    omega (arith, walk-some _ _ _ _ (at-loop .loop .inv .0))
+    omega (arith, walk-some _ _ _ _ (at-loop .loop .inv .0 .walk))
 
 expression-loop-again : (t : ℕ) →
     expression-lts.Need-loop-again (expression-uses t) (expression-at t) expression.Post expression-Inv-loop expression-μ-loop
@@ -515,15 +505,14 @@ expression-loop-again t c =
     let high = expression-high t at-then in
     let long = c .node-len .ensures in
     let y = at-lowered .lowered .ensures in (
-      lowered-walk _ _ _ _ (inv .0) high _ long _ y,
+      lowered-held _ _ _ _ (inv .0) high _ long _ y,
       omega (arith, inv .1),
-      lowered-held _ _ _ _ (inv .0) high _ long _ y (inv .2),
-      λ memo last r h. inv .3 memo last r (lowered-way _ _ _ _ (inv .0) high _ long _ y memo last r h),
+      λ memo last r h. inv .2 memo last r (lowered-way _ _ _ _ (inv .0) high _ long _ y memo last r h),
     )
 
 expression-natural-requires-2 : (t : ℕ) →
     expression-lts.Need-natural-requires-2 (expression-uses t) (expression-at t) expression.Post expression-Inv-loop expression-μ-loop
-expression-natural-requires-2 t c κs = code-there _ _ _ (walk-noded _ _ _ _ (c .before .before .loop .inv .0))
+expression-natural-requires-2 t c κs = code-there _ _ _ (walk-noded _ _ _ _ (c .before .before .loop .inv .0 .walk))
 
 expression-variable-requires : (t : ℕ) →
     expression-lts.Need-variable-requires (expression-uses t) (expression-at t) expression.Post expression-Inv-loop expression-μ-loop
@@ -536,7 +525,7 @@ expression-variable-requires t c κs =
     let is = s .pre .0 in
     let inv = at-loop .loop .inv in
     let code = sym (at-natural2 .natural2 .ensures) ∙ at-match-keys1 .match .keys1 in
-    (omega (arith, inv .1), (p .0, p .1, p .2, inv .0, omega (arith, p .4, inv .1), code, inv .2))
+    (omega (arith, inv .1), (p .0, p .1, p .2, inv .0, omega (arith, p .4, inv .1), code, p .5))
 
 expression-one-requires : (t : ℕ) →
     expression-lts.Need-one-requires (expression-uses t) (expression-at t) expression.Post expression-Inv-loop expression-μ-loop
@@ -549,7 +538,7 @@ expression-one-requires t c κs =
     let is = s .pre .0 in
     let inv = at-loop .loop .inv in
     let code = sym (at-natural2 .natural2 .ensures) ∙ at-match-keys2 .match .keys2 in
-    (omega (arith, inv .1), (p .0, p .1, p .2, inv .0, omega (arith, p .4, inv .1), code, inv .2))
+    (omega (arith, inv .1), (p .0, p .1, p .2, inv .0, omega (arith, p .4, inv .1), code, p .5))
 
 expression-two-requires : (t : ℕ) →
     expression-lts.Need-two-requires (expression-uses t) (expression-at t) expression.Post expression-Inv-loop expression-μ-loop
@@ -562,7 +551,7 @@ expression-two-requires t c κs =
     let is = s .pre .0 in
     let inv = at-loop .loop .inv in
     let code = sym (at-natural2 .natural2 .ensures) ∙ at-match-keys3 .match .keys3 in
-    (omega (arith, inv .1), (p .0, p .1, p .2, inv .0, omega (arith, p .4, inv .1), code, inv .2))
+    (omega (arith, inv .1), (p .0, p .1, p .2, inv .0, omega (arith, p .4, inv .1), code, p .5))
 
 expression-three-requires : (t : ℕ) →
     expression-lts.Need-three-requires (expression-uses t) (expression-at t) expression.Post expression-Inv-loop expression-μ-loop
@@ -575,7 +564,7 @@ expression-three-requires t c κs =
     let is = s .pre .0 in
     let inv = at-loop .loop .inv in
     let code = sym (at-natural2 .natural2 .ensures) ∙ at-match-keys4 .match .keys4 in
-    (omega (arith, inv .1), (p .0, p .1, p .2, inv .0, omega (arith, p .4, inv .1), code, inv .2))
+    (omega (arith, inv .1), (p .0, p .1, p .2, inv .0, omega (arith, p .4, inv .1), code, p .5))
 
 expression-constant-requires : (t : ℕ) →
     expression-lts.Need-constant-requires (expression-uses t) (expression-at t) expression.Post expression-Inv-loop expression-μ-loop
@@ -584,7 +573,7 @@ expression-constant-requires t c κs =
     let at-loop = at-natural2 .before .before .before in
     let inv = at-loop .loop .inv in
     let code = at-natural2 .natural2 .ensures in
-    there _ _ _ _ (inv .0) _ refl (λ e. omega (arith, c .if2 .taken))
+    there _ _ _ _ (inv .0 .walk) _ refl (λ e. omega (arith, c .if2 .taken))
 
 expression-branch-requires : (t : ℕ) →
     expression-lts.Need-branch-requires (expression-uses t) (expression-at t) expression.Post expression-Inv-loop expression-μ-loop
@@ -604,30 +593,30 @@ expression-branch-requires t c κs =
     let no = at-match-rest .match .rest in
     let n = at-natural2 .natural2 .result in
     let six = case-code n (omega (arith, at-else2 .if2 .left)) (omega (arith, code, last, at-else1 .if1 .left)) (no .0 .0 .1) (no .0 .1) (no .1) in
-    (omega (arith, inv .1), (p .0, p .1, p .2, inv .0, omega (arith, p .4, inv .1), sym code ∙ six, inv .2))
+    (omega (arith, inv .1), (p .0, p .1, p .2, inv .0, omega (arith, p .4, inv .1), sym code ∙ six, p .5))
 
 expression-returns : (t : ℕ) → expression-lts.Need-returns (expression-uses t) (expression-at t) expression.Post expression-Inv-loop expression-μ-loop
 expression-returns t c =
     let at-loop = c .before .before .before .before .before .before .before in
-    at-loop .loop .inv .3 _ _ _ (c .variable .ensures)
+    at-loop .loop .inv .2 _ _ _ (c .variable .ensures)
 
 expression-returns-2 : (t : ℕ) →
     expression-lts.Need-returns-2 (expression-uses t) (expression-at t) expression.Post expression-Inv-loop expression-μ-loop
 expression-returns-2 t c =
     let at-loop = c .before .before .before .before .before .before .before in
-    at-loop .loop .inv .3 _ _ _ (c .one .ensures)
+    at-loop .loop .inv .2 _ _ _ (c .one .ensures)
 
 expression-returns-3 : (t : ℕ) →
     expression-lts.Need-returns-3 (expression-uses t) (expression-at t) expression.Post expression-Inv-loop expression-μ-loop
 expression-returns-3 t c =
     let at-loop = c .before .before .before .before .before .before .before in
-    at-loop .loop .inv .3 _ _ _ (c .two .ensures)
+    at-loop .loop .inv .2 _ _ _ (c .two .ensures)
 
 expression-returns-4 : (t : ℕ) →
     expression-lts.Need-returns-4 (expression-uses t) (expression-at t) expression.Post expression-Inv-loop expression-μ-loop
 expression-returns-4 t c =
     let at-loop = c .before .before .before .before .before .before .before in
-    at-loop .loop .inv .3 _ _ _ (c .three .ensures)
+    at-loop .loop .inv .2 _ _ _ (c .three .ensures)
 
 expression-returns-5 : (t : ℕ) →
     expression-lts.Need-returns-5 (expression-uses t) (expression-at t) expression.Post expression-Inv-loop expression-μ-loop
@@ -640,31 +629,29 @@ expression-returns-5 t c =
     let is = at-natural2 .natural2 .ensures in
     let no = at-match-rest .match .rest in
     let low = not-zero _ (no .0 .0 .0 .1) in
-    loop .inv .3 _ _ _ (constant-way _ _ (loop .y) (omega arith) (omega (arith, at-then2 .if2 .taken)) _ _ (c .constant .ensures))
+    loop .inv .2 _ _ _ (constant-way _ _ (loop .y) (omega arith) (omega (arith, at-then2 .if2 .taken)) _ _ (c .constant .ensures))
 
 expression-returns-6 : (t : ℕ) →
     expression-lts.Need-returns-6 (expression-uses t) (expression-at t) expression.Post expression-Inv-loop expression-μ-loop
 expression-returns-6 t c =
     let at-loop = c .before .before .before .before .before .before .before .before in
-    at-loop .loop .inv .3 _ _ _ (c .branch .ensures)
+    at-loop .loop .inv .2 _ _ _ (c .branch .ensures)
+
+one-sub-n : (t : ℕ) → one-lts.Need-sub-n (one-uses t) (one-at t) one.Post
+one-sub-n t c = omega (arith, walk-some _ _ _ _ (c .before .pre .1 .3 .walk))
 
 one-add-expression : (t : ℕ) → one-lts.Need-add-expression (one-uses t) (one-at t) one.Post
 one-add-expression t c =
     let s = c .before .before .before in
-    omega (arith, there _ _ _ _ (s .pre .1 .3) 3 (s .pre .1 .5) (λ e. omega arith))
-
-one-sub-expression : (t : ℕ) → one-lts.Need-sub-expression (one-uses t) (one-at t) one.Post
-one-sub-expression t c =
-    let s = c .before .before .before in
-    omega (arith, walk-some _ _ _ _ (s .pre .1 .3))
+    omega (arith, there _ _ _ _ (s .pre .1 .3 .walk) 3 (s .pre .1 .5) (λ e. omega arith))
 
 one-expression-requires : (t : ℕ) → one-lts.Need-expression-requires (one-uses t) (one-at t) one.Post
 one-expression-requires t c κs =
     let s = c .before .before .before in
     let p = s .pre .1 in
     let is = s .pre .0 in
-    let some = walk-some _ _ _ _ (p .3) in
-    (omega arith, (p .0, p .1, p .2, one-walk _ _ _ _ (p .3) (p .5), omega (arith, p .4), one-held _ _ _ _ (p .3) (p .5) (p .6)))
+    let some = walk-some _ _ _ _ (p .3 .walk) in
+    (omega arith, (p .0, p .1, p .2, one-held _ _ _ _ (p .3) (p .5), omega (arith, p .4), p .6))
 
 one-enum-known-o : (t : ℕ) → one-lts.Need-enum-known-o (one-uses t) (one-at t) one.Post
 one-enum-known-o t c = search needs
@@ -679,12 +666,12 @@ one-returns t c =
 one-add-natural : (t : ℕ) → one-lts.Need-add-natural (one-uses t) (one-at t) one.Post
 one-add-natural t c =
     let s = c .before .before .before .before .before .before .before in
-    omega (arith, there _ _ _ _ (s .pre .1 .3) 3 (s .pre .1 .5) (λ e. omega arith))
+    omega (arith, there _ _ _ _ (s .pre .1 .3 .walk) 3 (s .pre .1 .5) (λ e. omega arith))
 
 one-natural-requires : (t : ℕ) → one-lts.Need-natural-requires (one-uses t) (one-at t) one.Post
 one-natural-requires t c κs =
     let s = c .before .before .before .before .before .before .before in
-    omega (arith, there _ _ _ _ (s .pre .1 .3) 3 (s .pre .1 .5) (λ e. omega arith))
+    omega (arith, there _ _ _ _ (s .pre .1 .3 .walk) 3 (s .pre .1 .5) (λ e. omega arith))
 
 one-unary-requires : (t : ℕ) → one-lts.Need-unary-requires (one-uses t) (one-at t) one.Post
 one-unary-requires t c κs =
@@ -693,8 +680,8 @@ one-unary-requires t c κs =
     let s = at-expression .before .before .before .before in
     let p = s .pre .1 in
     let o = at-o .o .given in
-    let x = small-value _ _ _ _ (one-walk _ _ _ _ (p .3) (p .5)) _ _ _ (at-expression .expression .ensures) _ (o .1) in
-    (omega (arith, one-few _ _ _ _ (p .3) (p .5), c .natural .ensures), x)
+    let x = small-value _ _ _ _ (one-held _ _ _ _ (p .3) (p .5) .walk) _ _ _ (at-expression .expression .ensures) _ (o .1) in
+    (omega (arith, one-few _ _ _ _ (p .3 .walk) (p .5), c .natural .ensures), x)
 
 one-work-of-requires : (t : ℕ) → one-lts.Need-work-of-requires (one-uses t) (one-at t) one.Post
 one-work-of-requires t c κs = search needs
@@ -713,23 +700,21 @@ one-returns-2 t c =
     (at-unary .unary .ensures) in
     rw (c .work-of .ensures) way
 
+three-sub-n : (t : ℕ) → three-lts.Need-sub-n (three-uses t) (three-at t) three.Post
+three-sub-n t c = omega (arith, walk-some _ _ _ _ (c .before .pre .1 .3 .walk))
+
 three-add-expression : (t : ℕ) → three-lts.Need-add-expression (three-uses t) (three-at t) three.Post
 three-add-expression t c =
     let s = c .before .before .before in
-    omega (arith, code-there _ _ _ (walk-noded _ _ _ _ (s .pre .1 .3)))
-
-three-sub-expression : (t : ℕ) → three-lts.Need-sub-expression (three-uses t) (three-at t) three.Post
-three-sub-expression t c =
-    let s = c .before .before .before in
-    omega (arith, walk-some _ _ _ _ (s .pre .1 .3))
+    omega (arith, code-there _ _ _ (walk-noded _ _ _ _ (s .pre .1 .3 .walk)))
 
 three-expression-requires : (t : ℕ) → three-lts.Need-expression-requires (three-uses t) (three-at t) three.Post
 three-expression-requires t c κs =
     let s = c .before .before .before in
     let p = s .pre .1 in
     let is = s .pre .0 in
-    let some = walk-some _ _ _ _ (p .3) in
-    (omega arith, (p .0, p .1, p .2, test-walk _ _ _ _ (p .3) (p .5), omega (arith, p .4), test-held _ _ _ _ (p .3) (p .5) (p .6)))
+    let some = walk-some _ _ _ _ (p .3 .walk) in
+    (omega arith, (p .0, p .1, p .2, test-held _ _ _ _ (p .3) (p .5), omega (arith, p .4), p .6))
 
 three-enum-known-o : (t : ℕ) → three-lts.Need-enum-known-o (three-uses t) (three-at t) three.Post
 three-enum-known-o t c = search needs
@@ -741,11 +726,6 @@ three-returns t c =
     let p = s .pre .1 in
     test-back _ _ (s .args .z) (p .5) _ _ _ (at-expression .expression .ensures) (no-value _ (c .match .keys2))
 
-three-sub-expression-2 : (t : ℕ) → three-lts.Need-sub-expression-2 (three-uses t) (three-at t) three.Post
-three-sub-expression-2 t c =
-    let s = c .before .before .before .before .before .before .before .before .before in
-    omega (arith, walk-some _ _ _ _ (s .pre .1 .3))
-
 three-expression-requires-2 : (t : ℕ) → three-lts.Need-expression-requires-2 (three-uses t) (three-at t) three.Post
 three-expression-requires-2 t c κs =
     let at-o = c .before .before .before in
@@ -753,13 +733,12 @@ three-expression-requires-2 t c κs =
     let s = at-expression .before .before .before .before in
     let p = s .pre .1 in
     let is = s .pre .0 in
-    let some = walk-some _ _ _ _ (p .3) in
+    let some = walk-some _ _ _ _ (p .3 .walk) in
     let a = at-expression .expression .ensures in
-    let w = test-walk _ _ _ _ (p .3) (p .5) in
+    let w = test-held _ _ _ _ (p .3) (p .5) .walk in
     let tested = operand-ends _ _ _ _ w _ _ _ a _ (at-o .o .given .1) in
     let ready = ready-after _ _ _ _ w _ _ _ a (p .2) in
-    let held = first-held _ _ _ _ (p .3) (p .5) _ tested (p .6) in
-    (omega arith, (p .0, p .1, ready, first-walk _ _ _ _ (p .3) (p .5) _ tested, omega (arith, p .4), held))
+    (omega arith, (p .0, p .1, ready, first-held _ _ _ _ (p .3) (p .5) _ tested, omega (arith, p .4), p .6))
 
 three-enum-known-p : (t : ℕ) → three-lts.Need-enum-known-p (three-uses t) (three-at t) three.Post
 three-enum-known-p t c = search needs
@@ -774,11 +753,6 @@ three-returns-2 t c =
     first-back _ _ (s .args .z) (p .5) _ _ _ (at-expression .expression .ensures) _ (at-o .o .given .1) _ _ (at-expression2 .expression2 .ensures)
     (no-value _ (c .match2 .keys2))
 
-three-sub-expression-3 : (t : ℕ) → three-lts.Need-sub-expression-3 (three-uses t) (three-at t) three.Post
-three-sub-expression-3 t c =
-    let s = c .before .before .before .before .before .before .before .before .before .before .before .before .before .before .before in
-    omega (arith, walk-some _ _ _ _ (s .pre .1 .3))
-
 three-expression-requires-3 : (t : ℕ) → three-lts.Need-expression-requires-3 (three-uses t) (three-at t) three.Post
 three-expression-requires-3 t c κs =
     let at-p = c .before .before .before in
@@ -788,16 +762,15 @@ three-expression-requires-3 t c κs =
     let s = at-expression .before .before .before .before in
     let p = s .pre .1 in
     let is = s .pre .0 in
-    let some = walk-some _ _ _ _ (p .3) in
+    let some = walk-some _ _ _ _ (p .3 .walk) in
     let a = at-expression .expression .ensures in
-    let w = test-walk _ _ _ _ (p .3) (p .5) in
+    let w = test-held _ _ _ _ (p .3) (p .5) .walk in
     let tested = operand-ends _ _ _ _ w _ _ _ a _ (at-o .o .given .1) in
     let b = at-expression2 .expression2 .ensures in
-    let v = first-walk _ _ _ _ (p .3) (p .5) _ tested in
+    let v = first-held _ _ _ _ (p .3) (p .5) _ tested .walk in
     let first = operand-ends _ _ _ _ v _ _ _ b _ (at-p .p .given .1) in
     let ready = ready-after _ _ _ _ v _ _ _ b (ready-after _ _ _ _ w _ _ _ a (p .2)) in
-    let held = second-held _ _ _ _ (p .3) (p .5) _ tested (p .6) _ first in
-    (omega arith, (p .0, p .1, ready, second-walk _ _ _ _ (p .3) (p .5) _ tested _ first, omega (arith, p .4), held))
+    (omega arith, (p .0, p .1, ready, second-held _ _ _ _ (p .3) (p .5) _ tested _ first, omega (arith, p .4), p .6))
 
 three-enum-known-q : (t : ℕ) → three-lts.Need-enum-known-q (three-uses t) (three-at t) three.Post
 three-enum-known-q t c = search needs
@@ -830,12 +803,12 @@ three-choose-requires t c κs =
     let s = at-expression .before .before .before .before in
     let p = s .pre .1 in
     let a = at-expression .expression .ensures in
-    let w = test-walk _ _ _ _ (p .3) (p .5) in
+    let w = test-held _ _ _ _ (p .3) (p .5) .walk in
     let tested = operand-ends _ _ _ _ w _ _ _ a _ (at-o .o .given .1) in
     let b = at-expression2 .expression2 .ensures in
-    let v = first-walk _ _ _ _ (p .3) (p .5) _ tested in
+    let v = first-held _ _ _ _ (p .3) (p .5) _ tested .walk in
     let first = operand-ends _ _ _ _ v _ _ _ b _ (at-p .p .given .1) in
-    let u = second-walk _ _ _ _ (p .3) (p .5) _ tested _ first in
+    let u = second-held _ _ _ _ (p .3) (p .5) _ tested _ first .walk in
     (small-value _ _ _ _ v _ _ _ b _ (at-p .p .given .1), small-value _ _ _ _ u _ _ _ (at-expression3 .expression3 .ensures) _ (at-q .q .given .1))
 
 three-work-of-requires : (t : ℕ) → three-lts.Need-work-of-requires (three-uses t) (three-at t) three.Post
@@ -860,23 +833,21 @@ three-returns-4 t c =
     let way = three-way _ _ (s .args .z) (p .5) _ _ _ a _ (at-o .o .given .1) _ _ b _ (at-p .p .given .1) _ _ d _ _ (at-q .q .given .1) says in
     rw (c .work-of .ensures) way
 
+two-sub-n : (t : ℕ) → two-lts.Need-sub-n (two-uses t) (two-at t) two.Post
+two-sub-n t c = omega (arith, walk-some _ _ _ _ (c .before .pre .1 .3 .walk))
+
 two-add-expression : (t : ℕ) → two-lts.Need-add-expression (two-uses t) (two-at t) two.Post
 two-add-expression t c =
     let s = c .before .before .before in
-    omega (arith, there _ _ _ _ (s .pre .1 .3) 4 (s .pre .1 .5) (λ e. omega arith))
-
-two-sub-expression : (t : ℕ) → two-lts.Need-sub-expression (two-uses t) (two-at t) two.Post
-two-sub-expression t c =
-    let s = c .before .before .before in
-    omega (arith, walk-some _ _ _ _ (s .pre .1 .3))
+    omega (arith, there _ _ _ _ (s .pre .1 .3 .walk) 4 (s .pre .1 .5) (λ e. omega arith))
 
 two-expression-requires : (t : ℕ) → two-lts.Need-expression-requires (two-uses t) (two-at t) two.Post
 two-expression-requires t c κs =
     let s = c .before .before .before in
     let p = s .pre .1 in
     let is = s .pre .0 in
-    let some = walk-some _ _ _ _ (p .3) in
-    (omega arith, (p .0, p .1, p .2, left-walk _ _ _ _ (p .3) (p .5), omega (arith, p .4), left-held _ _ _ _ (p .3) (p .5) (p .6)))
+    let some = walk-some _ _ _ _ (p .3 .walk) in
+    (omega arith, (p .0, p .1, p .2, left-held _ _ _ _ (p .3) (p .5), omega (arith, p .4), p .6))
 
 two-enum-known-o : (t : ℕ) → two-lts.Need-enum-known-o (two-uses t) (two-at t) two.Post
 two-enum-known-o t c = search needs
@@ -888,11 +859,6 @@ two-returns t c =
     let p = s .pre .1 in
     left-back _ _ (s .args .z) (p .5) _ _ _ (at-expression .expression .ensures) (no-value _ (c .match .keys2))
 
-two-sub-expression-2 : (t : ℕ) → two-lts.Need-sub-expression-2 (two-uses t) (two-at t) two.Post
-two-sub-expression-2 t c =
-    let s = c .before .before .before .before .before .before .before .before .before in
-    omega (arith, walk-some _ _ _ _ (s .pre .1 .3))
-
 two-expression-requires-2 : (t : ℕ) → two-lts.Need-expression-requires-2 (two-uses t) (two-at t) two.Post
 two-expression-requires-2 t c κs =
     let at-o = c .before .before .before in
@@ -900,13 +866,12 @@ two-expression-requires-2 t c κs =
     let s = at-expression .before .before .before .before in
     let p = s .pre .1 in
     let is = s .pre .0 in
-    let some = walk-some _ _ _ _ (p .3) in
+    let some = walk-some _ _ _ _ (p .3 .walk) in
     let a = at-expression .expression .ensures in
-    let w = left-walk _ _ _ _ (p .3) (p .5) in
+    let w = left-held _ _ _ _ (p .3) (p .5) .walk in
     let ready = ready-after _ _ _ _ w _ _ _ a (p .2) in
     let ends = operand-ends _ _ _ _ w _ _ _ a _ (at-o .o .given .1) in
-    let held = right-held _ _ _ _ (p .3) (p .5) (p .6) _ ends in
-    (omega arith, (p .0, p .1, ready, right-walk _ _ _ _ (p .3) (p .5) _ ends, omega (arith, p .4), held))
+    (omega arith, (p .0, p .1, ready, right-held _ _ _ _ (p .3) (p .5) _ ends, omega (arith, p .4), p .6))
 
 two-enum-known-p : (t : ℕ) → two-lts.Need-enum-known-p (two-uses t) (two-at t) two.Post
 two-enum-known-p t c = search needs
@@ -924,12 +889,12 @@ two-returns-2 t c =
 two-add-natural : (t : ℕ) → two-lts.Need-add-natural (two-uses t) (two-at t) two.Post
 two-add-natural t c =
     let s = c .before .before .before .before .before .before .before .before .before .before .before .before .before in
-    omega (arith, there _ _ _ _ (s .pre .1 .3) 4 (s .pre .1 .5) (λ e. omega arith))
+    omega (arith, there _ _ _ _ (s .pre .1 .3 .walk) 4 (s .pre .1 .5) (λ e. omega arith))
 
 two-natural-requires : (t : ℕ) → two-lts.Need-natural-requires (two-uses t) (two-at t) two.Post
 two-natural-requires t c κs =
     let s = c .before .before .before .before .before .before .before .before .before .before .before .before .before in
-    omega (arith, there _ _ _ _ (s .pre .1 .3) 4 (s .pre .1 .5) (λ e. omega arith))
+    omega (arith, there _ _ _ _ (s .pre .1 .3 .walk) 4 (s .pre .1 .5) (λ e. omega arith))
 
 two-binary-requires : (t : ℕ) → two-lts.Need-binary-requires (two-uses t) (two-at t) two.Post
 two-binary-requires t c κs =
@@ -939,12 +904,12 @@ two-binary-requires t c κs =
     let at-expression = at-o .before .before in
     let s = at-expression .before .before .before .before in
     let p = s .pre .1 in
-    let w = left-walk _ _ _ _ (p .3) (p .5) in
+    let w = left-held _ _ _ _ (p .3) (p .5) .walk in
     let a = at-expression .expression .ensures in
     let o = at-o .o .given in
-    let v = right-walk _ _ _ _ (p .3) (p .5) _ (operand-ends _ _ _ _ w _ _ _ a _ (o .1)) in
+    let v = right-held _ _ _ _ (p .3) (p .5) _ (operand-ends _ _ _ _ w _ _ _ a _ (o .1)) .walk in
     let b = at-expression2 .expression2 .ensures in (
-      omega (arith, two-few _ _ _ _ (p .3) (p .5), c .natural .ensures),
+      omega (arith, two-few _ _ _ _ (p .3 .walk) (p .5), c .natural .ensures),
       small-value _ _ _ _ w _ _ _ a _ (o .1),
       small-value _ _ _ _ v _ _ _ b _ (at-p .p .given .1),
     )
@@ -978,7 +943,7 @@ variable-number : (t : ℕ) (c : variable-lts.After-natural (variable-uses t) (v
     c .natural .result < varsOf (now (c .before .before .args .s))
 variable-number t c =
     let p = c .before .before .pre .1 in
-    variable-known _ _ (p .0) _ _ _ (p .3) (p .5) _ (c .natural .ensures) (variable-some t (c .before .before))
+    variable-known _ _ (p .0) _ _ _ (p .3 .walk) (p .5) _ (c .natural .ensures) (variable-some t (c .before .before))
 
 variable-laid : (t : ℕ) (c : variable-lts.After-natural (variable-uses t) (variable-at t) variable.Post) →
     VariableLaid (now (c .before .before .args .s)) (now (c .before .before .args .tab)) (c .natural .result)
@@ -988,19 +953,19 @@ variable-add-natural : (t : ℕ) → variable-lts.Need-add-natural (variable-use
 variable-add-natural t c =
     let s = c .before in
     let p = s .pre .1 in
-    omega (arith, there _ _ _ _ (p .3) 0 (p .5) (λ e. omega arith))
+    omega (arith, there _ _ _ _ (p .3 .walk) 0 (p .5) (λ e. omega arith))
 
 variable-natural-requires : (t : ℕ) → variable-lts.Need-natural-requires (variable-uses t) (variable-at t) variable.Post
 variable-natural-requires t c κs =
     let s = c .before in
     let p = s .pre .1 in
-    omega (arith, there _ _ _ _ (p .3) 0 (p .5) (λ e. omega arith))
+    omega (arith, there _ _ _ _ (p .3 .walk) 0 (p .5) (λ e. omega arith))
 
 variable-add-next : (t : ℕ) → variable-lts.Need-add-next (variable-uses t) (variable-at t) variable.Post
 variable-add-next t c =
     let s = c .before .before in
     let p = s .pre .1 in
-    omega (arith, there _ _ _ _ (p .3) 0 (p .5) (λ e. omega arith))
+    omega (arith, there _ _ _ _ (p .3 .walk) 0 (p .5) (λ e. omega arith))
 
 variable-record-place-requires : (t : ℕ) → variable-lts.Need-record-place-requires (variable-uses t) (variable-at t) variable.Post
 variable-record-place-requires t c κs = variable-laid t c .low
@@ -1026,7 +991,7 @@ variable-returns t c =
     let known = variable-number t n in
     let number = n .natural .ensures in
     let off = rw (at-record-place .record-place .ensures) at (sym (c .enum-told .given .1) ∙ at-index .index .ensures) in
-    off-way _ _ (p .0) _ _ _ (p .3) (p .5) _ number known _ off
+    off-way _ _ (p .0) _ _ _ (p .3 .walk) (p .5) _ number known _ off
 
 variable-first-element-requires : (t : ℕ) → variable-lts.Need-first-element-requires (variable-uses t) (variable-at t) variable.Post
 variable-first-element-requires t c κs =
@@ -1044,7 +1009,7 @@ variable-add-e t c =
     let known = variable-number t n in
     let number = n .natural .ensures in
     let found = rw (at-record-place .record-place .ensures) at (sym (at-found .found .given .1) ∙ at-index .index .ensures) in
-    omega (arith, number-few _ _ (p .0) _ _ _ (p .3) (p .5) _ number known _ found, c .first-element .ensures)
+    omega (arith, number-few _ _ (p .0) _ _ _ (p .3 .walk) (p .5) _ number known _ found, c .first-element .ensures)
 
 variable-element-requires : (t : ℕ) → variable-lts.Need-element-requires (variable-uses t) (variable-at t) variable.Post
 variable-element-requires t c κs =
@@ -1060,8 +1025,8 @@ variable-element-requires t c κs =
     let found = rw (at-record-place .record-place .ensures) at (sym (at-found .found .given .1) ∙ at-index .index .ensures) in
     let is = n .before .before .pre .0 in
     let here = ap (λ x. x + at-found .found .given .0 .0) (at-first-element .first-element .ensures) in
-    let element = named-element _ _ (p .0) _ _ _ (p .3) (p .5) _ number known _ found _ here in
-    (omega arith, (p .0, p .1, p .2, element))
+    let element = named-element _ _ (p .0) _ _ _ (p .3 .walk) (p .5) _ number known _ found _ here in
+    (omega arith, (p .0, p .1, p .2, element, p .6))
 
 variable-returns-2 : (t : ℕ) → variable-lts.Need-returns-2 (variable-uses t) (variable-at t) variable.Post
 variable-returns-2 t c =
@@ -1076,7 +1041,7 @@ variable-returns-2 t c =
     let number = n .natural .ensures in
     let found = rw (at-record-place .record-place .ensures) at (sym (at-found .found .given .1) ∙ at-index .index .ensures) in
     let here = ap (λ x. x + at-found .found .given .0 .0) (at-first-element .first-element .ensures) in
-    variable-way _ _ (p .0) _ _ _ (p .3) (p .5) _ number known _ found _ here _ _ _ (c .element .ensures)
+    variable-way _ _ (p .0) _ _ _ (p .3 .walk) (p .5) _ number known _ found _ here _ _ _ (c .element .ensures)
 
 pub +branch+element+expression+one+three+two+variable-spec : {M : Type 1} → statement M
 +branch+element+expression+one+three+two+variable-spec =
@@ -1090,12 +1055,11 @@ pub +branch+element+expression+one+three+two+variable-spec : {M : Type 1} → st
     μ-variable
     (λ t. branch-lts.spec (branch-uses t) (branch-at t)
     branch.Post
+    (branch-sub-n t)
     (branch-holding-requires t)
-    (branch-sub-expression t)
     (branch-expression-requires t)
     (branch-enum-known-o t)
     (branch-returns t)
-    (branch-sub-skip-all t)
     (branch-skip-all-requires t)
     (branch-returns-2 t))
     (λ t. element-lts.spec (element-uses t) (element-at t)
@@ -1142,8 +1106,8 @@ pub +branch+element+expression+one+three+two+variable-spec : {M : Type 1} → st
     (expression-returns-6 t))
     (λ t. one-lts.spec (one-uses t) (one-at t)
     one.Post
+    (one-sub-n t)
     (one-add-expression t)
-    (one-sub-expression t)
     (one-expression-requires t)
     (one-enum-known-o t)
     (one-returns t)
@@ -1154,16 +1118,14 @@ pub +branch+element+expression+one+three+two+variable-spec : {M : Type 1} → st
     (one-returns-2 t))
     (λ t. three-lts.spec (three-uses t) (three-at t)
     three.Post
+    (three-sub-n t)
     (three-add-expression t)
-    (three-sub-expression t)
     (three-expression-requires t)
     (three-enum-known-o t)
     (three-returns t)
-    (three-sub-expression-2 t)
     (three-expression-requires-2 t)
     (three-enum-known-p t)
     (three-returns-2 t)
-    (three-sub-expression-3 t)
     (three-expression-requires-3 t)
     (three-enum-known-q t)
     (three-returns-3 t)
@@ -1173,12 +1135,11 @@ pub +branch+element+expression+one+three+two+variable-spec : {M : Type 1} → st
     (three-returns-4 t))
     (λ t. two-lts.spec (two-uses t) (two-at t)
     two.Post
+    (two-sub-n t)
     (two-add-expression t)
-    (two-sub-expression t)
     (two-expression-requires t)
     (two-enum-known-o t)
     (two-returns t)
-    (two-sub-expression-2 t)
     (two-expression-requires-2 t)
     (two-enum-known-p t)
     (two-returns-2 t)

@@ -1,5 +1,4 @@
 -- `evaluate::lowered` meets its contract. Assumes nothing.
-use borrow.Author.Needs.{needs}
 use native.Mathlib.Omega.{arith}
 use mathlib.Core.Path.{refl, sym, _∙_}
 use mathlib.Core.Logic.{inl, inr}

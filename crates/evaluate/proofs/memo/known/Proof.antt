@@ -1,5 +1,5 @@
 -- `evaluate::known` meets its contract, code by code. Assumes nothing.
-use mathlib.Core.Path.{_≡_, refl}
+use mathlib.Core.Path.{refl}
 use Rattle.evaluate.proofs.Entries.{loop-entry}
 use borrow.Author.Needs.{needs}
 use Rattle.evaluate.proofs.memo.known.Statement.{statement}

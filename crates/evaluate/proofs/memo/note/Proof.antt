@@ -1,5 +1,5 @@
 -- `evaluate::note` meets its contract: the value is in the 32-bit range, and so kept whole. Assumes nothing.
-use mathlib.Core.Path.{_≡_, refl, ap}
+use mathlib.Core.Path.{refl, ap}
 use lib.ListN.{set}
 use Rattle.evaluate.proofs.Entries.{kept32}
 use borrow.Author.Needs.{needs}

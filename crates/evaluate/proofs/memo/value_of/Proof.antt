@@ -1,5 +1,5 @@
 -- `evaluate::value_of` meets its contract, case by case. Assumes nothing.
-use mathlib.Core.Path.{_≡_, sym, ap}
+use mathlib.Core.Path.{ap}
 use Rattle.evaluate.specs.Memo.{valueOf}
 use Rattle.evaluate.proofs.Entries.{zero-is, value-is}
 use borrow.Author.Needs.{needs}

@@ -1,5 +1,5 @@
 -- `evaluate::work_of` meets its contract, case by case. Assumes nothing.
-use mathlib.Core.Path.{_≡_, sym, ap}
+use mathlib.Core.Path.{sym, ap}
 use Rattle.evaluate.specs.Working.{workOf}
 use borrow.Author.Needs.{needs}
 use Rattle.evaluate.proofs.memo.work_of.Statement.{statement}

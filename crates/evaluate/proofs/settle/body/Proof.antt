@@ -1,15 +1,11 @@
 -- `evaluate::body` meets its contract: the element's variable and its point are found, and the body is worked out there. Assumes nothing.
-use mathlib.Core.Path.{_≡_, sym, ap, _∙_, subst}
-use Prim.Native.Nat.{ℕ, _+_, _-_, _<_}
+use Prim.Native.Nat.{_-_}
 use native.Mathlib.Omega.{arith}
-use Rattle.alpha.specs.declared.Int.{Int}
 use Rattle.laws.specs.Sheets.{sheetOf}
-use Rattle.points.specs.Number.{PointAt}
-use Rattle.domain.proofs.Records.{VariableLaid, laid-variable}
+use Rattle.domain.proofs.Records.{laid-variable}
 use Rattle.evaluate.specs.Working.{elementAt, Bodied, ElementIs}
-use Rattle.evaluate.specs.Settling.{Owns}
 use Rattle.evaluate.proofs.Owning.{owned-low, size-is, place-low, owned-element}
-use Rattle.evaluate.proofs.Elements.{element-walk, element-held, body-evaluated, body-by-number}
+use Rattle.evaluate.proofs.Elements.{element-held, body-evaluated, body-by-number}
 use borrow.Author.Needs.{needs}
 use Rattle.evaluate.proofs.settle.body.Statement.{statement}
 use Rattle.evaluate.proofs.settle.body.Tie as tie
@@ -83,9 +79,8 @@ expression-requires c κs =
     let a = c .before .before in
     let at-point = a .before in
     let s = start a in
-    let walk = element-walk _ _ (s .pre .0) _ _ _ (here at-point) (bodied a) _ (a .body-place .ensures) in
     let held = element-held _ _ (s .pre .0) _ _ _ (here at-point) (bodied a) _ (a .body-place .ensures) in
-    (s .pre .0, s .pre .1, s .pre .2, walk, omega arith, held)
+    (s .pre .0, s .pre .1, s .pre .2, held, omega arith, s .pre .5)
 
 returns : tie.Need-returns
 returns c =

@@ -1,6 +1,6 @@
 -- `evaluate::owner` meets its contract. The loop's invariant: the variables up to v start at or before the element. The measure is how
 -- many variables are left. Assumes nothing.
-use Prim.Native.Nat.{ℕ, _+_, _-_, _≤_, _<_}
+use Prim.Native.Nat.{_-_, _<_}
 use native.Mathlib.Omega.{arith}
 use Rattle.laws.specs.Sheets.{varsOf}
 use Rattle.domain.proofs.Records.{laid-variable}

@@ -1,9 +1,8 @@
 -- `evaluate::settle` meets its contract. The loop's invariant: what was put on the stack first is settled when the stack is empty. The
 -- measure is what is still to be done. Assumes nothing.
-use mathlib.Core.Path.{_≡_, sym, ap, _∙_, subst}
-use Prim.Native.Nat.{ℕ, _+_, _-_, _≤_, _<_}
+use mathlib.Core.Path.{_≡_}
+use Prim.Native.Nat.{_-_}
 use native.Mathlib.Omega.{arith}
-use lib.ListN.{length, set, length-set}
 use lib.IntN.{pos}
 use borrow.Author.Needs.{needs}
 use Rattle.laws.specs.Sheets.{sheetOf}
@@ -15,11 +14,11 @@ use Rattle.evaluate.proofs.settle.settle.Statement.{statement}
 use Rattle.evaluate.proofs.settle.settle.Tie as tie
 
 abbrev Inv-loop : tie.InvT-loop
-Inv-loop s tab inside codes₀ values₀ stack₀ e high₀ codes values stack high =
+Inv-loop s tab inside ends codes₀ values₀ stack₀ e high₀ codes values stack high =
     Going (sheetOf s) e (memoOf codes₀ values₀) (memoOf codes values) stack high
 
 abbrev μ-loop : tie.MeasureT-loop
-μ-loop s tab inside codes₀ values₀ stack₀ e high₀ codes values stack high = sum toDo codes
+μ-loop s tab inside ends codes₀ values₀ stack₀ e high₀ codes values stack high = sum toDo codes
 
 element-copy-out-if1 : tie.Need-element-copy-out-if1 Inv-loop μ-loop
 element-copy-out-if1 c = omega (arith, c .before .pre .5, c .before .pre .2 .few)
@@ -70,7 +69,7 @@ turn-requires c κs =
     let s = at-loop .before .before .before .before .before .before .before .before in
     let p = s .pre in
     let g = at-loop .loop .inv in
-    (p .0, p .1, g .ready, g .stacked, in-loop .loop-test .taken)
+    (p .0, p .1, g .ready, g .stacked, in-loop .loop-test .taken, p .6)
 
 loop-less : tie.Need-loop-less Inv-loop μ-loop
 loop-less c = c .turn .ensures .less

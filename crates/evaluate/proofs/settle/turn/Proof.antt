@@ -1,13 +1,11 @@
 -- `evaluate::turn` meets its contract: the element on top is settled, or one that it waits for comes on top. Assumes nothing.
-use mathlib.Core.Path.{_≡_, sym, ap, _∙_, subst}
-use Prim.Native.Nat.{ℕ, _+_, _-_, _≤_, _<_}
+use mathlib.Core.Path.{sym, ap, _∙_, subst}
+use Prim.Native.Nat.{_+_, _-_, _≤_, _<_}
 use native.Mathlib.Omega.{arith}
 use lib.ListN.{set}
-use lib.IntN.{pos}
-use Rattle.alpha.specs.Check.{total}
 use Rattle.laws.specs.Sheets.{sheetOf}
 use Rattle.evaluate.specs.declared.Work.the-variants.{Deep}
-use Rattle.evaluate.specs.Memo.{Memo, busy}
+use Rattle.evaluate.specs.Memo.{Memo}
 use Rattle.evaluate.specs.Working.{memoOf, Done}
 use Rattle.evaluate.specs.Settling.{bodyOf, standing, Turned}
 use Rattle.evaluate.proofs.Entries.{noted-is, not-deep}
@@ -25,7 +23,7 @@ start c = c .before .before .before .before .before
 
 -- the memo after the body was worked out
 abbrev after : tie.After-body → Memo
-after c = memoOf (c .body .last .1 .1 .1 .0) (c .body .last .1 .1 .1 .1 .0)
+after c = memoOf (c .body .last .1 .1 .1 .1 .0) (c .body .last .1 .1 .1 .1 .1 .0)
 
 sub-top : tie.Need-sub-top
 sub-top c = search needs
@@ -47,7 +45,7 @@ body-requires : tie.Need-body-requires
 body-requires c κs =
     let s = c .before .before .before .before in
     let p = s .pre in
-    (p .0, p .1, p .2, top-element _ _ (p .2) _ _ (p .3) (p .4), top-marked _ _ (p .2) _ _ (p .3) (p .4))
+    (p .0, p .1, p .2, top-element _ _ (p .2) _ _ (p .3) (p .4), top-marked _ _ (p .2) _ _ (p .3) (p .4), p .5)
 
 enum-known-r : tie.Need-enum-known-r
 enum-known-r c = search needs

@@ -21,10 +21,12 @@ use borrow.Author.Needs.{needs}
 use lib.Dec.{eqb}
 use Rattle.laws.specs.Sheets.{varsOf}
 use Rattle.tree.specs.Standing.{StandingAll}
+use Rattle.tree.specs.Ends.{AllEnd}
 use Rattle.tree.proofs.Noding.{code-there}
 use Rattle.tree.proofs.Standings.{standing-noded, standing-some, standing-there, standing-children, children-few, first-standing, rest-standing}
-use Rattle.normal.specs.Counted.{CountsAll, EndsAll}
-use Rattle.normal.proofs.Counting.{alone-low, leaf-way, node-way, none-way, more-way, leaf-ends, node-ends, none-ends, more-ends}
+use Rattle.tree.proofs.Standings.{node-ends, none-ends, more-ends}
+use Rattle.normal.specs.Counted.{CountsAll}
+use Rattle.normal.proofs.Counting.{alone-low, leaf-way, node-way, none-way, more-way, leaf-ends}
 
 abbrev μ-count-tree : Measures 1 count-tree-kinds.ps ℕ
 μ-count-tree κs a = 2 * a .1 .1 .0
@@ -124,14 +126,14 @@ count-tree-returns-2 t c =
     let long = after-node-len .node-len .ensures in
     let many = c .before .before .children .ensures in (
       node-way _ _ _ _ _ _ _ long many (after-natural .natural .ensures) (c .before .alone .ensures) (c .count-trees .ensures .0),
-      node-ends _ _ _ _ _ long many (c .count-trees .ensures .1),
+      node-ends _ _ _ _ _ _ long many (c .count-trees .ensures .1),
     )
 
 -- what the trees from here on come to is what all of them do, and they end where all of them end
 abbrev count-trees-Inv-loop : count-trees-lts.InvT-loop
 count-trees-Inv-loop s at left many branches sofar sum₀ next₀ more₀ sum next more =
     StandingAll (varsOf s) s next left more × (sum ≤ 65) × ((r : ℕ) → CountsAll s next more branches sum r → CountsAll s at many branches sofar r)
-    × ((r : ℕ) → EndsAll s next more r → EndsAll s at many r)
+    × ((r : ℕ) → AllEnd (varsOf s) s next more r → AllEnd (varsOf s) s at many r)
 
 abbrev count-trees-μ-loop : count-trees-lts.MeasureT-loop
 count-trees-μ-loop s at left many branches sofar sum₀ next₀ more₀ sum next more = more
@@ -170,7 +172,7 @@ count-trees-loop-again t c =
       rest-standing _ _ _ _ _ more (loop .inv .0) _ (one .1),
       omega (arith, c .joined .ensures),
       (λ r h. loop .inv .2 r (more-way _ _ _ (s .args .branches) (loop .sum) _ _ _ _ more (one .0) (one .1) (c .joined .ensures) h)),
-      (λ r h. loop .inv .3 r (more-ends _ _ _ _ _ more (one .1) h)),
+      (λ r h. loop .inv .3 r (more-ends _ _ _ _ _ _ more (one .1) h)),
     )
 
 count-trees-returns : (t : ℕ) → count-trees-lts.Need-returns (count-trees-uses t) (count-trees-at t)
@@ -180,7 +182,7 @@ count-trees-returns t c =
     let s = c .before .before .before in
     let none = c .loop-test .left in (
       loop .inv .2 _ (none-way _ _ _ (s .args .branches) (loop .sum) (omega (arith, none)) (loop .inv .1)),
-      loop .inv .3 _ (none-ends _ _ _ (omega (arith, none))),
+      loop .inv .3 _ (none-ends _ _ _ _ (omega (arith, none))),
     )
 
 pub +count-tree+count-trees-spec : {M : Type 1} → statement M

@@ -1,10 +1,9 @@
 -- `run::fill` meets its contract. The loop's invariant: the first i entries of the stretch are filled. The measure is how many are left.
 -- Assumes nothing.
-use mathlib.Core.Path.{_≡_, sym, ap, _∙_}
-use Prim.Native.Nat.{ℕ, _+_, _-_, _≤_, _<_}
+use mathlib.Core.Path.{_≡_, _∙_}
+use Prim.Native.Nat.{_+_, _-_, _<_}
 use native.Mathlib.Omega.{arith}
 use lib.ListN.{length}
-use borrow.Author.Needs.{needs}
 use Rattle.alpha.specs.Box.{size}
 use Rattle.alpha.specs.Holds.{variable}
 use Rattle.alpha.specs.Check.{total}
@@ -18,11 +17,11 @@ use Rattle.run.proofs.fill.fill.Statement.{statement}
 use Rattle.run.proofs.fill.fill.Tie as tie
 
 abbrev Inv-loop : tie.InvT-loop
-Inv-loop s tab inside known₀ found₀ stack₀ v codes₀ values₀ first n i₀ known found stack codes values i =
+Inv-loop s tab inside ends known₀ found₀ stack₀ v codes₀ values₀ first n i₀ known found stack codes values i =
     FillsBelow (sheetOf s) v (memoOf known₀ found₀) (memoOf known found) codes values i × (length stack ≡ 4096)
 
 abbrev μ-loop : tie.MeasureT-loop
-μ-loop s tab inside known₀ found₀ stack₀ v codes₀ values₀ first n i₀ known found stack codes values i =
+μ-loop s tab inside ends known₀ found₀ stack₀ v codes₀ values₀ first n i₀ known found stack codes values i =
     n - i
 
 -- the variable
@@ -69,7 +68,7 @@ settle-requires c κs =
     let s = at-loop .before .before .before .before in
     let p = s .pre in
     let m = at-loop .loop .inv in
-    (p .0, p .1, m .0 .advances .ready, m .0 .advances .idle, m .1, number-low in-loop)
+    (p .0, p .1, m .0 .advances .ready, m .0 .advances .idle, m .1, number-low in-loop, p .8)
 
 put-requires : tie.Need-put-requires Inv-loop μ-loop
 put-requires c κs =

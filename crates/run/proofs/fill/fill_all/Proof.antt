@@ -1,13 +1,12 @@
 -- `run::fill_all` meets its contract. The loop's invariant: the stretches of the variables before v are filled. The measure is how many are
 -- left. Assumes nothing.
-use mathlib.Core.Path.{_≡_, refl, sym, ap, _∙_, subst}
-use Prim.Native.Nat.{ℕ, suc, _+_, _-_, _≤_, _<_}
+use mathlib.Core.Path.{_≡_, refl, ap, _∙_}
+use Prim.Native.Nat.{suc, _+_, _-_, _≤_, _<_}
 use native.Mathlib.Omega.{arith}
 use borrow.Author.Needs.{needs}
 use lib.ListN.{length}
 use Rattle.alpha.specs.Box.{size}
 use Rattle.alpha.specs.Holds.{variable}
-use Rattle.alpha.specs.Check.{total}
 use Rattle.alpha.specs.Ask.{before}
 use Rattle.laws.specs.Sheets.{varsOf, sheetOf}
 use Rattle.laws.proofs.Elements.{before-fits, before-suc, before-all}
@@ -15,25 +14,26 @@ use Rattle.tree.proofs.Heading.{prepared-sections}
 use Rattle.domain.proofs.Records.{VariableLaid, laid-variable, laid-length}
 use Rattle.evaluate.specs.Working.{memoOf}
 use Rattle.run.specs.Filling.{Advances, FillsAll}
+use Rattle.run.proofs.Beginning.{no-end-kept}
 use Rattle.run.proofs.Tabling.{part-long, advances-none, advances-on, fills-start, fills-on, fills-at}
 use Rattle.run.proofs.fill.fill_all.Statement.{statement}
 use Rattle.run.proofs.fill.fill_all.Tie as tie
 
 abbrev Inv-loop : tie.InvT-loop
-Inv-loop s tab inside known₀ found₀ codes₀ values₀ stack₀ n v₀ known found codes values stack v =
+Inv-loop s tab inside known₀ found₀ codes₀ values₀ ends stack₀ n v₀ known found codes values stack v =
     FillsAll (sheetOf s) (memoOf known₀ found₀) (before (sheetOf s) v) codes₀ codes values₀ values
     × Advances (sheetOf s) (memoOf known₀ found₀) (memoOf known found) × (length stack ≡ 4096) × (v ≤ varsOf s)
 
 abbrev μ-loop : tie.MeasureT-loop
-μ-loop s tab inside known₀ found₀ codes₀ values₀ stack₀ n v₀ known found codes values stack v = n - v
+μ-loop s tab inside known₀ found₀ codes₀ values₀ ends stack₀ n v₀ known found codes values stack v = n - v
 
 abbrev start : tie.In-loop Inv-loop μ-loop → tie.Start Inv-loop μ-loop
-start c = c .before .before .before .before .before
+start c = c .before .before .before .before .before .before .before
 
 -- the table says how many variables the sheet has
-count-is : (c : tie.After-variable-count Inv-loop μ-loop) → c .variable-count .result ≡ varsOf (c .before .before .before .args .s .now)
+count-is : (c : tie.After-variable-count Inv-loop μ-loop) → c .variable-count .result ≡ varsOf (c .before .before .before .before .before .args .s .now)
 count-is c =
-    let s = c .before .before .before in
+    let s = c .before .before .before .before .before in
     c .variable-count .ensures ∙ s .pre .0 .placed .prepared .table .variables
 
 -- the next variable
@@ -54,12 +54,15 @@ to-is : (c : tie.After-first-element2 Inv-loop μ-loop) →
     + size (variable (sheetOf (start l .args .s .now)) (l .before .loop .v) .head .box)
 to-is c = c .first-element2 .ensures ∙ laid (c .before .before) .last-is
 
+keep-all-requires : tie.Need-keep-all-requires Inv-loop μ-loop
+keep-all-requires c κs = (c .before .before .before .pre .0 .placed, no-end-kept _)
+
 variable-count-requires : tie.Need-variable-count-requires Inv-loop μ-loop
 variable-count-requires c κs = search needs
 
 loop-holds : tie.Need-loop-holds Inv-loop μ-loop
 loop-holds c =
-    let s = c .before .before .before in
+    let s = c .before .before .before .before .before in
     let p = s .pre in
     (fills-start _ _ _ _, advances-none _ _ (p .2) (p .3), refl, omega arith)
 
@@ -113,74 +116,75 @@ ends c =
 
 sub-fill : tie.Need-sub-fill Inv-loop μ-loop
 sub-fill c =
-    let after-first-element2 = c .before .before .before in
+    let after-first-element2 = c .before .before .before .before in
     let after-first-element = after-first-element2 .before in
     let in-loop = after-first-element .before in
     let l = laid in-loop in omega (arith, from-is after-first-element, to-is after-first-element2)
 
 part-fill-start : tie.Need-part-fill-start Inv-loop μ-loop
 part-fill-start c =
-    let after-first-element2 = c .before .before .before in
+    let after-first-element2 = c .before .before .before .before in
     let after-first-element = after-first-element2 .before in
     let in-loop = after-first-element .before in
     let l = laid in-loop in omega (arith, from-is after-first-element, to-is after-first-element2)
 
 part-fill-end : tie.Need-part-fill-end Inv-loop μ-loop
 part-fill-end c =
-    let after-first-element2 = c .before .before .before in
+    let after-first-element2 = c .before .before .before .before in
     omega (arith, in-codes after-first-element2)
 
 mul-fill : tie.Need-mul-fill Inv-loop μ-loop
 mul-fill c =
-    let after-first-element = c .before .before .before .before .before in
+    let after-first-element = c .before .before .before .before .before .before in
     let in-loop = after-first-element .before in
     let small : after-first-element .first-element .result ≤ 4096 = omega (arith, from-is after-first-element, laid in-loop .few) in search needs
 
 sub-fill-2 : tie.Need-sub-fill-2 Inv-loop μ-loop
 sub-fill-2 c =
-    let after-first-element2 = c .before .before .before .before in
+    let after-first-element2 = c .before .before .before .before .before in
     let after-first-element = after-first-element2 .before in
     let in-loop = after-first-element .before in
     let l = laid in-loop in omega (arith, from-is after-first-element, to-is after-first-element2)
 
 part-fill-start-2 : tie.Need-part-fill-start-2 Inv-loop μ-loop
 part-fill-start-2 c =
-    let after-first-element2 = c .before .before .before .before in
+    let after-first-element2 = c .before .before .before .before .before in
     let after-first-element = after-first-element2 .before in
     let in-loop = after-first-element .before in
     let l = laid in-loop in omega (arith, from-is after-first-element, to-is after-first-element2)
 
 part-fill-end-2 : tie.Need-part-fill-end-2 Inv-loop μ-loop
 part-fill-end-2 c =
-    let after-first-element2 = c .before .before .before .before in
+    let after-first-element2 = c .before .before .before .before .before in
     omega (arith, in-values after-first-element2)
 
 fill-requires : tie.Need-fill-requires Inv-loop μ-loop
 fill-requires c κs =
-    let t = c .before .before .before .before .before in
+    let t = c .before .before .before .before .before .before in
     let l = t .before .before in
     let at-loop = l .before in
     let p = start l .pre in
     let m = at-loop .loop .inv in
     let wide = stretch-is t in
-    (p .0, p .1, m .1 .ready, m .1 .idle, m .2, known l, part-long _ _ _ _ wide (in-codes t) (order t), part-long _ _ _ _ wide (in-values t) (order t))
+    let kept = at-loop .before .before .keep-all .ensures in
+    (p .0, p .1, m .1 .ready, m .1 .idle, m .2, known l, part-long _ _ _ _ wide (in-codes t) (order t), part-long _ _ _ _ wide (in-values t) (order t), kept)
 
 add-v : tie.Need-add-v Inv-loop μ-loop
 add-v c =
-    let l = c .before .before .before .before .before .before .before .before .before .before .before in
+    let l = c .before .before .before .before .before .before .before .before .before .before .before .before in
     let after-variable-count = l .before .before in
     let few = prepared-sections _ _ (start l .pre .0 .placed .prepared) .few in
     omega (arith, few, count-is after-variable-count, l .loop-test .taken)
 
 loop-less : tie.Need-loop-less Inv-loop μ-loop
 loop-less c =
-    let in-loop = c .before .before .before .before .before .before .before .before .before .before .before in
+    let in-loop = c .before .before .before .before .before .before .before .before .before .before .before .before in
     omega (arith, in-loop .loop-test .taken)
 
 loop-again : tie.Need-loop-again Inv-loop μ-loop
 loop-again c =
     let after-fill = c .before .before .before in
-    let t = after-fill .before .before .before .before .before .before in
+    let t = after-fill .before .before .before .before .before .before .before in
     let after-first-element = t .before in
     let l = after-first-element .before in
     let at-loop = l .before in
@@ -202,7 +206,7 @@ same-length-2 c = c .before .loop .inv .0 .values-long
 
 returns : tie.Need-returns Inv-loop μ-loop
 returns c =
-    let s = c .before .before .before .before .before in
+    let s = c .before .before .before .before .before .before .before in
     let m = c .before .loop .inv in
     let all : c .before .loop .v ≡ length (sheetOf (s .args .s .now)) =
     omega (arith, count-is (c .before .before), c .loop-test .left, m .3, laid-length _ _ (s .pre .0 .placed)) in
@@ -214,6 +218,7 @@ fill-all-spec =
     (tie.spec
     Inv-loop
     μ-loop
+    keep-all-requires
     variable-count-requires
     loop-holds
     first-element-requires

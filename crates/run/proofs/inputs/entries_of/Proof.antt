@@ -1,15 +1,14 @@
 -- `run::entries_of` meets its contract: only a boolean input's entries are looked at. Assumes nothing.
-use mathlib.Core.Path.{_≡_, refl, sym, ap, _∙_, subst}
-use Prim.Native.Nat.{ℕ, suc, _+_, _-_, _≤_, _<_}
+use mathlib.Core.Path.{_≡_, ap, _∙_}
+use Prim.Native.Nat.{suc, _+_, _-_, _≤_}
 use native.Mathlib.Omega.{arith}
 use borrow.Author.Needs.{needs}
-use mathlib.Core.Bool.{true, false}
+use mathlib.Core.Bool.{true}
 use lib.ListN.{length}
 use Rattle.alpha.specs.Sheet.{Sort.boolean}
 use Rattle.alpha.specs.Box.{size}
 use Rattle.alpha.specs.Read.{kindOf, sortOf}
 use Rattle.alpha.specs.Holds.{variable, isInput, isInputKind}
-use Rattle.alpha.specs.Outcome.{inputsBefore}
 use Rattle.alpha.specs.Run as Run
 use Rattle.laws.specs.Sheets.{sheetOf}
 use Rattle.domain.proofs.Records.{VariableLaid, laid-variable, laid-total}

@@ -1,9 +1,7 @@
 -- `run::input_size` meets its contract. Assumes nothing.
-use mathlib.Core.Path.{_≡_, refl, sym, ap, _∙_, subst}
-use Prim.Native.Nat.{ℕ, _+_, _-_, _≤_, _<_}
+use mathlib.Core.Path.{_≡_, ap, _∙_}
+use Prim.Native.Nat.{_-_}
 use native.Mathlib.Omega.{arith}
-use borrow.Author.Needs.{needs, sfits-of}
-use mir.Facts.{toZ-ofZ}
 use Rattle.alpha.specs.Holds.{variable, isInput, isInputKind}
 use Rattle.laws.specs.Sheets.{sheetOf}
 use Rattle.domain.proofs.Records.{VariableLaid, laid-variable}

@@ -1,12 +1,11 @@
 -- `run::inputs_before` meets its contract. The loop's invariant: the sum so far is that of the variables before k. The measure is how many
 -- are left. Assumes nothing.
-use mathlib.Core.Path.{_≡_, refl, sym, ap, _∙_, subst}
-use Prim.Native.Nat.{ℕ, suc, _+_, _-_, _≤_, _<_}
+use mathlib.Core.Path.{_≡_, refl, ap, _∙_}
+use Prim.Native.Nat.{suc, _+_, _-_, _≤_}
 use native.Mathlib.Omega.{arith}
-use borrow.Author.Needs.{needs, sfits-of}
-use mir.Facts.{toZ-ofZ}
+use borrow.Author.Needs.{needs}
 use Rattle.alpha.specs.Outcome.{inputsBefore}
-use Rattle.laws.specs.Sheets.{varsOf, sheetOf}
+use Rattle.laws.specs.Sheets.{sheetOf}
 use Rattle.domain.proofs.Records.{laid-length, laid-total}
 use Rattle.run.proofs.Listing.{before-step, before-count, count-total}
 use Rattle.run.proofs.inputs.inputs_before.Statement.{statement}

@@ -1,18 +1,14 @@
 -- `run::start_variable` meets its contract. The loop's invariant: the entries of the variable's first i elements are those before the run.
 -- The measure is how many are left. Assumes nothing.
-use mathlib.Core.Path.{_≡_, refl, sym, ap, _∙_, subst}
-use Prim.Native.Nat.{ℕ, suc, _+_, _-_, _≤_, _<_}
+use mathlib.Core.Path.{_≡_, sym, ap, _∙_, subst}
+use Prim.Native.Nat.{suc, _+_, _-_, _≤_, _<_}
 use native.Mathlib.Omega.{arith}
-use borrow.Author.Needs.{needs}
-use mathlib.Core.Bool.{Bool, true, false}
+use mathlib.Core.Bool.{true}
 use lib.ListN.{length}
 use lib.Dec.{eqb}
-use borrow.Author.Tests.{eqb-true}
 use Rattle.alpha.specs.Box.{size}
-use Rattle.alpha.specs.Read.{kindOf}
 use Rattle.alpha.specs.Holds.{variable, isInput, isInputKind}
 use Rattle.alpha.specs.Ask.{before}
-use Rattle.alpha.specs.Outcome.{inputsBefore}
 use Rattle.laws.specs.Sheets.{sheetOf}
 use Rattle.laws.proofs.Elements.{before-suc}
 use Rattle.domain.proofs.Records.{VariableLaid, laid-variable, laid-total}

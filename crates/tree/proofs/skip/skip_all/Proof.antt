@@ -5,13 +5,14 @@ use native.Mathlib.Omega.{arith}
 use lib.ListN.{length}
 use Rattle.laws.specs.Sheets.{varsOf}
 use Rattle.tree.specs.Standing.{Standing, StandingAll}
-use Rattle.tree.proofs.Standings.{Ends, standing-noded, standing-there, standing-long, children-few, first-standing, trees-few, none-left}
+use Rattle.tree.specs.Ends.{AllEnd}
+use Rattle.tree.proofs.Standings.{standing-noded, standing-there, standing-long, children-few, first-standing, trees-few, none-left}
 use Rattle.tree.proofs.Standings.{past-standing, past-ends}
 use Rattle.tree.proofs.skip.skip_all.Statement.{statement}
 use Rattle.tree.proofs.skip.skip_all.Tie as tie
 
 abbrev Inv-loop : tie.InvT-loop
-Inv-loop s at left count p₀ need₀ p need = StandingAll (varsOf s) s p left need × ((r : ℕ) → Ends (varsOf s) s p need r → Ends (varsOf s) s at count r)
+Inv-loop s at left count p₀ need₀ p need = StandingAll (varsOf s) s p left need × ((r : ℕ) → AllEnd (varsOf s) s p need r → AllEnd (varsOf s) s at count r)
 
 abbrev μ-loop : tie.MeasureT-loop
 μ-loop s at left count p₀ need₀ p need = length s - p
