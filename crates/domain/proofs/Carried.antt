@@ -31,7 +31,7 @@ use Rattle.affine.proofs.Meaning.{height-length, width-cols}
 use Rattle.domain.specs.declared.Standing.{Standing}
 use Rattle.domain.specs.declared.Standing.the-variants.{Not, Holds, Clash}
 use Rattle.domain.specs.Walk.{Ends, Walk, WalkAll}
-use Rattle.domain.specs.Standing.{standing, both, together}
+use Rattle.domain.specs.Standing.{standing, both, together, StandsAt}
 use Rattle.domain.specs.Held.{Held, HeldAll}
 use Rattle.domain.specs.Holding.{isHeld}
 use Rattle.domain.proofs.Walks.{tree-code, code-field, walk-children, walk-image, walks-split, walk-first, walk-rest}
@@ -115,6 +115,14 @@ module _ (bs : List ℕ) where
         let same = at-unique (varsOf bs) bs p (w .tree) e (w .end) q (w .at) a .tree-is in
         let wide = fits-once (varsOf bs) bs (headsOf bs) (w .dims) n e p q a (rw same at (w .fitting)) f in
         rw (same, wide) at (h .clear)
+
+  -- how it stands, whichever tree there is asked
+  pub walk-stands : (p left : ℕ) (z : List Int) (w : Walk bs p left z) →
+      StandsAt bs p z (record { how = standing (w .tree) (sheetOf bs) (pointOf (w .dims) z); next = w .end })
+  walk-stands p left z w e q n a f =
+      let u = at-unique (varsOf bs) bs p (w .tree) e (w .end) q (w .at) a in
+      let wide = fits-once (varsOf bs) bs (headsOf bs) (w .dims) n e p q a (rw (u .tree-is) at (w .fitting)) f in
+      (u .end-is, rw (u .tree-is, wide) refl)
 
   module _ (p left : ℕ) (z : List Int) (h : Held bs p left z) where
     abbrev w : Walk bs p left z

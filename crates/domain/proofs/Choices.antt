@@ -29,14 +29,14 @@ use Rattle.tree.proofs.Noding.{length-other, arity-case-is}
 use Rattle.tree.proofs.Standings.{standing-noded, children-at, children-counted, one-more}
 use Rattle.domain.specs.declared.Standing.{Standing}
 use Rattle.domain.specs.declared.Standing.the-variants.{Not, Holds, Clash}
-use Rattle.domain.specs.declared.Choice.{Choice}
+use Rattle.domain.specs.declared.Stood.{Stood}
 use Rattle.domain.specs.Walk.{Walk, WalkAll}
 use Rattle.domain.specs.Held.{Held}
-use Rattle.domain.specs.Standing.{rated, standing, either, together}
-use Rattle.domain.specs.Holding.{isHeld, firstHolding, HoldsAt, StandsSo, Branch, Taken, Sought, Chooses}
+use Rattle.domain.specs.Standing.{rated, standing, either, together, StandsAt}
+use Rattle.domain.specs.Holding.{isHeld, firstHolding, HoldsAt, StandsSo, Taken, Sought, Chooses}
 use Rattle.domain.proofs.Standings.{branches-stand}
-use Rattle.domain.proofs.Walks.{code-field, walk-standing, walk-children, walk-first, walk-rest, walks-standing, children-fit}
-use Rattle.domain.proofs.Carried.{not-held, held-by, held-tree}
+use Rattle.domain.proofs.Walks.{code-field, walk-standing, walk-children, walk-first, children-fit}
+use Rattle.domain.proofs.Carried.{not-held, held-by, walk-stands, held-tree}
 
 -- ---- the outcome of a case
 
@@ -86,9 +86,21 @@ neither-holds Holds Holds e = clash-not e
 neither-holds Holds Clash e = clash-not e
 neither-holds Clash b e = clash-not e
 
+-- a tree holds as it stands
+pub held-at : (bs : List ℕ) (p : ℕ) (z : List Int) (t : Stood) (r : Bool) → StandsAt bs p z t → r ≡ isHeld (t .how) → HoldsAt bs p z r
+held-at bs p z t r stands is e q n h f = is ∙ ap isHeld (stands e q n h f .1) ∙ held-is e (sheetOf bs) (pointOf n z)
+
+-- and holds as a tree below does, where it stands as that does
+pub held-through : (bs : List ℕ) (p left : ℕ) (z : List Int) (w : Walk bs p left z) (at : ℕ) (y : List Int) →
+    ((t : Stood) → StandsAt bs p z t → StandsAt bs at y t) → (r : Bool) → HoldsAt bs p z r → HoldsAt bs at y r
+held-through bs p left z w at y carried r found =
+    held-at bs at y _ r (carried _ (walk-stands bs p left z w))
+    (found (w .tree) (w .end) (w .dims) (w .at) (w .fitting) ∙ sym (held-is (w .tree) (sheetOf bs) (pointOf (w .dims) z)))
+
 -- what is found at a place is so of any tree there
 found-so : (bs : List ℕ) (p : ℕ) (z : List Int) (r : Bool) (how : Standing) → HoldsAt bs p z r → StandsSo bs p z how → r ≡ isHeld how
-found-so bs p z r how found x = found (x .tree) (x .end) (x .dims) (x .at) (x .fitting) ∙ ap isHeld (x .so)
+found-so bs p z r how found x =
+    found (x .tree) (x .end) (x .dims) (x .at) (x .fitting) ∙ sym (held-is (x .tree) (sheetOf bs) (pointOf (x .dims) z)) ∙ ap isHeld (x .so)
 
 -- ---- the ways through the search
 
@@ -100,10 +112,10 @@ module _ (bs : List ℕ) (left : ℕ) (z : List Int) where
   branches es n = together true es (sheetOf bs) (pointOf n z)
 
   -- no branch is left
-  pub none-sought : (p count : ℕ) → count < 1 → (spared : Choice) → Branch bs left z spared → Sought bs p left count z spared spared
+  pub none-sought : (p count : ℕ) → count < 1 → (spared : ℕ) → Walk bs spared left z → Sought bs p left count z spared spared
   unfolding together
-  none-sought p count l spared b = record {
-    branch = b;
+  none-sought p count l spared w = record {
+    walk = w;
     itself = λ x es q n h m f none. refl;
     another = λ x es q n h m f one. not-held (sym (empty es n m) ∙ one);
   }
@@ -113,17 +125,6 @@ module _ (bs : List ℕ) (left : ℕ) (z : List Int) where
       empty (more e es) n m = absurd (omega arith)
 
   module _ (p count : ℕ) (some : 1 ≤ count) (w : WalkAll bs p left count z) where
-    -- the first of the branches
-    abbrev this : Choice
-    this = record { at = p; rest = count - 1 }
-
-    pub this-branch : count ≤ 64 → Branch bs left z this
-    this-branch few = record {
-      walk = walk-first bs p left count z some w;
-      after = λ r ends. walks-standing bs r left (count - 1) z (walk-rest bs p left count z some w r ends);
-      few = omega arith;
-    }
-
     module _ (es : Exprs) (q n : ℕ) (h : AllAt es (varsOf bs) bs p q) (m : branchCount es ≡ count) (f : allFit es (headsOf bs) n ≡ true) where
       split : MoreAt es (varsOf bs) bs p q (count - 1)
       split = one-more (varsOf bs) bs es p q count some h m
@@ -163,56 +164,50 @@ module _ (bs : List ℕ) (left : ℕ) (z : List Int) where
           (sym (held-is first (sheetOf bs) (pointOf n z)) ∙ e)
 
       -- it is taken where it holds
-      taken-first : stands first n ≡ Holds → Taken bs es q n z this
+      taken-first : stands first n ≡ Holds → Taken bs es n z p
       taken-first g = record {
         tree = first;
         end = split .middle;
-        others = rest;
         at = split .before;
         fitting = fit-first;
         clear = g;
         first = first-by true (ap isHeld g);
-        after = split .after;
-        many = split .many;
       }
 
       -- and else what is taken of the others
-      taken-rest : (c : Choice) → stands first n ≡ Not → Taken bs rest q n z c → Taken bs es q n z c
-      taken-rest c g y = record {
+      taken-rest : (r : ℕ) → stands first n ≡ Not → Taken bs rest n z r → Taken bs es n z r
+      taken-rest r g y = record {
         tree = y .tree;
         end = y .end;
-        others = y .others;
         at = y .at;
         fitting = y .fitting;
         clear = y .clear;
         first = first-by false (ap isHeld g) ∙ y .first;
-        after = y .after;
-        many = y .many;
       }
 
       -- where one branch holds, and the first is spared from here on
-      pub taken-by : (next : ℕ) → EndsAt (varsOf bs) bs p next → (c : Choice) → Sought bs next left (count - 1) z this c →
-          branches es n ≡ Holds → Taken bs es q n z c
-      taken-by next ends c r g =
+      pub taken-by : (next : ℕ) → EndsAt (varsOf bs) bs p next → (r : ℕ) → Sought bs next left (count - 1) z p r →
+          branches es n ≡ Holds → Taken bs es n z r
+      taken-by next ends r x g =
           one-holds (stands first n) (branches rest n) (sym joined-is ∙ g)
           (λ one none.
-          let same = r .itself (first-so Holds one) rest q n (rest-at next ends) (split .many) fit-rest none in
-          subst (Taken bs es q n z) (sym same) (taken-first one))
-          (λ not one. taken-rest c not (r .another (first-so Not not) rest q n (rest-at next ends) (split .many) fit-rest one))
+          let same = x .itself (first-so Holds one) rest q n (rest-at next ends) (split .many) fit-rest none in
+          subst (Taken bs es n z) (sym same) (taken-first one))
+          (λ not one. taken-rest r not (x .another (first-so Not not) rest q n (rest-at next ends) (split .many) fit-rest one))
 
-    module _ (spared : Choice) where
+    module _ (spared : ℕ) where
       -- the spared one holds
-      pub spared-held : Branch bs left z spared → HoldsAt bs (spared .at) z true → Sought bs p left count z spared spared
-      spared-held b found = record {
-        branch = b;
+      pub spared-held : Walk bs spared left z → HoldsAt bs spared z true → Sought bs p left count z spared spared
+      spared-held v found = record {
+        walk = v;
         itself = λ x es q n h m f none. refl;
-        another = λ x es q n h m f one. true-not-false refl (found-so bs (spared .at) z true Not found x);
+        another = λ x es q n h m f one. true-not-false refl (found-so bs spared z true Not found x);
       }
 
       -- the first of the others does
-      pub this-held : count ≤ 64 → HoldsAt bs p z true → Sought bs p left count z spared this
-      this-held few found = record {
-        branch = this-branch few;
+      pub this-held : HoldsAt bs p z true → Sought bs p left count z spared p
+      this-held found = record {
+        walk = walk-first bs p left count z some w;
         itself = λ x es q n h m f none.
             let not = neither-holds (stands (first es q n h m f) n) (branches (rest es q n h m f) n) (sym (joined-is es q n h m f) ∙ none) .0 in
             true-not-false refl (found-so bs p z true Not found (first-so es q n h m f Not not));
@@ -222,28 +217,28 @@ module _ (bs : List ℕ) (left : ℕ) (z : List Int) where
             (λ not held. true-not-false refl (found-so bs p z true Not found (first-so es q n h m f Not not)));
       }
 
-      module _ (next : ℕ) (ends : EndsAt (varsOf bs) bs p next) (c : Choice) where
+      module _ (next : ℕ) (ends : EndsAt (varsOf bs) bs p next) (r : ℕ) where
         -- the spared one does not, and the first of the others is spared instead
-        pub spared-lacks : HoldsAt bs (spared .at) z false → Sought bs next left (count - 1) z this c → Sought bs p left count z spared c
-        spared-lacks found r = record {
-          branch = r .branch;
-          itself = λ x es q n h m f none. true-not-false (found-so bs (spared .at) z false Holds found x) refl;
-          another = λ x es q n h m f one. taken-by es q n h m f next ends c r one;
+        pub spared-lacks : HoldsAt bs spared z false → Sought bs next left (count - 1) z p r → Sought bs p left count z spared r
+        spared-lacks found y = record {
+          walk = y .walk;
+          itself = λ x es q n h m f none. true-not-false (found-so bs spared z false Holds found x) refl;
+          another = λ x es q n h m f one. taken-by es q n h m f next ends r y one;
         }
 
         -- the first of the others does not
-        pub this-lacks : HoldsAt bs p z false → Sought bs next left (count - 1) z spared c → Sought bs p left count z spared c
-        this-lacks found r = record {
-          branch = r .branch;
+        pub this-lacks : HoldsAt bs p z false → Sought bs next left (count - 1) z spared r → Sought bs p left count z spared r
+        this-lacks found y = record {
+          walk = y .walk;
           itself = λ x es q n h m f none.
               let no = neither-holds (stands (first es q n h m f) n) (branches (rest es q n h m f) n) (sym (joined-is es q n h m f) ∙ none) in
-              r .itself x (rest es q n h m f) q n (rest-at es q n h m f next ends) (split es q n h m f .many) (fit-rest es q n h m f) (no .1);
+              y .itself x (rest es q n h m f) q n (rest-at es q n h m f next ends) (split es q n h m f .many) (fit-rest es q n h m f) (no .1);
           another = λ x es q n h m f one.
               one-holds (stands (first es q n h m f) n) (branches (rest es q n h m f) n) (sym (joined-is es q n h m f) ∙ one)
               (λ held none. true-not-false (found-so bs p z false Holds found (first-so es q n h m f Holds held)) refl)
               (λ not held.
-              taken-rest es q n h m f c not
-              (r .another x (rest es q n h m f) q n (rest-at es q n h m f next ends) (split es q n h m f .many) (fit-rest es q n h m f) held));
+              taken-rest es q n h m f r not
+              (y .another x (rest es q n h m f) q n (rest-at es q n h m f next ends) (split es q n h m f .many) (fit-rest es q n h m f) held));
         }
 
 -- ---- a case
@@ -273,28 +268,19 @@ module _ (bs : List ℕ) (p left count : ℕ) (z : List Int) (held : Held bs p l
   pub some-branch : 1 ≤ count
   some-branch = let x = case-at (w .tree) (w .end) (w .at) .many in omega (arith, x .low, counted-is x, many)
 
-  pub few-branches : count ≤ 64
-  few-branches = let x = case-at (w .tree) (w .end) (w .at) .many in omega (arith, x .high, counted-is x, many)
-
   -- where its first branch is spared at first
-  module _ (next : ℕ) (ends : EndsAt (varsOf bs) bs (p + 16) next) (c : Choice)
-      (r : Sought bs next (left - 1) (count - 1) z (record { at = p + 16; rest = count - 1 }) c) where
-    taken : (es : Exprs) (q n : ℕ) → At (kase es) (varsOf bs) bs p q → fits (kase es) (headsOf bs) n ≡ true → Taken bs es q n z c
+  module _ (next : ℕ) (ends : EndsAt (varsOf bs) bs (p + 16) next) (r : ℕ) (x : Sought bs next (left - 1) (count - 1) z (p + 16) r) where
+    taken : (es : Exprs) (q n : ℕ) → At (kase es) (varsOf bs) bs p q → fits (kase es) (headsOf bs) n ≡ true → Taken bs es n z r
     taken es q n a f =
         taken-by bs (left - 1) z (p + 16) count some-branch walk-branches es q n
         (children-at (varsOf bs) bs p 16 count long counted (kase es) q a)
         (children-counted (varsOf bs) bs p 16 count long counted (kase es) q a)
-        (children-fit bs p (kase es) q n a (other 8 (λ e. omega arith)) f) next ends c r
+        (children-fit bs p (kase es) q n a (other 8 (λ e. omega arith)) f) next ends r x
         (sym (branches-stand (sheetOf bs) (pointOf n z) es) ∙ held-tree bs p left z (kase es) q n a f held)
 
-    pub chooses : Chooses bs p (left - 1) z c
+    pub chooses : Chooses bs p (left - 1) z r
     chooses =
-        let x = case-at (w .tree) (w .end) (w .at) in
-        let here : At (kase (x .branches)) (varsOf bs) bs p (w .end) = subst (λ t. At t (varsOf bs) bs p (w .end)) (x .is) (w .at) in
-        let y = taken (x .branches) (w .end) (w .dims) here (sym (ap (λ t. fits t (headsOf bs) (w .dims)) (x .is)) ∙ w .fitting) in
-        record {
-          says = taken;
-          held = held-by bs (c .at) (left - 1) z (y .tree) (y .end) (w .dims) (y .at) (y .fitting) (r .branch .walk) (y .clear);
-          after = r .branch .after;
-          few = r .branch .few;
-        }
+        let c = case-at (w .tree) (w .end) (w .at) in
+        let here : At (kase (c .branches)) (varsOf bs) bs p (w .end) = subst (λ t. At t (varsOf bs) bs p (w .end)) (c .is) (w .at) in
+        let y = taken (c .branches) (w .end) (w .dims) here (sym (ap (λ t. fits t (headsOf bs) (w .dims)) (c .is)) ∙ w .fitting) in
+        record { says = taken; held = held-by bs r (left - 1) z (y .tree) (y .end) (w .dims) (y .at) (y .fitting) (x .walk) (y .clear) }

@@ -30,6 +30,7 @@ use Rattle.affine.specs.Value.{pointOf, mapOf}
 use Rattle.affine.specs.Reading.{MapRead}
 use Rattle.affine.proofs.Meaning.{height-length, width-cols}
 use Rattle.tree.specs.Standing.{Standing as Stands}
+use Rattle.tree.specs.Ends.{EndsAt}
 use Rattle.tree.proofs.Standings.{children-at, children-counted, one-more, standing-children, first-standing}
 use Rattle.domain.specs.declared.Standing.{Standing}
 use Rattle.domain.specs.declared.Standing.the-variants.{Not, Holds}
@@ -211,7 +212,7 @@ module _ (bs : List ℕ) (p k : ℕ) (z : List Int) (long : k ≡ nodeLen bs p) 
         let a = t (x .child) q n (subst (λ i. At (x .child) (varsOf bs) bs (p + i) q) (sym long) (x .below)) g in
         (a .0, a .1 ∙ sym (restriction-stands (sheetOf bs) (pointOf n z) (x .dim) (x .given) (x .child) (sym (met-is e q n h f) ∙ held)) ∙ back e q n h f)
 
-    pub restriction-off-way : (next : ℕ) → met ≡ false → ((e : Expr) (q : ℕ) → At e (varsOf bs) bs p q → next ≡ q) →
+    pub restriction-off-way : (next : ℕ) → met ≡ false → EndsAt (varsOf bs) bs p next →
         StandsAt bs p z (record { how = Not; next = next })
     restriction-off-way next fails skipped e q n h f =
         let x = here e q n h f in

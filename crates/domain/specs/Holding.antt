@@ -15,11 +15,9 @@ use Rattle.alpha.specs.Written.{branchCount}
 use Rattle.laws.specs.At.{At, AllAt}
 use Rattle.laws.specs.Sheets.{headsOf, varsOf, sheetOf}
 use Rattle.affine.specs.Value.{pointOf}
-use Rattle.tree.specs.Standing.{StandingAll}
 use Rattle.domain.specs.declared.Standing.{Standing}
 use Rattle.domain.specs.declared.Standing.the-variants.{Not, Holds, Clash}
-use Rattle.domain.specs.declared.Choice.{Choice}
-use Rattle.domain.specs.Walk.{Ends, Walk}
+use Rattle.domain.specs.Walk.{Walk}
 use Rattle.domain.specs.Standing.{standing, together}
 use Rattle.domain.specs.Held.{Held}
 
@@ -34,7 +32,7 @@ firstHolding (more e es) s z = ifb (holds e s z) (λ _. some e) (λ _. firstHold
 
 -- r says whether the tree at p holds at z
 abbrev pub HoldsAt : List ℕ → ℕ → List Int → Bool → Type 0
-HoldsAt bs p z r = (e : Expr) (q n : ℕ) → At e (varsOf bs) bs p q → fits e (headsOf bs) n ≡ true → r ≡ isHeld (standing e (sheetOf bs) (pointOf n z))
+HoldsAt bs p z r = (e : Expr) (q n : ℕ) → At e (varsOf bs) bs p q → fits e (headsOf bs) n ≡ true → r ≡ holds e (sheetOf bs) (pointOf n z)
 
 -- a tree at p stands so at z
 pub record StandsSo (bs : List ℕ) (p : ℕ) (z : List Int) (how : Standing) : Type 0 where
@@ -47,37 +45,25 @@ pub record StandsSo (bs : List ℕ) (p : ℕ) (z : List Int) (how : Standing) : 
 
 -- ---- what is chosen
 
--- c is a branch that may be walked at z, and those that it says follow stand after it
-pub record Branch (bs : List ℕ) (left : ℕ) (z : List Int) (c : Choice) : Type 0 where
-  pub walk : Walk bs (c .at) left z
-  pub after : (r : ℕ) → Ends bs (c .at) r → StandingAll (varsOf bs) bs r left (c .rest)
-  pub few : c .rest ≤ 64
-
--- c says which of the trees es, of dimension n and up to q, is taken at z: the first that holds; it says where that one stands, and how
--- many of them follow it
-pub record Taken (bs : List ℕ) (es : Exprs) (q n : ℕ) (z : List Int) (c : Choice) : Type 0 where
+-- r is the place of the tree that is taken at z of the trees es, of dimension n: the first that holds
+pub record Taken (bs : List ℕ) (es : Exprs) (n : ℕ) (z : List Int) (r : ℕ) : Type 0 where
   pub tree : Expr
   pub end : ℕ
-  pub others : Exprs
-  pub at : At tree (varsOf bs) bs (c .at) end
+  pub at : At tree (varsOf bs) bs r end
   pub fitting : fits tree (headsOf bs) n ≡ true
   pub clear : standing tree (sheetOf bs) (pointOf n z) ≡ Holds
   pub first : firstHolding es (sheetOf bs) (pointOf n z) ≡ some tree
-  pub after : AllAt others (varsOf bs) bs end q
-  pub many : branchCount others ≡ c .rest
 
--- c says which is taken of a branch that is spared, and of the `count` branches from p on, where one of all these holds and does so
--- without a clash: the spared one where it holds, and else one of the others
-pub record Sought (bs : List ℕ) (p left count : ℕ) (z : List Int) (spared c : Choice) : Type 0 where
-  pub branch : Branch bs left z c
-  pub itself : StandsSo bs (spared .at) z Holds → (es : Exprs) (q n : ℕ) → AllAt es (varsOf bs) bs p q → branchCount es ≡ count →
-      allFit es (headsOf bs) n ≡ true → together true es (sheetOf bs) (pointOf n z) ≡ Not → c ≡ spared
-  pub another : StandsSo bs (spared .at) z Not → (es : Exprs) (q n : ℕ) → AllAt es (varsOf bs) bs p q → branchCount es ≡ count →
-      allFit es (headsOf bs) n ≡ true → together true es (sheetOf bs) (pointOf n z) ≡ Holds → Taken bs es q n z c
+-- r is the place of what is taken of a branch that is spared, and of the `count` branches from p on, where one of all these holds and
+-- does so without a clash: the spared one where it holds, and else one of the others
+pub record Sought (bs : List ℕ) (p left count : ℕ) (z : List Int) (spared r : ℕ) : Type 0 where
+  pub walk : Walk bs r left z
+  pub itself : StandsSo bs spared z Holds → (es : Exprs) (q n : ℕ) → AllAt es (varsOf bs) bs p q → branchCount es ≡ count →
+      allFit es (headsOf bs) n ≡ true → together true es (sheetOf bs) (pointOf n z) ≡ Not → r ≡ spared
+  pub another : StandsSo bs spared z Not → (es : Exprs) (q n : ℕ) → AllAt es (varsOf bs) bs p q → branchCount es ≡ count →
+      allFit es (headsOf bs) n ≡ true → together true es (sheetOf bs) (pointOf n z) ≡ Holds → Taken bs es n z r
 
--- c says which branch the case at p takes at z: that one holds there without a clash, and the others stand after it
-pub record Chooses (bs : List ℕ) (p left : ℕ) (z : List Int) (c : Choice) : Type 0 where
-  pub says : (es : Exprs) (q n : ℕ) → At (kase es) (varsOf bs) bs p q → fits (kase es) (headsOf bs) n ≡ true → Taken bs es q n z c
-  pub held : Held bs (c .at) left z
-  pub after : (r : ℕ) → Ends bs (c .at) r → StandingAll (varsOf bs) bs r left (c .rest)
-  pub few : c .rest ≤ 64
+-- r is the place of the branch that the case at p takes at z, which holds there without a clash
+pub record Chooses (bs : List ℕ) (p left : ℕ) (z : List Int) (r : ℕ) : Type 0 where
+  pub says : (es : Exprs) (q n : ℕ) → At (kase es) (varsOf bs) bs p q → fits (kase es) (headsOf bs) n ≡ true → Taken bs es n z r
+  pub held : Held bs r left z

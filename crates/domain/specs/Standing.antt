@@ -20,6 +20,7 @@ use Rattle.affine.specs.Value.{pointOf}
 use Rattle.domain.specs.declared.Standing.{Standing}
 use Rattle.domain.specs.declared.Standing.the-variants.{Not, Holds, Clash}
 use Rattle.domain.specs.declared.Stood.{Stood}
+use Rattle.domain.specs.Constraints.{restrictionMet}
 use Rattle.domain.specs.Walk.{Walk}
 
 -- whether it holds, and whether a case clashes
@@ -87,3 +88,8 @@ Starts bs p z own =
 pub record Passed (bs : List ℕ) (p r : ℕ) : Type 0 where
   pub walk : (left : ℕ) (z : List Int) → Walk bs p left z → Walk bs r (left - 1) z
   pub way : (z : List Int) (t : Stood) → StandsAt bs r z t → StandsAt bs p z t
+
+-- r says whether the restriction or dependence at p lets its child's standing through at z: a restriction where its constraints hold
+pub record Passes (bs : List ℕ) (p : ℕ) (z : List Int) (r : Bool) : Type 0 where
+  pub restricted : natAbs (field bs p) ≡ 7 → r ≡ restrictionMet bs p z
+  pub mapped : (natAbs (field bs p) ≡ 7 → ⊥) → r ≡ Bool.true

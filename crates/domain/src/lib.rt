@@ -18,6 +18,7 @@ pub mod holding;
 mod inside;
 mod join;
 pub mod leaf;
+pub mod lower;
 pub mod stand;
 
 // How an expression stands at a point: it does not hold, it holds, or it holds and a case that is reached there clashes.
@@ -31,12 +32,6 @@ pub enum Standing {
 pub struct Stood {
     pub how: Standing,
     pub next: usize,
-}
-
-// The place of the branch that a case takes, and how many branches follow it.
-pub struct Choice {
-    pub at: usize,
-    pub rest: usize,
 }
 
 // Which elements are inside their declared domain, and then GAP and CLASH over all elements: refusals 10 and 11 with their places.

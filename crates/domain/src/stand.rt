@@ -91,8 +91,9 @@ pub fn stand(
     }
 }
 
-// The same of a child, or of a branch: a variable or a constant is told here, which spares a call where most nodes are.
-pub fn child(
+// The same of a child: a variable or a constant is told here, which spares a call where most nodes are. It is called from here only: the
+// compiler then makes it part of its callers.
+fn child(
     s: &[u8],
     tab: &[usize; 102],
     inside: &[u8; 4096],

@@ -31,7 +31,7 @@ use Rattle.affine.specs.declared.Map.{Map}
 use Rattle.affine.specs.Value.{pointOf, mapOf}
 use Rattle.affine.specs.Reading.{MapRead}
 use Rattle.affine.proofs.Meaning.{height-length, width-cols}
-use Rattle.domain.specs.declared.Choice.{Choice}
+use Rattle.tree.specs.Ends.{EndsAt}
 use Rattle.domain.specs.Holding.{firstHolding, Taken, Chooses}
 use Rattle.domain.proofs.Walks.{code-field}
 use Rattle.domain.proofs.Choices.{outcomeOf, first-outcome}
@@ -393,44 +393,26 @@ module _ (bs : List ℕ) (p : ℕ) (z : List Int) where
 
   -- ---- a case
 
-  module _ (left : ℕ) (code : natAbs (field bs p) ≡ 6) (choice : Choice) (C : Chooses bs p left z choice) where
+  module _ (left : ℕ) (code : natAbs (field bs p) ≡ 6) (place : ℕ) (C : Chooses bs p left z place) where
     here-case : (e : Expr) (q : ℕ) → At e (varsOf bs) bs p q → KaseAt e (varsOf bs) bs p q
     here-case e q h = at-kase (varsOf bs) bs e p q h (code-field bs p e q 6 h code)
 
-    taken : (e : Expr) (q n : ℕ) (h : At e (varsOf bs) bs p q) → fits e (headsOf bs) n ≡ true → Taken bs (here-case e q h .branches) q n z choice
+    taken : (e : Expr) (q n : ℕ) (h : At e (varsOf bs) bs p q) → fits e (headsOf bs) n ≡ true → Taken bs (here-case e q h .branches) n z place
     taken e q n h f = let x = here-case e q h in C .says (x .branches) q n (rw (x .is) at h) (rw (x .is) at f)
 
-    module _ (memo last : Memo) (r : Worked) (R : EvaluatesAt bs (choice .at) z memo last r) where
-      -- the branch of any such tree
-      branch-done : (e : Expr) (q n : ℕ) (h : At e (varsOf bs) bs p q) (f : fits e (headsOf bs) n ≡ true) →
-          Evaluated bs (taken e q n h f .tree) (taken e q n h f .end) (pointOf n z) memo last r
-      branch-done e q n h f = let x = taken e q n h f in R (x .tree) (x .end) n (x .at) (x .fitting)
-
-      -- the tree, which has the branch's outcome
-      case-done : (e : Expr) (q n : ℕ) (h : At e (varsOf bs) bs p q) (f : fits e (headsOf bs) n ≡ true) (o : Worked) → r .out ≡ o .out →
-          ((v : Int) → o .out ≡ Value v → o .next ≡ q) → Evaluated bs e q (pointOf n z) memo last o
-      case-done e q n h f o same ends =
-          let x = here-case e q h in
-          let y = pointOf n z in
-          let t = taken e q n h f in
-          let d = rw same at (branch-done e q n h f .done) in
-          evaluated-tree e (kase (x .branches)) q y memo last o (x .is) (record {
-            done = done-same sheet memo last (λ ins. expression sheet ins (kase (x .branches)) y) (λ ins. expression sheet ins (t .tree) y) (o .out)
-                (taken-is sheet (x .branches) y (t .tree) (t .first)) d;
-            ends = ends;
-          })
-
-      pub branch-back : None (r .out) → EvaluatesAt bs p z memo last r
-      branch-back lacks e q n h f = case-done e q n h f r refl (λ v g. absurd (lacks v g))
-
-      -- the branches after it are passed over
-      pub branch-way : (v : Int) (next : ℕ) → r .out ≡ Value v →
-          ((es : Exprs) (q : ℕ) → AllAt es (varsOf bs) bs (r .next) q → branchCount es ≡ choice .rest → next ≡ q) →
-          EvaluatesAt bs p z memo last (record { out = Value v; next = next })
-      branch-way v next is skips e q n h f =
-          let t = taken e q n h f in
-          let from : AllAt (t .others) (varsOf bs) bs (r .next) q = rw (branch-done e q n h f .ends v is) (t .after) in
-          case-done e q n h f (record { out = Value v; next = next }) is (λ w g. skips (t .others) q from (t .many))
+    -- it has the outcome of its branch, and its own end
+    pub branch-way : (memo last : Memo) (r : Worked) → EvaluatesAt bs place z memo last r → (next : ℕ) → EndsAt (varsOf bs) bs p next →
+        EvaluatesAt bs p z memo last (record { out = r .out; next = next })
+    branch-way memo last r R next ends e q n h f =
+        let x = here-case e q h in
+        let y = pointOf n z in
+        let t = taken e q n h f in
+        let d = R (t .tree) (t .end) n (t .at) (t .fitting) .done in
+        evaluated-tree e (kase (x .branches)) q y memo last (record { out = r .out; next = next }) (x .is) (record {
+          done = done-same sheet memo last (λ ins. expression sheet ins (kase (x .branches)) y) (λ ins. expression sheet ins (t .tree) y) (r .out)
+              (taken-is sheet (x .branches) y (t .tree) (t .first)) d;
+          ends = λ v g. ends e q h;
+        })
 
   -- ---- a restriction
 

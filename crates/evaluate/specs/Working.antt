@@ -49,10 +49,6 @@ pub record ConstantRead (bs : List ℕ) (p : ℕ) (r : Worked) : Type 0 where
   pub says : value .v ≡ field bs (p + 8)
   pub next : r .next ≡ p + 16
 
--- y is the point of the child of a node at p with one child, whose own point is z: a dependence's image, and else z
-abbrev pub Lowered : List ℕ → ℕ → List Int → List Int → Type 0
-Lowered bs p z y = ((natAbs (field bs p) ≡ 8) × ImageAt bs (p + 8) z y) ⊎ ((natAbs (field bs p) ≡ 8 → ⊥) × (y ≡ z))
-
 -- element number m of a sheet
 abbrev pub elementAt : Sheet → ℕ → Element
 elementAt s m = getD (elements s) m (record { who = 0; at = [] })

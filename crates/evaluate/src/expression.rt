@@ -9,27 +9,25 @@ use super::memo::value_of;
 use super::memo::work_of;
 use alpha::Int;
 use domain::holding::holding;
+use domain::lower::lowered;
 use points::Found;
 use sheet::table::body_place;
 use sheet::table::first_element;
 use sheet::table::record_place;
+use tree::ends::end_of;
 use tree::node::natural;
 use tree::node::node_len;
-use tree::skip::skip_all;
 ghost use mathlib.Core.Path.{_≡_};
-ghost use Prim.Native.Nat.{ℕ, _+_, _≤_};
+ghost use Prim.Native.Nat.{_+_, _≤_};
 ghost use lib.ListN.{length};
 ghost use lib.IntN.{natAbs};
 ghost use Rattle.alpha.specs.Field.{field};
 ghost use Rattle.laws.specs.Sheets.{sheetOf};
-ghost use Rattle.affine.specs.declared.Map.{Map};
-ghost use Rattle.affine.specs.Size.{Fit};
-ghost use Rattle.affine.specs.Reading.{MapThere, MapRead};
 ghost use Rattle.tree.specs.Formed.{Formed};
 ghost use Rattle.tree.specs.Ends.{EndsKept};
 ghost use Rattle.domain.specs.Inside.{Inside};
 ghost use Rattle.domain.specs.Held.{Held};
-ghost use Rattle.evaluate.specs.Working.{memoOf, outcomes, Ready, Done, ElementIs, ConstantRead, Lowered, EvaluatesAt};
+ghost use Rattle.evaluate.specs.Working.{memoOf, outcomes, Ready, Done, ElementIs, ConstantRead, EvaluatesAt};
 ghost use Rattle.evaluate.specs.Memo as Memo;
 
 // Element e, the one of variable v at z: what the memo has, or else what the body gives. Where no depth remains, it has to be worked
@@ -64,8 +62,8 @@ pub fn element(
     out
 }
 
-// The tree at `at`, of at most `left` nodes, at z, where it holds without a clash. Restrictions and dependences are passed on the way to the first other
-// node, which spares a call for each.
+// The tree at `at`, of at most `left` nodes, at z, where it holds without a clash. Restrictions and dependences are passed on the way to
+// the first other node, which spares a call for each.
 pub fn expression(
     s: &[u8],
     tab: &[usize; 102],
@@ -98,17 +96,6 @@ pub fn expression(
         5 => three(s, tab, inside, ends, codes, values, p, n, y, depth),
         _ => branch(s, tab, inside, ends, codes, values, p, n, y, depth),
     }
-}
-
-// The point at which the child of the restriction or dependence at `at` stands, whose own point is z.
-fn lowered(s: &[u8], at: usize, z: [Int; 4]) -> [Int; 4]
-    requires { ⌜ (at + 16 ≤ length (now s)) × (natAbs (field (now s) at) ≡ 8 → MapThere (now s) (at + 8) × ((m : Map) → MapRead (now s) (at + 8) m → Fit m z)) ⌝ }
-    ensures { λ y. ⌜ Lowered (now (s .entry)) at z y ⌝ }
-{
-    if natural(s, at) == 8 {
-        return affine::image_at(s, at + 8, z);
-    }
-    z
 }
 
 // A constant.
@@ -254,7 +241,7 @@ fn three(
     }
 }
 
-// A case: the branch that holds. The case ends after the branches that follow that one.
+// A case: the branch that holds. The case ends after all its branches.
 fn branch(
     s: &[u8],
     tab: &[usize; 102],
@@ -270,17 +257,10 @@ fn branch(
     requires { ⌜ Formed (now s) (now tab) × Inside (sheetOf (now s)) (now inside) × Ready (sheetOf (now s)) (memoOf (now codes) (now values)) × Held (now s) at left z × (left ≤ 2048) × (natAbs (field (now s) at) ≡ 6) × EndsKept (now s) (now ends) ⌝ }
     ensures { λ r. ⌜ EvaluatesAt (now (s .entry)) at z (memoOf (now (codes .entry)) (now (values .entry))) (memoOf (now (codes .exit)) (now (values .exit))) r ⌝ }
 {
+    let taken = holding(s, tab, inside, ends, at, left, z);
     let n = left - 1;
-    let choice = holding(s, tab, inside, ends, at, left, z);
-    let taken = choice.at;
     let r = expression(s, tab, inside, ends, codes, values, taken, n, z, depth);
-    let o = r.out;
-    let Work::Value(x) = o else {
-        return r;
-    };
-    let rest = choice.rest;
-    Worked {
-        out: Work::Value(x),
-        next: skip_all(s, r.next, n, rest),
-    }
+    let out = r.out;
+    let next = end_of(s, ends, at, left);
+    Worked { out, next }
 }

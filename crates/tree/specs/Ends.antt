@@ -16,7 +16,7 @@ EndsAt vars bs p r = (e : Expr) (q : ℕ) → At e vars bs p q → r ≡ q
 abbrev pub AllEnd : ℕ → List ℕ → ℕ → ℕ → ℕ → Type 0
 AllEnd vars bs p n r = (es : Exprs) (q : ℕ) → AllAt es vars bs p q → branchCount es ≡ n → r ≡ q
 
--- a table of 8,192 entries: entry i is an eighth of where the tree at 8 * i ends, or 0 where that is not kept
+-- a table of 8,192 entries of 16 bits: entry i is an eighth of where the tree at 8 * i ends, or 0 where that is not kept
 pub record EndsKept (bs ends : List ℕ) : Type 0 where
   pub sized : length ends ≡ 8192
   pub low : (i : ℕ) → getD ends i 0 < 65536

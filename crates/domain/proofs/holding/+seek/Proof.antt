@@ -5,7 +5,7 @@ use mathlib.Core.Path.{sym, _∙_}
 use native.Mathlib.Omega.{arith}
 use Rattle.laws.proofs.Shapes.{at-long}
 use Rattle.domain.proofs.Walks.{walk-standing, walk-first, walk-rest}
-use Rattle.domain.proofs.Choices.{none-sought, this-branch, spared-held, this-held, spared-lacks, this-lacks}
+use Rattle.domain.proofs.Choices.{none-sought, spared-held, this-held, spared-lacks, this-lacks}
 use borrow.Fn.Kinds.{In}
 use borrow.Fn.PlainCycle.{Measures, is, falls, and}
 use Rattle.domain.proofs.holding.seek.Reads as seek
@@ -31,7 +31,7 @@ seek-uses t = (end-of-reads.Asked, end-of-reads.Learnt, holds-reads.Asked, holds
 seek-returns : (t : ℕ) → seek-lts.Need-returns (seek-uses t) (seek-at t) seek.Post
 seek-returns t c =
     let s = c .before .before in
-    none-sought _ _ _ _ _ (c .if1 .taken) (s .args .spared) (s .pre .1 .6)
+    none-sought _ _ _ _ _ (c .if1 .taken) (s .args .spared) (s .pre .1 .5)
 
 seek-end-of-requires : (t : ℕ) → seek-lts.Need-end-of-requires (seek-uses t) (seek-at t) seek.Post
 seek-end-of-requires t c κs =
@@ -59,7 +59,7 @@ seek-returns-2 t c =
     let else1 = after-end-of .before in
     let s = else1 .before .before in
     let some = else1 .if1 .left in
-    this-held _ _ _ _ _ (omega (arith, some)) (s .pre .1 .3) (s .args .spared) (s .pre .1 .5)
+    this-held _ _ _ _ _ (omega (arith, some)) (s .pre .1 .3) (s .args .spared)
     (λ e q n h f. sym (c .if3 .taken) ∙ after-holds .holds .ensures e q n h f)
 
 seek-seek-requires : (t : ℕ) → seek-lts.Need-seek-requires (seek-uses t) (seek-at t) seek.Post
@@ -73,7 +73,7 @@ seek-seek-requires t c κs =
     let is = s .pre .0 in
     let ends = after-end-of .end-of .ensures in
     let others = walk-rest _ _ _ _ (s .args .z) (omega (arith, some)) (p .3) _ (λ e q n h f. ends e q h) in
-    (omega arith, (p .0, p .1, p .2, others, p .4, omega (arith, p .5), p .6))
+    (omega arith, (p .0, p .1, p .2, others, p .4, p .5))
 
 seek-returns-3 : (t : ℕ) → seek-lts.Need-returns-3 (seek-uses t) (seek-at t) seek.Post
 seek-returns-3 t c =
@@ -89,7 +89,7 @@ seek-returns-3 t c =
 seek-holds-requires-2 : (t : ℕ) → seek-lts.Need-holds-requires-2 (seek-uses t) (seek-at t) seek.Post
 seek-holds-requires-2 t c κs =
     let s = c .before .before .before .before in
-    (s .pre .1 .0, s .pre .1 .1, s .pre .1 .6 .walk, s .pre .1 .4)
+    (s .pre .1 .0, s .pre .1 .1, s .pre .1 .5, s .pre .1 .4)
 
 seek-returns-4 : (t : ℕ) → seek-lts.Need-returns-4 (seek-uses t) (seek-at t) seek.Post
 seek-returns-4 t c =
@@ -98,7 +98,7 @@ seek-returns-4 t c =
     let else1 = after-end-of .before in
     let s = else1 .before .before in
     let some = else1 .if1 .left in
-    spared-held _ _ _ _ _ (omega (arith, some)) (s .pre .1 .3) (s .args .spared) (s .pre .1 .6)
+    spared-held _ _ _ _ _ (omega (arith, some)) (s .pre .1 .3) (s .args .spared) (s .pre .1 .5)
     (λ e q n h f. sym (c .if4 .taken) ∙ after-holds .holds2 .ensures e q n h f)
 
 seek-seek-requires-2 : (t : ℕ) → seek-lts.Need-seek-requires-2 (seek-uses t) (seek-at t) seek.Post
@@ -112,8 +112,7 @@ seek-seek-requires-2 t c κs =
     let is = s .pre .0 in
     let ends = after-end-of .end-of .ensures in
     let others = walk-rest _ _ _ _ (s .args .z) (omega (arith, some)) (p .3) _ (λ e q n h f. ends e q h) in
-    let this = this-branch _ _ (s .args .z) _ _ (omega (arith, some)) (p .3) (p .5) in
-    (omega arith, (p .0, p .1, p .2, others, p .4, omega (arith, p .5), this))
+    (omega arith, (p .0, p .1, p .2, others, p .4, walk-first _ _ _ _ _ (omega (arith, some)) (p .3)))
 
 seek-returns-5 : (t : ℕ) → seek-lts.Need-returns-5 (seek-uses t) (seek-at t) seek.Post
 seek-returns-5 t c =

@@ -9,7 +9,7 @@ use Rattle.tree.proofs.Noding.{second-there}
 use Rattle.tree.proofs.Standings.{standing-noded, standing-some}
 use Rattle.domain.specs.Walk.{Walk, WalkAll}
 use Rattle.domain.proofs.Walks.{walk-standing, walk-first, walk-rest}
-use Rattle.domain.proofs.Choices.{walk-branches, some-branch, few-branches, this-branch, chooses}
+use Rattle.domain.proofs.Choices.{walk-branches, some-branch, chooses}
 use Rattle.domain.proofs.holding.holding.Statement.{statement}
 use Rattle.domain.proofs.holding.holding.Tie as tie
 
@@ -45,16 +45,16 @@ sub-rest c = omega (arith, some c)
 add-first : tie.Need-add-first
 add-first c = omega (arith, there (c .before .before))
 
-sub-below : tie.Need-sub-below
-sub-below c = omega (arith, standing-some _ _ _ _ (walk-standing _ _ _ _ (c .before .before .pre .3 .walk)))
+sub-n : tie.Need-sub-n
+sub-n c = omega (arith, standing-some _ _ _ _ (walk-standing _ _ _ _ (c .before .before .pre .3 .walk)))
 
 end-of-requires : tie.Need-end-of-requires
 end-of-requires c κs =
     let p = c .before .before .pre in
     (walk-standing _ _ _ _ (first-branch c), omega (arith, p .4), p .2)
 
-sub-seek : tie.Need-sub-seek
-sub-seek c =
+sub-size : tie.Need-sub-size
+sub-size c =
     let w = first-branch (c .before) in
     omega (arith, c .end-of .ensures (w .tree) (w .end) (w .at), at-long _ _ (w .tree) _ _ (w .at))
 
@@ -63,10 +63,9 @@ seek-requires c κs =
     let after-natural = c .before in
     let p = after-natural .before .before .pre in
     let all = branches after-natural in
-    let few = few-branches _ _ _ _ _ (p .3) (p .5) (after-natural .natural .ensures) in
     let ends = c .end-of .ensures in
     let others = walk-rest _ _ _ _ _ (some after-natural) all _ (λ e q n h f. ends e q h) in
-    (p .0, p .1, p .2, others, omega (arith, p .4), omega (arith, few), this-branch _ _ _ _ _ (some after-natural) all few)
+    (p .0, p .1, p .2, others, omega (arith, p .4), first-branch after-natural)
 
 returns : tie.Need-returns
 returns c =
@@ -82,8 +81,8 @@ holding-spec =
     natural-requires
     sub-rest
     add-first
-    sub-below
+    sub-n
     end-of-requires
-    sub-seek
+    sub-size
     seek-requires
     returns)

@@ -26,8 +26,8 @@ use Rattle.evaluate.proofs.expression.variable.Reads as variable
 use Rattle.evaluate.proofs.expression.variable.Kinds as variable-kinds
 use Rattle.evaluate.proofs.expression.+branch+element+expression+one+three+two+variable.Lts-variable as variable-lts
 use Rattle.domain.proofs.holding.holding.Reads as holding-reads
+use Rattle.domain.proofs.lower.lowered.Reads as lowered-reads
 use Rattle.evaluate.proofs.expression.constant.Reads as constant-reads
-use Rattle.evaluate.proofs.expression.lowered.Reads as lowered-reads
 use Rattle.evaluate.proofs.memo.code_of.Reads as code-of-reads
 use Rattle.evaluate.proofs.memo.known.Reads as known-reads
 use Rattle.evaluate.proofs.memo.note.Reads as note-reads
@@ -43,9 +43,9 @@ use Rattle.points.proofs.index.Reads as index-reads
 use Rattle.sheet.proofs.table.body_place.Reads as body-place-reads
 use Rattle.sheet.proofs.table.first_element.Reads as first-element-reads
 use Rattle.sheet.proofs.table.record_place.Reads as record-place-reads
+use Rattle.tree.proofs.ends.end_of.Reads as end-of-reads
 use Rattle.tree.proofs.node.natural.Reads as natural-reads
 use Rattle.tree.proofs.node.node_len.Reads as node-len-reads
-use Rattle.tree.proofs.skip.skip_all.Reads as skip-all-reads
 use Rattle.evaluate.proofs.expression.+branch+element+expression+one+three+two+variable.{
   statement,
 }
@@ -65,6 +65,7 @@ use Rattle.laws.specs.Sheets.{varsOf, sheetOf}
 use Rattle.tree.proofs.Noding.{code-there}
 use Rattle.tree.proofs.Standings.{standing-there}
 use Rattle.domain.proofs.Walks.{walk-standing}
+use Rattle.domain.proofs.Lowering.{lowered-there, lowered-fits}
 use Rattle.domain.proofs.Records.{VariableLaid, laid-variable}
 use Rattle.domain.specs.Held.{Held}
 use Rattle.evaluate.specs.declared.Worked.{Worked}
@@ -77,8 +78,8 @@ use Rattle.evaluate.proofs.Operands.{not-zero, case-code, some-variable
 use Rattle.evaluate.proofs.Operands.{small-value, operand-ends}
 use Rattle.evaluate.proofs.Operands.{one-held, left-held, right-held, test-held, first-held, second-held}
 use Rattle.evaluate.proofs.Ways.{constant-way, one-back, one-way, left-back, right-back, two-way, test-back, first-back, second-back}
-use Rattle.evaluate.proofs.Ways.{three-way, branch-back, branch-way}
-use Rattle.evaluate.proofs.Lowering.{lowered-there, lowered-fits, lowered-held, lowered-way}
+use Rattle.evaluate.proofs.Ways.{three-way, branch-way}
+use Rattle.evaluate.proofs.Lowering.{lowered-held, lowered-way}
 use Rattle.evaluate.proofs.Elements.{element-low, known-way, deep-way, ready-marked, held-body, body-done, worked-way}
 use Rattle.evaluate.proofs.Elements.{variable-known, off-way, named-element, number-few, variable-way}
 
@@ -150,7 +151,7 @@ variable-below t =
     and 6 variable-kinds.ps (falls 6 variable-kinds.ps _<_ μ-variable t) variable.Pre
 
 abbrev branch-uses : ℕ → branch-lts.Claims
-branch-uses t = (holding-reads.Asked, holding-reads.Learnt, expression-below t, expression.Post, skip-all-reads.Asked, skip-all-reads.Learnt)
+branch-uses t = (holding-reads.Asked, holding-reads.Learnt, expression-below t, expression.Post, end-of-reads.Asked, end-of-reads.Learnt)
 
 abbrev element-uses : ℕ → element-lts.Claims
 element-uses t = (
@@ -244,14 +245,16 @@ variable-uses t = (
   element.Post,
 )
 
-branch-sub-n : (t : ℕ) → branch-lts.Need-sub-n (branch-uses t) (branch-at t) branch.Post
-branch-sub-n t c = omega (arith, walk-some _ _ _ _ (c .before .pre .1 .3 .walk))
-
 branch-holding-requires : (t : ℕ) → branch-lts.Need-holding-requires (branch-uses t) (branch-at t) branch.Post
 branch-holding-requires t c κs =
     let s = c .before in
     let p = s .pre .1 in
     (p .0 .placed, p .1, p .6, p .3, p .4, p .5)
+
+branch-sub-n : (t : ℕ) → branch-lts.Need-sub-n (branch-uses t) (branch-at t) branch.Post
+branch-sub-n t c =
+    let s = c .before .before in
+    omega (arith, walk-some _ _ _ _ (s .pre .1 .3 .walk))
 
 branch-expression-requires : (t : ℕ) → branch-lts.Need-expression-requires (branch-uses t) (branch-at t) branch.Post
 branch-expression-requires t c κs =
@@ -260,11 +263,13 @@ branch-expression-requires t c κs =
     let p = s .pre .1 in
     let is = s .pre .0 in
     let some = walk-some _ _ _ _ (p .3 .walk) in
-    let taken = at-holding .holding .ensures in
-    (omega arith, (p .0, p .1, p .2, taken .held, omega (arith, p .4), p .6))
+    (omega arith, (p .0, p .1, p .2, at-holding .holding .ensures .held, omega (arith, p .4), p .6))
 
-branch-enum-known-o : (t : ℕ) → branch-lts.Need-enum-known-o (branch-uses t) (branch-at t) branch.Post
-branch-enum-known-o t c = search needs
+branch-end-of-requires : (t : ℕ) → branch-lts.Need-end-of-requires (branch-uses t) (branch-at t) branch.Post
+branch-end-of-requires t c κs =
+    let s = c .before .before .before .before .before in
+    let p = s .pre .1 in
+    (walk-standing _ _ _ _ (p .3 .walk), p .4, p .6)
 
 branch-returns : (t : ℕ) → branch-lts.Need-returns (branch-uses t) (branch-at t) branch.Post
 branch-returns t c =
@@ -272,28 +277,7 @@ branch-returns t c =
     let at-holding = at-expression .before .before .before in
     let s = at-holding .before .before in
     let p = s .pre .1 in
-    branch-back _ _ (s .args .z) _ (p .5) _ (at-holding .holding .ensures) _ _ _ (at-expression .expression .ensures) (no-value _ (c .match .keys2))
-
-branch-skip-all-requires : (t : ℕ) → branch-lts.Need-skip-all-requires (branch-uses t) (branch-at t) branch.Post
-branch-skip-all-requires t c κs =
-    let at-o = c .before in
-    let at-expression = at-o .before .before in
-    let at-holding = at-expression .before .before .before in
-    let s = at-holding .before .before in
-    let p = s .pre .1 in
-    let taken = at-holding .holding .ensures in
-    let ends = operand-ends _ _ _ _ (taken .held .walk) _ _ _ (at-expression .expression .ensures) _ (at-o .o .given .1) in
-    (taken .after _ ends, omega (arith, p .4), taken .few)
-
-branch-returns-2 : (t : ℕ) → branch-lts.Need-returns-2 (branch-uses t) (branch-at t) branch.Post
-branch-returns-2 t c =
-    let at-o = c .before .before in
-    let at-expression = at-o .before .before in
-    let at-holding = at-expression .before .before .before in
-    let s = at-holding .before .before in
-    let p = s .pre .1 in
-    let a = at-expression .expression .ensures in
-    branch-way _ _ (s .args .z) _ (p .5) _ (at-holding .holding .ensures) _ _ _ a _ _ (at-o .o .given .1) (c .skip-all .ensures)
+    branch-way _ _ (s .args .z) _ (p .5) _ (at-holding .holding .ensures) _ _ _ (at-expression .expression .ensures) _ (c .end-of .ensures)
 
 element-element-copy-out-code : (t : ℕ) → element-lts.Need-element-copy-out-code (element-uses t) (element-at t) element.Post
 element-element-copy-out-code t c =
@@ -469,8 +453,8 @@ expression-high t c = omega (arith, c .before .natural .ensures, c .if1 .taken)
 expression-lowered-requires : (t : ℕ) →
     expression-lts.Need-lowered-requires (expression-uses t) (expression-at t) expression.Post expression-Inv-loop expression-μ-loop
 expression-lowered-requires t c κs =
-    let held = c .before .before .loop .inv .0 in
-    (lowered-there _ _ _ _ held (expression-high t c), lowered-fits _ _ _ _ held (expression-high t c))
+    let walk = c .before .before .loop .inv .0 .walk in
+    (lowered-there _ _ _ _ walk (expression-high t c), lowered-fits _ _ _ _ walk)
 
 expression-node-len-requires : (t : ℕ) →
     expression-lts.Need-node-len-requires (expression-uses t) (expression-at t) expression.Post expression-Inv-loop expression-μ-loop
@@ -505,9 +489,9 @@ expression-loop-again t c =
     let high = expression-high t at-then in
     let long = c .node-len .ensures in
     let y = at-lowered .lowered .ensures in (
-      lowered-held _ _ _ _ (inv .0) high _ long _ y,
+      lowered-held _ _ _ _ (inv .0) high _ y _ long,
       omega (arith, inv .1),
-      λ memo last r h. inv .2 memo last r (lowered-way _ _ _ _ (inv .0) high _ long _ y memo last r h),
+      λ memo last r h. inv .2 memo last r (lowered-way _ _ _ _ (inv .0) high _ y _ long memo last r h),
     )
 
 expression-natural-requires-2 : (t : ℕ) →
@@ -1055,13 +1039,11 @@ pub +branch+element+expression+one+three+two+variable-spec : {M : Type 1} → st
     μ-variable
     (λ t. branch-lts.spec (branch-uses t) (branch-at t)
     branch.Post
-    (branch-sub-n t)
     (branch-holding-requires t)
+    (branch-sub-n t)
     (branch-expression-requires t)
-    (branch-enum-known-o t)
-    (branch-returns t)
-    (branch-skip-all-requires t)
-    (branch-returns-2 t))
+    (branch-end-of-requires t)
+    (branch-returns t))
     (λ t. element-lts.spec (element-uses t) (element-at t)
     element.Post
     (element-element-copy-out-code t)

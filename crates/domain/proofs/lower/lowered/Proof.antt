@@ -1,9 +1,9 @@
--- `evaluate::lowered` meets its contract. Assumes nothing.
+-- `domain::lowered` meets its contract. Assumes nothing.
 use native.Mathlib.Omega.{arith}
 use mathlib.Core.Path.{refl, sym, _∙_}
 use mathlib.Core.Logic.{inl, inr}
-use Rattle.evaluate.proofs.expression.lowered.Statement.{statement}
-use Rattle.evaluate.proofs.expression.lowered.Tie as tie
+use Rattle.domain.proofs.lower.lowered.Statement.{statement}
+use Rattle.domain.proofs.lower.lowered.Tie as tie
 
 natural-requires : tie.Need-natural-requires
 natural-requires c κs = omega (arith, c .before .pre .0)

@@ -1,0 +1,38 @@
+// From a restriction or a dependence down to its child: whether it lets through what the child says, and the point at which the child
+// stands. Assumes nothing.
+use super::constraint::restriction_meets;
+use alpha::Int;
+use tree::node::natural;
+ghost use mathlib.Core.Path.{_≡_};
+ghost use Prim.Native.Nat.{_+_, _≤_};
+ghost use lib.ListN.{length};
+ghost use lib.IntN.{natAbs};
+ghost use Rattle.alpha.specs.Field.{field};
+ghost use Rattle.affine.specs.declared.Map.{Map};
+ghost use Rattle.affine.specs.Size.{Fit};
+ghost use Rattle.affine.specs.Reading.{MapThere, MapRead};
+ghost use Rattle.domain.specs.Walk.{Lowered};
+ghost use Rattle.domain.specs.Constraints.{RestrictionTestable};
+ghost use Rattle.domain.specs.Standing.{Passes};
+
+// Whether the node at `at` lets its child's standing through at z: a restriction where it holds, and a dependence always.
+pub fn passes(s: &[u8], at: usize, z: [Int; 4]) -> bool
+    requires { ⌜ (at + 16 ≤ length (now s)) × (natAbs (field (now s) at) ≡ 7 → RestrictionTestable (now s) at z) ⌝ }
+    ensures { λ r. ⌜ Passes (now (s .entry)) at z r ⌝ }
+{
+    if natural(s, at) == 7 {
+        return restriction_meets(s, at, z);
+    }
+    true
+}
+
+// The point at which the child of the restriction or dependence at `at` stands, whose own point is z.
+pub fn lowered(s: &[u8], at: usize, z: [Int; 4]) -> [Int; 4]
+    requires { ⌜ (at + 16 ≤ length (now s)) × (natAbs (field (now s) at) ≡ 8 → MapThere (now s) (at + 8) × ((m : Map) → MapRead (now s) (at + 8) m → Fit m z)) ⌝ }
+    ensures { λ y. ⌜ Lowered (now (s .entry)) at z y ⌝ }
+{
+    if natural(s, at) == 8 {
+        return affine::image_at(s, at + 8, z);
+    }
+    z
+}
