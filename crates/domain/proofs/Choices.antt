@@ -33,7 +33,7 @@ use Rattle.domain.specs.declared.Stood.{Stood}
 use Rattle.domain.specs.Walk.{Walk, WalkAll}
 use Rattle.domain.specs.Held.{Held}
 use Rattle.domain.specs.Standing.{rated, standing, either, together, StandsAt}
-use Rattle.domain.specs.Holding.{isHeld, firstHolding, HoldsAt, StandsSo, Taken, Sought, Chooses}
+use Rattle.domain.specs.Holding.{isHeld, firstHolding, HoldsAt, StandsSo, Picked, Taken, Sought, Chooses}
 use Rattle.domain.proofs.Standings.{branches-stand}
 use Rattle.domain.proofs.Walks.{code-field, walk-standing, walk-children, walk-first, children-fit}
 use Rattle.domain.proofs.Carried.{not-held, held-by, walk-stands, held-tree}
@@ -197,7 +197,7 @@ module _ (bs : List ℕ) (left : ℕ) (z : List Int) where
 
     module _ (spared : ℕ) where
       -- the spared one holds
-      pub spared-held : Walk bs spared left z → HoldsAt bs spared z true → Sought bs p left count z spared spared
+      spared-held : Walk bs spared left z → HoldsAt bs spared z true → Sought bs p left count z spared spared
       spared-held v found = record {
         walk = v;
         itself = λ x es q n h m f none. refl;
@@ -205,7 +205,7 @@ module _ (bs : List ℕ) (left : ℕ) (z : List Int) where
       }
 
       -- the first of the others does
-      pub this-held : HoldsAt bs p z true → Sought bs p left count z spared p
+      this-held : HoldsAt bs p z true → Sought bs p left count z spared p
       this-held found = record {
         walk = walk-first bs p left count z some w;
         itself = λ x es q n h m f none.
@@ -219,7 +219,7 @@ module _ (bs : List ℕ) (left : ℕ) (z : List Int) where
 
       module _ (next : ℕ) (ends : EndsAt (varsOf bs) bs p next) (r : ℕ) where
         -- the spared one does not, and the first of the others is spared instead
-        pub spared-lacks : HoldsAt bs spared z false → Sought bs next left (count - 1) z p r → Sought bs p left count z spared r
+        spared-lacks : HoldsAt bs spared z false → Sought bs next left (count - 1) z p r → Sought bs p left count z spared r
         spared-lacks found y = record {
           walk = y .walk;
           itself = λ x es q n h m f none. true-not-false (found-so bs spared z false Holds found x) refl;
@@ -227,7 +227,7 @@ module _ (bs : List ℕ) (left : ℕ) (z : List Int) where
         }
 
         -- the first of the others does not
-        pub this-lacks : HoldsAt bs p z false → Sought bs next left (count - 1) z spared r → Sought bs p left count z spared r
+        this-lacks : HoldsAt bs p z false → Sought bs next left (count - 1) z spared r → Sought bs p left count z spared r
         this-lacks found y = record {
           walk = y .walk;
           itself = λ x es q n h m f none.
@@ -240,6 +240,38 @@ module _ (bs : List ℕ) (left : ℕ) (z : List Int) where
               taken-rest es q n h m f r not
               (y .another x (rest es q n h m f) q n (rest-at es q n h m f next ends) (split es q n h m f .many) (fit-rest es q n h m f) held));
         }
+
+    -- the smaller of the spared one and the first of the others is tried, t, and the larger is kept, k
+    module _ (spared : ℕ) (walk : Walk bs spared left z) (small : Bool) where
+      pub tried-walk : (t : ℕ) → Picked small p spared t → Walk bs t left z
+      tried-walk t e = go small refl
+        where
+          go : (b : Bool) → small ≡ b → Walk bs t left z
+          go true s = rw (e .one s) (walk-first bs p left count z some w)
+          go false s = rw (e .two s) walk
+
+      pub kept-walk : (k : ℕ) → Picked small spared p k → Walk bs k left z
+      kept-walk k e = go small refl
+        where
+          go : (b : Bool) → small ≡ b → Walk bs k left z
+          go true s = rw (e .one s) walk
+          go false s = rw (e .two s) (walk-first bs p left count z some w)
+
+      module _ (t : ℕ) (e : Picked small p spared t) where
+        pub tried-held : HoldsAt bs t z true → Sought bs p left count z spared t
+        tried-held found = go small refl
+          where
+            go : (b : Bool) → small ≡ b → Sought bs p left count z spared t
+            go true s = rw (e .one s) (this-held spared (rw (e .one s) at found))
+            go false s = rw (e .two s) (spared-held spared walk (rw (e .two s) at found))
+
+        pub tried-lacks : HoldsAt bs t z false → (k : ℕ) → Picked small spared p k → (next : ℕ) → EndsAt (varsOf bs) bs p next →
+            (r : ℕ) → Sought bs next left (count - 1) z k r → Sought bs p left count z spared r
+        tried-lacks found k g next ends r x = go small refl
+          where
+            go : (b : Bool) → small ≡ b → Sought bs p left count z spared r
+            go true s = this-lacks spared next ends r (rw (e .one s) at found) (rw (g .one s) at x)
+            go false s = spared-lacks spared next ends r (rw (e .two s) at found) (rw (g .two s) at x)
 
 -- ---- a case
 

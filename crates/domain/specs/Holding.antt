@@ -43,6 +43,11 @@ pub record StandsSo (bs : List ℕ) (p : ℕ) (z : List Int) (how : Standing) : 
   pub fitting : fits tree (headsOf bs) dims ≡ true
   pub so : standing tree (sheetOf bs) (pointOf dims z) ≡ how
 
+-- r is p or q, as is said
+pub record Picked (first : Bool) (p q r : ℕ) : Type 0 where
+  pub one : first ≡ true → r ≡ p
+  pub two : first ≡ false → r ≡ q
+
 -- ---- what is chosen
 
 -- r is the place of the tree that is taken at z of the trees es, of dimension n: the first that holds

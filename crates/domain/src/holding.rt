@@ -17,9 +17,9 @@ ghost use Rattle.laws.specs.Sheets.{sheetOf};
 ghost use Rattle.tree.specs.Ends.{EndsKept};
 ghost use Rattle.tree.specs.Formed.{BodiesPlaced};
 ghost use Rattle.domain.specs.Inside.{Inside};
-ghost use Rattle.domain.specs.Walk.{Walk, WalkAll};
+ghost use Rattle.domain.specs.Walk.{Walk};
 ghost use Rattle.domain.specs.Held.{Held};
-ghost use Rattle.domain.specs.Holding.{isHeld, HoldsAt, Sought, Chooses};
+ghost use Rattle.domain.specs.Holding.{isHeld, HoldsAt, Picked, Chooses};
 
 fn is_held(how: Standing) -> bool
     ensures { λ r. ⌜ r ≡ isHeld how ⌝ }
@@ -79,42 +79,15 @@ fn holds(
     tree_holds(s, tab, inside, p, n, y)
 }
 
-// The place of the branch that is taken at z of a spared one, which has `size` bytes, and of the `count` branches from `at` on. Of the
-// spared one and the next, the smaller is tried and the other spared from then on.
-fn seek(
-    s: &[u8],
-    tab: &[usize; 102],
-    inside: &[u8; 4096],
-    ends: &[u16; 8192],
-    at: usize,
-    left: usize,
-    z: [Int; 4],
-    count: usize,
-    spared: usize,
-    size: usize,
-) -> usize
-    requires { ⌜ BodiesPlaced (now s) (now tab) × Inside (sheetOf (now s)) (now inside) × EndsKept (now s) (now ends) × WalkAll (now s) at left count z × (left ≤ 2048) × Walk (now s) spared left z ⌝ }
-    ensures { λ r. ⌜ Sought (now (s .entry)) at left count z spared r ⌝ }
+// One of two places.
+fn pick(first: bool, p: usize, q: usize) -> usize
+    ensures { λ r. ⌜ Picked first p q r ⌝ }
 {
-    if count < 1 {
-        return spared;
-    }
-    let rest = count - 1;
-    let next = end_of(s, ends, at, left);
-    let long = next - at;
-    if long < size {
-        if holds(s, tab, inside, at, left, z) {
-            return at;
-        }
-        return seek(s, tab, inside, ends, next, left, z, rest, spared, size);
-    }
-    if holds(s, tab, inside, spared, left, z) {
-        return spared;
-    }
-    seek(s, tab, inside, ends, next, left, z, rest, at, long)
+    if first { p } else { q }
 }
 
-// The place of the branch that the case at `at`, of at most `left` nodes, takes at z, where the case holds without a clash.
+// The place of the branch that the case at `at`, of at most `left` nodes, takes at z, where the case holds without a clash. Of the branch
+// that is spared and the next, the smaller is tried, and the other is spared from then on.
 pub fn holding(
     s: &[u8],
     tab: &[usize; 102],
@@ -127,10 +100,24 @@ pub fn holding(
     requires { ⌜ BodiesPlaced (now s) (now tab) × Inside (sheetOf (now s)) (now inside) × EndsKept (now s) (now ends) × Held (now s) at left z × (left ≤ 2048) × (natAbs (field (now s) at) ≡ 6) ⌝ }
     ensures { λ r. ⌜ Chooses (now (s .entry)) at (left - 1) z r ⌝ }
 {
-    let rest = natural(s, at + 8) - 1;
-    let first = at + 16;
     let n = left - 1;
-    let next = end_of(s, ends, first, n);
-    let size = next - first;
-    seek(s, tab, inside, ends, next, n, z, rest, first, size)
+    let mut more = natural(s, at + 8) - 1;
+    let mut spared = at + 16;
+    let mut next = end_of(s, ends, spared, n);
+    let mut size = next - spared;
+    while more > 0 {
+        let this = next;
+        let end = end_of(s, ends, this, n);
+        let long = end - this;
+        let small = long < size;
+        let tried = pick(small, this, spared);
+        if holds(s, tab, inside, tried, n, z) {
+            return tried;
+        }
+        spared = pick(small, spared, this);
+        size = pick(small, size, long);
+        next = end;
+        more -= 1;
+    }
+    spared
 }

@@ -3,31 +3,46 @@
 use mathlib.Core.Path.{_≡_, sym, _∙_}
 use Prim.Native.Nat.{ℕ, _+_, _-_, _≤_}
 use native.Mathlib.Omega.{arith}
+use borrow.Author.Needs.{needs}
 use lib.ListN.{length}
 use Rattle.laws.proofs.Shapes.{at-long}
 use Rattle.tree.proofs.Noding.{second-there}
 use Rattle.tree.proofs.Standings.{standing-noded, standing-some}
 use Rattle.domain.specs.Walk.{Walk, WalkAll}
+use Rattle.domain.specs.Holding.{Sought, Chooses}
 use Rattle.domain.proofs.Walks.{walk-standing, walk-first, walk-rest}
-use Rattle.domain.proofs.Choices.{walk-branches, some-branch, chooses}
+use Rattle.domain.proofs.Choices.{none-sought, tried-walk, kept-walk, tried-held, tried-lacks, walk-branches, some-branch, chooses}
 use Rattle.domain.proofs.holding.holding.Statement.{statement}
 use Rattle.domain.proofs.holding.holding.Tie as tie
 
+-- what is taken of the branches from here on, and of the one that is spared here, is what the case takes
+abbrev Inv-loop : tie.InvT-loop
+Inv-loop s tab inside ends at left z n more₀ spared₀ next₀ size₀ more spared next size =
+    Walk s spared n z × WalkAll s next n more z × ((r : ℕ) → Sought s next n more z spared r → Sought s next₀ n more₀ z spared₀ r)
+
+abbrev μ-loop : tie.MeasureT-loop
+μ-loop s tab inside ends at left z n more₀ spared₀ next₀ size₀ more spared next size = more
+
+-- ---- before the loop
+
 -- the number of branches is there
-there : (c : tie.Start) → c .args .at + 16 ≤ length (c .args .s .now)
+there : (c : tie.Start Inv-loop μ-loop) → c .args .at + 16 ≤ length (c .args .s .now)
 there c =
     let code = c .pre .5 in
     let w = c .pre .3 .walk in
     second-there _ _ _ (standing-noded _ _ _ _ (walk-standing _ _ _ _ w)) (λ e. let z : _≡_ {A = ℕ} 6 5 = sym code ∙ e in omega arith)
 
-add-natural : tie.Need-add-natural
+sub-n : tie.Need-sub-n Inv-loop μ-loop
+sub-n c = omega (arith, standing-some _ _ _ _ (walk-standing _ _ _ _ (c .before .pre .3 .walk)))
+
+add-natural : tie.Need-add-natural Inv-loop μ-loop
 add-natural c = omega (arith, there (c .before))
 
-natural-requires : tie.Need-natural-requires
+natural-requires : tie.Need-natural-requires Inv-loop μ-loop
 natural-requires c κs = omega (arith, there (c .before))
 
-module _ (c : tie.After-natural) where
-  abbrev s : tie.Start
+module _ (c : tie.After-natural Inv-loop μ-loop) where
+  abbrev s : tie.Start Inv-loop μ-loop
   s = c .before .before
 
   some : 1 ≤ c .natural .result
@@ -39,50 +54,151 @@ module _ (c : tie.After-natural) where
   first-branch : Walk (s .args .s .now) (s .args .at + 16) (s .args .left - 1) (s .args .z)
   first-branch = walk-first _ _ _ _ _ some branches
 
-sub-rest : tie.Need-sub-rest
-sub-rest c = omega (arith, some c)
+sub-more : tie.Need-sub-more Inv-loop μ-loop
+sub-more c = omega (arith, some c)
 
-add-first : tie.Need-add-first
-add-first c = omega (arith, there (c .before .before))
+add-spared : tie.Need-add-spared Inv-loop μ-loop
+add-spared c = omega (arith, there (c .before .before))
 
-sub-n : tie.Need-sub-n
-sub-n c = omega (arith, standing-some _ _ _ _ (walk-standing _ _ _ _ (c .before .before .pre .3 .walk)))
-
-end-of-requires : tie.Need-end-of-requires
+end-of-requires : tie.Need-end-of-requires Inv-loop μ-loop
 end-of-requires c κs =
     let p = c .before .before .pre in
     (walk-standing _ _ _ _ (first-branch c), omega (arith, p .4), p .2)
 
-sub-size : tie.Need-sub-size
+sub-size : tie.Need-sub-size Inv-loop μ-loop
 sub-size c =
     let w = first-branch (c .before) in
     omega (arith, c .end-of .ensures (w .tree) (w .end) (w .at), at-long _ _ (w .tree) _ _ (w .at))
 
-seek-requires : tie.Need-seek-requires
-seek-requires c κs =
+loop-holds : tie.Need-loop-holds Inv-loop μ-loop
+loop-holds c =
     let after-natural = c .before in
-    let p = after-natural .before .before .pre in
-    let all = branches after-natural in
     let ends = c .end-of .ensures in
-    let others = walk-rest _ _ _ _ _ (some after-natural) all _ (λ e q n h f. ends e q h) in
-    (p .0, p .1, p .2, others, omega (arith, p .4), first-branch after-natural)
+    let others = walk-rest _ _ _ _ _ (some after-natural) (branches after-natural) _ (λ e q n h f. ends e q h) in
+    (first-branch after-natural, others, λ r x. x)
 
-returns : tie.Need-returns
+-- what is taken of the first branch, which is spared, and of the others
+module _ (c : tie.At-loop Inv-loop μ-loop) where
+  abbrev from : tie.Start Inv-loop μ-loop
+  from = c .before .before .before .before
+
+  case-chooses : (r : ℕ) →
+      Sought (from .args .s .now) (c .before .end-of .result) (from .args .left - 1) (c .before .before .natural .result - 1) (from .args .z)
+      (from .args .at + 16) r →
+      Chooses (from .args .s .now) (from .args .at) (from .args .left - 1) (from .args .z) r
+  case-chooses r x =
+      let after-end-of = c .before in
+      chooses _ _ _ _ _ (from .pre .3) (from .pre .5) (after-end-of .before .natural .ensures) _ (after-end-of .end-of .ensures) r x
+
+-- ---- in the loop
+
+module _ (c : tie.In-loop Inv-loop μ-loop) where
+  abbrev start : tie.Start Inv-loop μ-loop
+  start = c .before .before .before .before .before
+
+  this-branch : Walk (start .args .s .now) (c .before .loop .next) (start .args .left - 1) (start .args .z)
+  this-branch = walk-first _ _ _ _ _ (c .loop-test .taken) (c .before .loop .inv .1)
+
+end-of-requires-2 : tie.Need-end-of-requires-2 Inv-loop μ-loop
+end-of-requires-2 c κs =
+    let p = start c .pre in
+    (walk-standing _ _ _ _ (this-branch c), omega (arith, p .4), p .2)
+
+sub-long : tie.Need-sub-long Inv-loop μ-loop
+sub-long c =
+    let w = this-branch (c .before) in
+    omega (arith, c .end-of2 .ensures (w .tree) (w .end) (w .at), at-long _ _ (w .tree) _ _ (w .at))
+
+pick-requires : tie.Need-pick-requires Inv-loop μ-loop
+pick-requires c κs = search needs
+
+holds-requires : tie.Need-holds-requires Inv-loop μ-loop
+holds-requires c κs =
+    let in-loop = c .before .before in
+    let loop = in-loop .before .loop in
+    let p = start in-loop .pre in
+    let walk = tried-walk _ _ (start in-loop .args .z) _ _ (in-loop .loop-test .taken) (loop .inv .1) _ (loop .inv .0) _ _ (c .pick .ensures) in
+    (p .0, p .1, walk, omega (arith, p .4))
+
+returns : tie.Need-returns Inv-loop μ-loop
 returns c =
-    let after-natural = c .before .before in
-    let p = after-natural .before .before .pre in
-    chooses _ _ _ _ _ (p .3) (p .5) (after-natural .natural .ensures) _ (c .before .end-of .ensures) _ (c .seek .ensures)
+    let after-holds = c .before in
+    let after-pick = after-holds .before in
+    let in-loop = after-pick .before .before in
+    let loop = in-loop .before .loop in
+    let tried = after-pick .pick .ensures in
+    case-chooses (in-loop .before) _
+    (loop .inv .2 _
+    (tried-held _ _ (start in-loop .args .z) _ _ (in-loop .loop-test .taken) (loop .inv .1) _ (loop .inv .0) _ _ tried
+    (λ e q n h f. sym (c .if1 .taken) ∙ after-holds .holds .ensures e q n h f)))
+
+pick-requires-2 : tie.Need-pick-requires-2 Inv-loop μ-loop
+pick-requires-2 c κs = search needs
+
+pick-requires-3 : tie.Need-pick-requires-3 Inv-loop μ-loop
+pick-requires-3 c κs = search needs
+
+sub-more-2 : tie.Need-sub-more-2 Inv-loop μ-loop
+sub-more-2 c =
+    let in-loop = c .before .before .before .before .before .before in
+    omega (arith, in-loop .loop-test .taken)
+
+loop-less : tie.Need-loop-less Inv-loop μ-loop
+loop-less c =
+    let in-loop = c .before .before .before .before .before .before in
+    omega (arith, in-loop .loop-test .taken)
+
+loop-again : tie.Need-loop-again Inv-loop μ-loop
+loop-again c =
+    let after-pick2 = c .before in
+    let else1 = after-pick2 .before in
+    let after-holds = else1 .before in
+    let after-pick = after-holds .before in
+    let after-end = after-pick .before in
+    let in-loop = after-end .before in
+    let loop = in-loop .before .loop in
+    let more = in-loop .loop-test .taken in
+    let all = loop .inv .1 in
+    let walk = loop .inv .0 in
+    let ends = after-end .end-of2 .ensures in
+    let kept = after-pick2 .pick2 .ensures in
+    let z = start in-loop .args .z in
+    let lacks =
+    tried-lacks _ _ z _ _ more all _ walk _ _ (after-pick .pick .ensures) (λ e q n h f. sym (else1 .if1 .left) ∙ after-holds .holds .ensures e q n h f)
+    _ kept _ ends in (
+      kept-walk _ _ z _ _ more all _ walk _ _ kept,
+      walk-rest _ _ _ _ _ more all _ (λ e q n h f. ends e q h),
+      λ r x. loop .inv .2 r (lacks r x),
+    )
+
+returns-2 : tie.Need-returns-2 Inv-loop μ-loop
+returns-2 c =
+    let loop = c .before .loop in
+    let none = none-sought _ _ (from (c .before) .args .z) (loop .next) (loop .more) (omega (arith, c .loop-test .left)) _ (loop .inv .0) in
+    case-chooses (c .before) _ (loop .inv .2 _ none)
 
 pub holding-spec : {M : Type 1} → statement M
 holding-spec =
     tie.close
     (tie.spec
+    Inv-loop
+    μ-loop
+    sub-n
     add-natural
     natural-requires
-    sub-rest
-    add-first
-    sub-n
+    sub-more
+    add-spared
     end-of-requires
     sub-size
-    seek-requires
-    returns)
+    loop-holds
+    end-of-requires-2
+    sub-long
+    pick-requires
+    holds-requires
+    returns
+    pick-requires-2
+    pick-requires-3
+    sub-more-2
+    loop-less
+    loop-again
+    returns-2)
