@@ -107,7 +107,7 @@ module _ (bs : List ℕ) (p left deep want : ℕ) where
 -- ---- so many trees
 
 module _ (bs : List ℕ) (p left deep want count : ℕ) where
-  pub trees-none : count < 1 → Fits p left ≡ treesJudged bs p left deep want count
+  pub trees-none : count ≤ 0 → Fits p left ≡ treesJudged bs p left deep want count
   unfolding branches allFit
   trees-none l = let e : count ≡ 0 = omega arith in rw e refl
 

@@ -234,7 +234,7 @@ bounded-beyond true q h = let z : _≡_ {A = ℕ} 0 1 = cc in absurd (omega arit
 bounded-beyond false q h = refl
 
 module _ (bs : List ℕ) (p r n : ℕ) where
-  pub trees-none-bounded : n < 1 → TreesBounded bs p r n (Next p)
+  pub trees-none-bounded : n ≤ 0 → TreesBounded bs p r n (Next p)
   unfolding reachAll
   trees-none-bounded l es q h m =
       let z = allAt-none (varsOf bs) bs es p q h (omega arith) in

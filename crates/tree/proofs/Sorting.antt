@@ -11,11 +11,11 @@ use lib.Dec.{ltb}
 use borrow.Author.Tests.{lt-ltb, le-ltb}
 use Rattle.alpha.specs.Pick.{ifb}
 use Rattle.alpha.specs.Field.{field}
-use Rattle.alpha.specs.Sheet.{Sort, Sort.integer, Sort.boolean, Binary, Node, Head, Expr, Exprs}
+use Rattle.alpha.specs.Sheet.{Sort, Sort.integer, Sort.boolean, Binary, Node, Expr, Exprs}
 use Rattle.alpha.specs.Sheet.{Node.nVar, Node.nInt, Node.nBool, Node.nUnary, Node.nBinary, Node.nIf, Node.nCase, Node.nRestr, Node.nDep}
 use Rattle.alpha.specs.Sheet.{Expr.ite, Exprs.none, Exprs.more, Binary.plus}
 use Rattle.alpha.specs.Read.{got, node, noHead, unaryOf, binaries, binaryOf}
-use Rattle.alpha.specs.Typing.{agree, giving, integers, booleans, unarySort, binarySort, ifSort, typeOf, typesOf}
+use Rattle.alpha.specs.Typing.{agree, giving, integers, booleans, unarySort, binarySort, ifSort, typeOf, typesOf, agreeing}
 use Rattle.alpha.specs.Written.{branchCount}
 use Rattle.laws.specs.At.{nodeOf, codeOf, nodeLen, At, AllAt}
 use Rattle.laws.specs.Children.{childrenOf, arity, sortBy}
@@ -23,13 +23,13 @@ use Rattle.laws.specs.Sheets.{headsOf, varsOf}
 use Rattle.laws.proofs.Readers.{counted-is}
 use Rattle.laws.proofs.Nodes.{NodeAt, node-at}
 use Rattle.laws.proofs.Shapes.{at-code, at-got, at-var, at-int, at-boo, at-ite, allAt-none}
-use Rattle.laws.proofs.Children.{children-many, at-children, types-more, types-one, type-children}
+use Rattle.laws.proofs.Children.{children-many, at-children, type-children}
 use Rattle.tree.specs.declared.Typed.{Typed}
 use Rattle.tree.specs.declared.Typed.the-variants.{Integer, Boolean, Mistyped}
-use Rattle.tree.specs.Standing.{Noded}
-use Rattle.tree.specs.Sorted.{typedAt, asInteger, asBoolean, anyBoolean, IfAt, TreeTyped, TreesTyped, NodeTyped}
+use Rattle.tree.specs.Standing.{Noded, Standing, StandingAll}
+use Rattle.tree.specs.Sorted.{typedAt, asInteger, asBoolean, anyBoolean, After, IfAt, TreeTyped, TreesTyped, NextTyped, NodeTyped}
 use Rattle.tree.proofs.Noding.{node-of, code-is, arity-leaf-is}
-use Rattle.tree.proofs.Standings.{one-more}
+use Rattle.tree.proofs.Standings.{one-more, first-standing, first-and-rest}
 
 -- ---- answers
 
@@ -263,76 +263,86 @@ module _ (bs : List ℕ) (p k : ℕ) (long : k ≡ nodeLen bs p) (e : Expr) (q :
 
 -- ---- so many trees
 
-types-split : (hs : List Head) (es : Exprs) (e : Expr) (rest : Exprs) → es ≡ more e rest → 1 ≤ branchCount rest →
-    typesOf es hs ≡ agree (typeOf e hs) (typesOf rest hs)
-types-split hs es e none is l = absurd (omega arith)
-types-split hs es e (more f fs) is l = ap (λ x. typesOf x hs) is ∙ types-more hs e f fs
+-- where t is the type of what ends at p, r is the type of that together with each n trees that stand from p on
+abbrev pub RestTyped : List ℕ → Typed → ℕ → Typed → Type 0
+RestTyped bs t n r =
+    (o : Option Sort) (p : ℕ) → t ≡ typedAt o p → (es : Exprs) (q : ℕ) → AllAt es (varsOf bs) bs p q → branchCount es ≡ n →
+    r ≡ typedAt (agreeing es (headsOf bs) o) q
 
-module _ (bs : List ℕ) (p n : ℕ) (t : Typed) (says : TreeTyped bs p t) where
-  -- t answers that the first tree ends at m
-  pub integer-first : (m : ℕ) → t ≡ Integer m → (e : Expr) (q : ℕ) → At e (varsOf bs) bs p q → m ≡ q
-  integer-first m is e q h = integer-ends m (typeOf e (headsOf bs)) q (sym is ∙ says e q h) .end-is
+-- the place that t says is where P holds
+module _ (t : Typed) {P : ℕ → Type 0} (a : After t P) (m : ℕ) where
+  pub integer-after : t ≡ Integer m → P m
+  integer-after is = rw (integer-ends m (a .sort) (a .end) (sym is ∙ a .is) .end-is) (a .there)
 
-  pub boolean-first : (m : ℕ) → t ≡ Boolean m → (e : Expr) (q : ℕ) → At e (varsOf bs) bs p q → m ≡ q
-  boolean-first m is e q h = boolean-ends m (typeOf e (headsOf bs)) q (sym is ∙ says e q h) .end-is
+  pub boolean-after : t ≡ Boolean m → P m
+  boolean-after is = rw (boolean-ends m (a .sort) (a .end) (sym is ∙ a .is) .end-is) (a .there)
 
-  pub types-last : 1 ≤ n → n < 2 → TreesTyped bs p n t
-  types-last first l es q h m =
-      let f = one-more (varsOf bs) bs es p q n first h m in
-      let z = allAt-none (varsOf bs) bs (f .rest) (f .middle) q (f .after) (omega (arith, f .many)) in
-      let one : es ≡ more (f .first) none = f .is ∙ ap (more (f .first)) (z .is) in
-      says (f .first) (f .middle) (f .before)
-      ∙ ap (typedAt (typeOf (f .first) (headsOf bs))) (z .end)
-      ∙ ap (λ x. typedAt x q) (sym (ap (λ x. typesOf x (headsOf bs)) one ∙ types-one (headsOf bs) (f .first)))
+module _ (bs : List ℕ) (t : Typed) where
+  -- one tree more
+  pub next-integer : (m : ℕ) → t ≡ Integer m → (u : Typed) → TreeTyped bs m u → NextTyped bs t (asInteger u)
+  next-integer m is u says o p h e q at =
+      let x = integer-ends m o p (sym is ∙ h) in
+      integers-at u (typeOf e (headsOf bs)) q (says e q (rw (x .end-is) at)) (ap (λ y. agree y (typeOf e (headsOf bs))) (x .sort-is))
 
-  module _ (two : 2 ≤ n) where
-    -- the type of the trees is that on which the first and the others agree
-    pub record Agreed (es : Exprs) (q : ℕ) : Type 0 where
-      pub first : Expr
-      pub rest : Exprs
-      pub middle : ℕ
-      pub before : At first (varsOf bs) bs p middle
-      pub after : AllAt rest (varsOf bs) bs middle q
-      pub many : branchCount rest ≡ n - 1
-      pub types-are : typesOf es (headsOf bs) ≡ agree (typeOf first (headsOf bs)) (typesOf rest (headsOf bs))
+  pub next-boolean : (m : ℕ) → t ≡ Boolean m → (u : Typed) → TreeTyped bs m u → NextTyped bs t (asBoolean u)
+  next-boolean m is u says o p h e q at =
+      let x = boolean-ends m o p (sym is ∙ h) in
+      booleans-at u (typeOf e (headsOf bs)) q (says e q (rw (x .end-is) at)) (ap (λ y. agree y (typeOf e (headsOf bs))) (x .sort-is))
 
-    agreed : (es : Exprs) (q : ℕ) → AllAt es (varsOf bs) bs p q → branchCount es ≡ n → Agreed es q
-    agreed es q h m =
-        let f = one-more (varsOf bs) bs es p q n (omega arith) h m in
+  pub next-none : t ≡ Mistyped → NextTyped bs t Mistyped
+  next-none is o p h e q at = rw (mistyped-is o p (sym is ∙ h))
+
+  -- n trees stand from a place on: the first of them, and the others where t or the next type ends
+  module _ (left n : ℕ) (enough : 1 ≤ n) where
+    pub first-after : After t (λ p. StandingAll (varsOf bs) bs p left n) → After t (λ p. Standing (varsOf bs) bs p left)
+    first-after a = record { sort = a .sort; end = a .end; is = a .is; there = first-standing (varsOf bs) bs (a .end) left n enough (a .there) }
+
+    pub rest-after : (p : ℕ) → StandingAll (varsOf bs) bs p left n → TreeTyped bs p t → After t (λ q. StandingAll (varsOf bs) bs q left (n - 1))
+    rest-after p h says =
+        let f = first-and-rest (varsOf bs) bs p left n enough h in
+        record { sort = typeOf (f .tree) (headsOf bs); end = f .end; is = says (f .tree) (f .end) (f .at); there = f .rest }
+
+    pub next-after : After t (λ p. StandingAll (varsOf bs) bs p left n) → (u : Typed) → NextTyped bs t u →
+        After u (λ p. StandingAll (varsOf bs) bs p left (n - 1))
+    next-after a u next =
+        let f = first-and-rest (varsOf bs) bs (a .end) left n enough (a .there) in
         record {
-          first = f .first;
-          rest = f .rest;
-          middle = f .middle;
-          before = f .before;
-          after = f .after;
-          many = f .many;
-          types-are = types-split (headsOf bs) es (f .first) (f .rest) (f .is) (omega (arith, f .many));
+          sort = agree (a .sort) (typeOf (f .tree) (headsOf bs));
+          end = f .end;
+          is = next (a .sort) (a .end) (a .is) (f .tree) (f .end) (f .at);
+          there = f .rest;
         }
 
-    pub types-integer : (m : ℕ) → t ≡ Integer m → (u : Typed) → TreesTyped bs m (n - 1) u → TreesTyped bs p n (asInteger u)
-    types-integer m is u rest es q h c =
-        let a = agreed es q h c in
-        let x = integer-ends m (typeOf (a .first) (headsOf bs)) (a .middle) (sym is ∙ says (a .first) (a .middle) (a .before)) in
-        let y = rest (a .rest) q (rw (x .end-is) (a .after)) (a .many) in
-        integers-at u (typesOf (a .rest) (headsOf bs)) q y (a .types-are ∙ ap (λ o. agree o (typesOf (a .rest) (headsOf bs))) (x .sort-is))
+  -- the type of n trees: it begins with the first's, goes on tree by tree, and ends where none is left
+  module _ (n : ℕ) where
+    pub types-begin : 1 ≤ n → (p : ℕ) → TreeTyped bs p t → (r : Typed) → RestTyped bs t (n - 1) r → TreesTyped bs p n r
+    unfolding typeOf
+    types-begin enough p says r rest es q h m =
+        let f = one-more (varsOf bs) bs es p q n enough h m in
+        rest (typeOf (f .first) (headsOf bs)) (f .middle) (says (f .first) (f .middle) (f .before)) (f .rest) q (f .after) (f .many)
+        ∙ ap (λ x. typedAt (typesOf x (headsOf bs)) q) (sym (f .is))
 
-    pub types-boolean : (m : ℕ) → t ≡ Boolean m → (u : Typed) → TreesTyped bs m (n - 1) u → TreesTyped bs p n (asBoolean u)
-    types-boolean m is u rest es q h c =
-        let a = agreed es q h c in
-        let x = boolean-ends m (typeOf (a .first) (headsOf bs)) (a .middle) (sym is ∙ says (a .first) (a .middle) (a .before)) in
-        let y = rest (a .rest) q (rw (x .end-is) (a .after)) (a .many) in
-        booleans-at u (typesOf (a .rest) (headsOf bs)) q y (a .types-are ∙ ap (λ o. agree o (typesOf (a .rest) (headsOf bs))) (x .sort-is))
+    pub types-go : 1 ≤ n → (u : Typed) → NextTyped bs t u → (r : Typed) → RestTyped bs u (n - 1) r → RestTyped bs t n r
+    unfolding typeOf
+    types-go enough u next r rest o p is es q h m =
+        let f = one-more (varsOf bs) bs es p q n enough h m in
+        let both = next o p is (f .first) (f .middle) (f .before) in
+        rest (agree o (typeOf (f .first) (headsOf bs))) (f .middle) both (f .rest) q (f .after) (f .many)
+        ∙ ap (λ x. typedAt (agreeing x (headsOf bs) o) q) (sym (f .is))
 
-    pub types-none : t ≡ Mistyped → TreesTyped bs p n Mistyped
-    types-none is es q h c =
-        let a = agreed es q h c in
-        let x = mistyped-is (typeOf (a .first) (headsOf bs)) (a .middle) (sym is ∙ says (a .first) (a .middle) (a .before)) in
-        let y : typesOf es (headsOf bs) ≡ Option.none = a .types-are ∙ ap (λ o. agree o (typesOf (a .rest) (headsOf bs))) x in
-        rw y
+    pub types-end : n ≤ 0 → RestTyped bs t n t
+    unfolding typeOf
+    types-end l o p is es q h m =
+        let z = allAt-none (varsOf bs) bs es p q h (omega arith) in
+        is ∙ ap (typedAt o) (z .end) ∙ ap (λ x. typedAt (agreeing x (headsOf bs) o) q) (sym (z .is))
 
 -- ---- the parts of an if
 
 module _ (bs : List ℕ) (p : ℕ) (t : Typed) (says : TreeTyped bs p t) where
+  -- t answers that the first part ends at m
+  pub boolean-first : (m : ℕ) → t ≡ Boolean m → (e : Expr) (q : ℕ) → At e (varsOf bs) bs p q → m ≡ q
+  boolean-first m is e q h = boolean-ends m (typeOf e (headsOf bs)) q (sym is ∙ says e q h) .end-is
+
   -- the first part, and the two others after it
   pub record Three (a b c : Expr) (q : ℕ) : Type 0 where
     pub middle : ℕ

@@ -106,6 +106,13 @@ module _ (vars : ℕ) (bs : List ℕ) where
   pub one-more : (es : Exprs) (p q n : ℕ) → 1 ≤ n → AllAt es vars bs p q → branchCount es ≡ n → MoreAt es vars bs p q (n - 1)
   one-more es p q n l h m = allAt-more vars bs es p q (n - 1) h (omega arith)
 
+  -- a tree stands at p, and n others from where it ends
+  pub record FirstAndRest (p left n : ℕ) : Type 0 where
+    pub tree : Expr
+    pub end : ℕ
+    pub at : At tree vars bs p end
+    pub rest : StandingAll vars bs end left n
+
   module _ (p left n : ℕ) (some : 1 ≤ n) (h : StandingAll vars bs p left n) where
     split : MoreAt (h .trees) vars bs p (h .end) (n - 1)
     split = one-more (h .trees) p (h .end) n some (h .at) (h .many)
@@ -117,15 +124,19 @@ module _ (vars : ℕ) (bs : List ℕ) where
     pub first-standing : Standing vars bs p left
     first-standing = record { tree = split .first; end = split .middle; at = split .before; few = omega (arith, counts, h .few) }
 
+    pub first-and-rest : FirstAndRest p left (n - 1)
+    first-and-rest = record {
+      tree = split .first;
+      end = split .middle;
+      at = split .before;
+      rest = record { trees = split .rest; end = h .end; at = split .after; few = omega (arith, counts, h .few); many = split .many };
+    }
+
     -- the rest stand where the first ends
     pub rest-standing : (r : ℕ) → EndsAt vars bs p r → StandingAll vars bs r left (n - 1)
-    rest-standing r ends = record {
-      trees = split .rest;
-      end = h .end;
-      at = rw (ends (split .first) (split .middle) (split .before)) (split .after);
-      few = omega (arith, counts, h .few);
-      many = split .many;
-    }
+    rest-standing r ends =
+        let f = first-and-rest in
+        rw (ends (f .tree) (f .end) (f .at)) (f .rest)
 
     -- there are no more trees than nodes
     pub trees-few : n ≤ left

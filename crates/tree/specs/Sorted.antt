@@ -5,7 +5,7 @@ use mathlib.Core.List.{List}
 use mathlib.Core.Option.{Option, Option.none, some}
 use Rattle.alpha.specs.Sheet.{Sort, Sort.integer, Sort.boolean, Node, Expr, Exprs, Expr.ite, Exprs.none, Exprs.more}
 use Rattle.alpha.specs.Read.{got, node}
-use Rattle.alpha.specs.Typing.{typeOf, typesOf}
+use Rattle.alpha.specs.Typing.{agree, typeOf, typesOf}
 use Rattle.alpha.specs.Written.{branchCount}
 use Rattle.laws.specs.At.{At, AllAt}
 use Rattle.laws.specs.Children.{sortBy}
@@ -18,6 +18,13 @@ abbrev pub typedAt : Option Sort → ℕ → Typed
 typedAt (some integer) q = Integer q
 typedAt (some boolean) q = Boolean q
 typedAt Option.none q = Mistyped
+
+-- t is a type, or none, of what ends where P holds
+pub record After (t : Typed) (P : ℕ → Type 0) : Type 0 where
+  pub sort : Option Sort
+  pub end : ℕ
+  pub is : t ≡ typedAt sort end
+  pub there : P end
 
 -- the answer where integers are wanted, and where booleans are
 abbrev pub asInteger : Typed → Typed
@@ -47,6 +54,11 @@ TreeTyped bs p t = (e : Expr) (q : ℕ) → At e (varsOf bs) bs p q → t ≡ ty
 -- t is the type that each n trees have which stand from p on
 abbrev pub TreesTyped : List ℕ → ℕ → ℕ → Typed → Type 0
 TreesTyped bs p n t = (es : Exprs) (q : ℕ) → AllAt es (varsOf bs) bs p q → branchCount es ≡ n → t ≡ typedAt (typesOf es (headsOf bs)) q
+
+-- where t is the type of what ends at p, r is the type of that together with each tree that stands from p on
+abbrev pub NextTyped : List ℕ → Typed → Typed → Type 0
+NextTyped bs t r =
+    (o : Option Sort) (p : ℕ) → t ≡ typedAt o p → (e : Expr) (q : ℕ) → At e (varsOf bs) bs p q → r ≡ typedAt (agree o (typeOf e (headsOf bs))) q
 
 -- r is what each node read at p gives for children of the type t
 abbrev pub NodeTyped : List ℕ → ℕ → Typed → Typed → Type 0

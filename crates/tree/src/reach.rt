@@ -82,12 +82,15 @@ fn reach_all(s: &[u8], at: usize, left: usize, count: usize, around: u64) -> Bou
     requires { ⌜ StandingAll (varsOf (now s)) (now s) at left count × (left ≤ 2048) × (count ≤ 64) × (1 ≤ around) ⌝ }
     ensures { λ r. ⌜ TreesBounded (now (s .entry)) at around count r ⌝ }
 {
-    if count < 1 {
-        return Bounded::Next(at);
+    let mut p = at;
+    let mut more = count;
+    while more > 0 {
+        let r = reach(s, p, left, around);
+        let Bounded::Next(next) = r else {
+            return Bounded::Beyond;
+        };
+        p = next;
+        more -= 1;
     }
-    let r = reach(s, at, left, around);
-    let Bounded::Next(next) = r else {
-        return Bounded::Beyond;
-    };
-    reach_all(s, next, left, count - 1, around)
+    Bounded::Next(p)
 }

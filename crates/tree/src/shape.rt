@@ -85,12 +85,17 @@ fn shape_all(
     requires { ⌜ Prepared (now s) (now tab) × Flat (now s) at left × (deep ≤ 32) × (want ≤ 4) × (count ≤ 64) ⌝ }
     ensures { λ r. ⌜ Judges (now (s .entry)) (treesJudged (now (s .entry)) at left deep want count) r ⌝ }
 {
-    if count < 1 {
-        return Shaped::Fits { next: at, left };
+    let mut p = at;
+    let mut n = left;
+    let mut more = count;
+    while more > 0 {
+        let r = shape(s, tab, p, n, deep, want);
+        let Shaped::Fits { next, left: rest } = r else {
+            return Shaped::Bad;
+        };
+        p = next;
+        n = rest;
+        more -= 1;
     }
-    let r = shape(s, tab, at, left, deep, want);
-    let Shaped::Fits { next, left: rest } = r else {
-        return Shaped::Bad;
-    };
-    shape_all(s, tab, next, rest, deep, want, count - 1)
+    Shaped::Fits { next: p, left: n }
 }

@@ -14,7 +14,7 @@ ghost use Rattle.alpha.specs.Typing.{unarySort, binarySort};
 ghost use Rattle.laws.specs.Sheets.{headsOf, varsOf};
 ghost use Rattle.tree.specs.Standing.{Noded, Standing, StandingAll};
 ghost use Rattle.tree.specs.Prepared.{Prepared};
-ghost use Rattle.tree.specs.Sorted.{typedAt, asInteger, asBoolean, anyBoolean, IfAt, TreeTyped, TreesTyped, NodeTyped};
+ghost use Rattle.tree.specs.Sorted.{typedAt, asInteger, asBoolean, anyBoolean, After, IfAt, TreeTyped, TreesTyped, NextTyped, NodeTyped};
 
 // The type of variable v, of a node that ends at `next`.
 fn variable_type(s: &[u8], tab: &[usize; 102], v: usize, next: usize) -> Typed
@@ -53,6 +53,17 @@ fn any_boolean(t: Typed) -> Typed
 {
     match t {
         Typed::Integer(q) => Typed::Boolean(q),
+        Typed::Boolean(q) => Typed::Boolean(q),
+        Typed::Mistyped => Typed::Mistyped,
+    }
+}
+
+// A type handed on by its parts, which the compiler keeps in registers.
+fn handed(t: Typed) -> Typed
+    ensures { λ r. ⌜ r ≡ t ⌝ }
+{
+    match t {
+        Typed::Integer(q) => Typed::Integer(q),
         Typed::Boolean(q) => Typed::Boolean(q),
         Typed::Mistyped => Typed::Mistyped,
     }
@@ -140,13 +151,23 @@ fn type_all(s: &[u8], tab: &[usize; 102], at: usize, left: usize, count: usize) 
     requires { ⌜ Prepared (now s) (now tab) × StandingAll (varsOf (now s)) (now s) at left count × (left ≤ 2048) × (1 ≤ count) × (count ≤ 64) ⌝ }
     ensures { λ r. ⌜ TreesTyped (now (s .entry)) at count r ⌝ }
 {
-    let t = type_of(s, tab, at, left);
-    if count < 2 {
-        return t;
+    let mut t = type_of(s, tab, at, left);
+    let mut more = count - 1;
+    while more > 0 {
+        t = next_type(s, tab, t, left);
+        more -= 1;
     }
+    handed(t)
+}
+
+// The type that trees of the type t have together with the tree that stands where they end.
+fn next_type(s: &[u8], tab: &[usize; 102], t: Typed, left: usize) -> Typed
+    requires { ⌜ Prepared (now s) (now tab) × After t (λ p. Standing (varsOf (now s)) (now s) p left) × (left ≤ 2048) ⌝ }
+    ensures { λ r. ⌜ NextTyped (now (s .entry)) t r ⌝ }
+{
     match t {
-        Typed::Integer(next) => as_integer(type_all(s, tab, next, left, count - 1)),
-        Typed::Boolean(next) => as_boolean(type_all(s, tab, next, left, count - 1)),
+        Typed::Integer(q) => as_integer(type_of(s, tab, q, left)),
+        Typed::Boolean(q) => as_boolean(type_of(s, tab, q, left)),
         Typed::Mistyped => Typed::Mistyped,
     }
 }

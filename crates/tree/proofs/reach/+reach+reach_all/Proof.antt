@@ -2,6 +2,10 @@
 use Prim.Native.Nat.{ℕ, _+_, _*_, _<_}
 use native.Mathlib.Omega.{arith}
 use borrow.Author.Needs.{needs}
+use Rattle.laws.specs.Sheets.{varsOf}
+use Rattle.tree.specs.declared.Bounded.{Bounded}
+use Rattle.tree.specs.Standing.{StandingAll}
+use Rattle.tree.specs.Bounding.{TreesBounded}
 use Rattle.tree.proofs.Standings.{standing-noded, standing-some, standing-there, standing-children, children-few, first-standing, rest-standing}
 use Rattle.tree.proofs.Reaching.{reach-some, reach-past, reach-goes, trees-none-bounded, first-ends, trees-beyond, trees-bounded}
 use borrow.Fn.Kinds.{In}
@@ -19,10 +23,10 @@ use Rattle.tree.proofs.reach.+reach+reach_all.{statement}
 use Rattle.tree.proofs.reach.+reach+reach_all.Tie.{close}
 
 abbrev μ-reach : Measures 1 reach-kinds.ps ℕ
-μ-reach κs a = 70 * a .1 .1 .0
+μ-reach κs a = 2 * a .1 .1 .0
 
 abbrev μ-reach-all : Measures 1 reach-all-kinds.ps ℕ
-μ-reach-all κs a = 70 * a .1 .1 .0 + (a .1 .1 .1 .0 + 1)
+μ-reach-all κs a = 2 * a .1 .1 .0 + 1
 
 abbrev reach-at : ℕ → In 1 reach-kinds.ps
 reach-at t = and 1 reach-kinds.ps (is 1 reach-kinds.ps μ-reach t) reach.Pre
@@ -50,7 +54,7 @@ reach-uses t = (
 )
 
 abbrev reach-all-uses : ℕ → reach-all-lts.Claims
-reach-all-uses t = (reach-below t, reach.Post, reach-all-below t, reach-all.Post)
+reach-all-uses t = (reach-below t, reach.Post)
 
 reach-reach-below-requires : (t : ℕ) → reach-lts.Need-reach-below-requires (reach-uses t) (reach-at t) reach.Post
 reach-reach-below-requires t c κs = (standing-noded _ _ _ _ (c .before .pre .1 .0), c .before .pre .1 .2)
@@ -107,45 +111,61 @@ reach-returns-2 t c =
     let long = c .before .before .node-len .ensures in
     reach-goes _ _ _ _ says _ (after-r .r .given .1) _ _ long (c .before .children .ensures) _ (c .reach-all .ensures)
 
-reach-all-returns : (t : ℕ) → reach-all-lts.Need-returns (reach-all-uses t) (reach-all-at t) reach-all.Post
-reach-all-returns t c = trees-none-bounded _ _ _ _ (c .if1 .taken)
+-- what the trees from here on come to is what all of them do
+abbrev reach-all-Inv-loop : reach-all-lts.InvT-loop
+reach-all-Inv-loop s at left count around p₀ more₀ p more =
+    StandingAll (varsOf s) s p left more × ((r : Bounded) → TreesBounded s p around more r → TreesBounded s at around count r)
 
-reach-all-reach-requires : (t : ℕ) → reach-all-lts.Need-reach-requires (reach-all-uses t) (reach-all-at t) reach-all.Post
+abbrev reach-all-μ-loop : reach-all-lts.MeasureT-loop
+reach-all-μ-loop s at left count around p₀ more₀ p more = more
+
+reach-all-loop-holds : (t : ℕ) → reach-all-lts.Need-loop-holds (reach-all-uses t) (reach-all-at t) reach-all.Post reach-all-Inv-loop reach-all-μ-loop
+reach-all-loop-holds t c = (c .before .pre .1 .0, λ r h. h)
+
+reach-all-reach-requires : (t : ℕ) → reach-all-lts.Need-reach-requires (reach-all-uses t) (reach-all-at t) reach-all.Post reach-all-Inv-loop reach-all-μ-loop
 reach-all-reach-requires t c κs =
-    let s = c .before .before in
+    let s = c .before .before .before in
     let is = s .pre .0 in
     let h = s .pre .1 in
-    (omega arith, (first-standing _ _ _ _ _ (c .if1 .left) (h .0), h .1, h .3))
+    (omega arith, (first-standing _ _ _ _ _ (c .loop-test .taken) (c .before .loop .inv .0), h .1, h .3))
 
-reach-all-enum-known-r : (t : ℕ) → reach-all-lts.Need-enum-known-r (reach-all-uses t) (reach-all-at t) reach-all.Post
+reach-all-enum-known-r : (t : ℕ) → reach-all-lts.Need-enum-known-r (reach-all-uses t) (reach-all-at t) reach-all.Post reach-all-Inv-loop reach-all-μ-loop
 reach-all-enum-known-r t c = search needs
 
-reach-all-enum-told : (t : ℕ) → reach-all-lts.Need-enum-told (reach-all-uses t) (reach-all-at t) reach-all.Post
+reach-all-enum-told : (t : ℕ) → reach-all-lts.Need-enum-told (reach-all-uses t) (reach-all-at t) reach-all.Post reach-all-Inv-loop reach-all-μ-loop
 reach-all-enum-told t c = search needs
 
-reach-all-returns-2 : (t : ℕ) → reach-all-lts.Need-returns-2 (reach-all-uses t) (reach-all-at t) reach-all.Post
-reach-all-returns-2 t c =
-    let else1 = c .before .before .before in
-    trees-beyond _ _ _ _ (else1 .if1 .left) _ (c .before .before .reach .ensures) (c .enum-told .given .1)
+reach-all-returns : (t : ℕ) → reach-all-lts.Need-returns (reach-all-uses t) (reach-all-at t) reach-all.Post reach-all-Inv-loop reach-all-μ-loop
+reach-all-returns t c =
+    let after-reach = c .before .before in
+    let in-loop = after-reach .before in
+    let beyond = trees-beyond _ _ _ _ (in-loop .loop-test .taken) _ (after-reach .reach .ensures) (c .enum-told .given .1) in
+    in-loop .before .loop .inv .1 _ beyond
 
-reach-all-reach-all-requires : (t : ℕ) → reach-all-lts.Need-reach-all-requires (reach-all-uses t) (reach-all-at t) reach-all.Post
-reach-all-reach-all-requires t c κs =
+reach-all-sub-more : (t : ℕ) → reach-all-lts.Need-sub-more (reach-all-uses t) (reach-all-at t) reach-all.Post reach-all-Inv-loop reach-all-μ-loop
+reach-all-sub-more t c =
+    let in-loop = c .before .before .before .before in
+    omega (arith, in-loop .loop-test .taken)
+
+reach-all-loop-less : (t : ℕ) → reach-all-lts.Need-loop-less (reach-all-uses t) (reach-all-at t) reach-all.Post reach-all-Inv-loop reach-all-μ-loop
+reach-all-loop-less t c =
+    let in-loop = c .before .before .before .before in
+    omega (arith, in-loop .loop-test .taken)
+
+reach-all-loop-again : (t : ℕ) → reach-all-lts.Need-loop-again (reach-all-uses t) (reach-all-at t) reach-all.Post reach-all-Inv-loop reach-all-μ-loop
+reach-all-loop-again t c =
     let after-reach = c .before .before .before in
-    let else1 = after-reach .before in
-    let s = else1 .before .before in
-    let is = s .pre .0 in
-    let h = s .pre .1 in
-    let enough = else1 .if1 .left in
-    let ends = first-ends _ _ _ _ enough _ (after-reach .reach .ensures) _ (c .before .r .given .1) in
-    (omega arith, (rest-standing _ _ _ _ _ enough (h .0) _ ends, h .1, omega (arith, h .2), h .3))
-
-reach-all-returns-3 : (t : ℕ) → reach-all-lts.Need-returns-3 (reach-all-uses t) (reach-all-at t) reach-all.Post
-reach-all-returns-3 t c =
-    let after-reach = c .before .before .before .before in
-    let else1 = after-reach .before in
-    let enough = else1 .if1 .left in
+    let in-loop = after-reach .before in
+    let loop = in-loop .before .loop in
+    let some = in-loop .loop-test .taken in
     let first = after-reach .reach .ensures in
-    trees-bounded _ _ _ _ enough _ first _ (c .before .before .r .given .1) _ (c .reach-all .ensures)
+    let next = c .before .r .given .1 in (
+      rest-standing _ _ _ _ _ some (loop .inv .0) _ (first-ends _ _ _ _ some _ first _ next),
+      λ r h. loop .inv .1 r (trees-bounded _ _ _ _ some _ first _ next r h),
+    )
+
+reach-all-returns-2 : (t : ℕ) → reach-all-lts.Need-returns-2 (reach-all-uses t) (reach-all-at t) reach-all.Post reach-all-Inv-loop reach-all-μ-loop
+reach-all-returns-2 t c = c .before .loop .inv .1 _ (trees-none-bounded _ _ _ _ (c .loop-test .left))
 
 pub +reach+reach-all-spec : {M : Type 1} → statement M
 +reach+reach-all-spec = close μ-reach μ-reach-all (λ t. reach-lts.spec (reach-uses t) (reach-at t)
@@ -163,10 +183,14 @@ pub +reach+reach-all-spec : {M : Type 1} → statement M
     λ t. reach-all-lts.spec
     (reach-all-uses t) (reach-all-at t)
     reach-all.Post
-    (reach-all-returns t)
+    reach-all-Inv-loop
+    reach-all-μ-loop
+    (reach-all-loop-holds t)
     (reach-all-reach-requires t)
     (reach-all-enum-known-r t)
     (reach-all-enum-told t)
+    (reach-all-returns t)
+    (reach-all-sub-more t)
+    (reach-all-loop-less t)
+    (reach-all-loop-again t)
     (reach-all-returns-2 t)
-    (reach-all-reach-all-requires t)
-    (reach-all-returns-3 t)

@@ -1,10 +1,11 @@
 -- `tree::shape` and `tree::shape_all` meet their contracts: a tree is judged by its node and then by its children. Assumes nothing.
 use Prim.Native.Nat.{ℕ, _+_, _*_, _<_}
-use mathlib.Core.Path.{sym, _∙_}
+use mathlib.Core.Path.{_≡_, refl, sym, _∙_}
 use native.Mathlib.Omega.{arith}
 use borrow.Author.Needs.{needs}
 use borrow.Author.Tests.{not-true, not-false}
 use Rattle.laws.proofs.Nodes.{node-next}
+use Rattle.tree.specs.Judged.{Flat, treesJudged}
 use Rattle.tree.proofs.Judging.{FirstOf, flat-first, noded-few, tree-no-nodes, tree-no-depth, tree-misfit}
 use Rattle.tree.proofs.Judging.{tree-goes, trees-none, trees-bad, trees-go, bad-judges, fits-judges}
 use borrow.Fn.Kinds.{In}
@@ -23,10 +24,10 @@ use Rattle.tree.proofs.shape.+shape+shape_all.{statement}
 use Rattle.tree.proofs.shape.+shape+shape_all.Tie.{close}
 
 abbrev μ-shape : Measures 2 shape-kinds.ps ℕ
-μ-shape κs a = 70 * a .1 .1 .1 .1 .0
+μ-shape κs a = 2 * a .1 .1 .1 .1 .0
 
 abbrev μ-shape-all : Measures 2 shape-all-kinds.ps ℕ
-μ-shape-all κs a = 70 * a .1 .1 .1 .1 .0 + (a .1 .1 .1 .1 .1 .1 .0 + 1)
+μ-shape-all κs a = 2 * a .1 .1 .1 .1 .0 + 1
 
 abbrev shape-at : ℕ → In 2 shape-kinds.ps
 shape-at t = and 2 shape-kinds.ps (is 2 shape-kinds.ps μ-shape t) shape.Pre
@@ -56,7 +57,7 @@ shape-uses t = (
 )
 
 abbrev shape-all-uses : ℕ → shape-all-lts.Claims
-shape-all-uses t = (shape-below t, shape.Post, shape-all-below t, shape-all.Post)
+shape-all-uses t = (shape-below t, shape.Post)
 
 shape-returns : (t : ℕ) → shape-lts.Need-returns (shape-uses t) (shape-at t) shape.Post
 shape-returns t c = bad-judges _ _ (tree-no-nodes _ _ _ _ _ (c .if1 .taken))
@@ -136,49 +137,60 @@ shape-returns-4 t c =
       flat = all .flat;
     }
 
-shape-all-returns : (t : ℕ) → shape-all-lts.Need-returns (shape-all-uses t) (shape-all-at t) shape-all.Post
-shape-all-returns t c =
-    let s = c .before .before in
-    fits-judges _ _ _ _ (trees-none _ _ _ _ _ _ (c .if1 .taken)) (s .pre .1 .1)
+-- what the trees from here on are judged is what all of them are, and the nodes that are left stand from here on
+abbrev shape-all-Inv-loop : shape-all-lts.InvT-loop
+shape-all-Inv-loop s tab at left deep want count p₀ n₀ more₀ p n more =
+    (treesJudged s p n deep want more ≡ treesJudged s at left deep want count) × Flat s p n
 
-shape-all-shape-requires : (t : ℕ) → shape-all-lts.Need-shape-requires (shape-all-uses t) (shape-all-at t) shape-all.Post
+abbrev shape-all-μ-loop : shape-all-lts.MeasureT-loop
+shape-all-μ-loop s tab at left deep want count p₀ n₀ more₀ p n more = more
+
+shape-all-loop-holds : (t : ℕ) → shape-all-lts.Need-loop-holds (shape-all-uses t) (shape-all-at t) shape-all.Post shape-all-Inv-loop shape-all-μ-loop
+shape-all-loop-holds t c = (refl, c .before .pre .1 .1)
+
+shape-all-shape-requires : (t : ℕ) → shape-all-lts.Need-shape-requires (shape-all-uses t) (shape-all-at t) shape-all.Post shape-all-Inv-loop shape-all-μ-loop
 shape-all-shape-requires t c κs =
-    let s = c .before .before in
+    let s = c .before .before .before in
     let is = s .pre .0 in
-    (omega arith, (s .pre .1 .0, s .pre .1 .1, s .pre .1 .2, s .pre .1 .3))
+    (omega arith, (s .pre .1 .0, c .before .loop .inv .1, s .pre .1 .2, s .pre .1 .3))
 
-shape-all-enum-known-r : (t : ℕ) → shape-all-lts.Need-enum-known-r (shape-all-uses t) (shape-all-at t) shape-all.Post
+shape-all-enum-known-r : (t : ℕ) → shape-all-lts.Need-enum-known-r (shape-all-uses t) (shape-all-at t) shape-all.Post shape-all-Inv-loop shape-all-μ-loop
 shape-all-enum-known-r t c = search needs
 
-shape-all-enum-told : (t : ℕ) → shape-all-lts.Need-enum-told (shape-all-uses t) (shape-all-at t) shape-all.Post
+shape-all-enum-told : (t : ℕ) → shape-all-lts.Need-enum-told (shape-all-uses t) (shape-all-at t) shape-all.Post shape-all-Inv-loop shape-all-μ-loop
 shape-all-enum-told t c = search needs
 
-shape-all-returns-2 : (t : ℕ) → shape-all-lts.Need-returns-2 (shape-all-uses t) (shape-all-at t) shape-all.Post
-shape-all-returns-2 t c =
-    let else1 = c .before .before .before in
-    let x = c .before .before .shape .ensures in
-    bad-judges _ _ (trees-bad _ _ _ _ _ _ (else1 .if1 .left) (sym (c .enum-told .given .1) ∙ x .is))
+shape-all-returns : (t : ℕ) → shape-all-lts.Need-returns (shape-all-uses t) (shape-all-at t) shape-all.Post shape-all-Inv-loop shape-all-μ-loop
+shape-all-returns t c =
+    let after-shape = c .before .before in
+    let in-loop = after-shape .before in
+    let bad = sym (c .enum-told .given .1) ∙ after-shape .shape .ensures .is in
+    bad-judges _ _ (trees-bad _ _ _ _ _ _ (in-loop .loop-test .taken) bad ∙ in-loop .before .loop .inv .0)
 
-shape-all-shape-all-requires : (t : ℕ) → shape-all-lts.Need-shape-all-requires (shape-all-uses t) (shape-all-at t) shape-all.Post
-shape-all-shape-all-requires t c κs =
+shape-all-sub-more : (t : ℕ) → shape-all-lts.Need-sub-more (shape-all-uses t) (shape-all-at t) shape-all.Post shape-all-Inv-loop shape-all-μ-loop
+shape-all-sub-more t c =
+    let in-loop = c .before .before .before .before in
+    omega (arith, in-loop .loop-test .taken)
+
+shape-all-loop-less : (t : ℕ) → shape-all-lts.Need-loop-less (shape-all-uses t) (shape-all-at t) shape-all.Post shape-all-Inv-loop shape-all-μ-loop
+shape-all-loop-less t c =
+    let in-loop = c .before .before .before .before in
+    omega (arith, in-loop .loop-test .taken)
+
+shape-all-loop-again : (t : ℕ) → shape-all-lts.Need-loop-again (shape-all-uses t) (shape-all-at t) shape-all.Post shape-all-Inv-loop shape-all-μ-loop
+shape-all-loop-again t c =
     let after-shape = c .before .before .before in
-    let else1 = after-shape .before in
-    let s = else1 .before .before in
-    let is = s .pre .0 in
-    let some = else1 .if1 .left in
-    let x = after-shape .shape .ensures in
-    (omega arith, (s .pre .1 .0, x .flat _ _ (c .before .r .given .1), s .pre .1 .2, s .pre .1 .3, omega (arith, s .pre .1 .4)))
+    let in-loop = after-shape .before in
+    let first = after-shape .shape .ensures in
+    let fits = c .before .r .given .1 in (
+      trees-go _ _ _ _ _ _ (in-loop .loop-test .taken) _ _ (sym fits ∙ first .is) ∙ in-loop .before .loop .inv .0,
+      first .flat _ _ fits,
+    )
 
-shape-all-returns-3 : (t : ℕ) → shape-all-lts.Need-returns-3 (shape-all-uses t) (shape-all-at t) shape-all.Post
-shape-all-returns-3 t c =
-    let after-shape = c .before .before .before .before in
-    let else1 = after-shape .before in
-    let x = after-shape .shape .ensures in
-    let y = c .shape-all .ensures in
-    record {
-      is = y .is ∙ trees-go _ _ _ _ _ _ (else1 .if1 .left) _ _ (sym (c .before .before .r .given .1) ∙ x .is);
-      flat = y .flat;
-    }
+shape-all-returns-2 : (t : ℕ) → shape-all-lts.Need-returns-2 (shape-all-uses t) (shape-all-at t) shape-all.Post shape-all-Inv-loop shape-all-μ-loop
+shape-all-returns-2 t c =
+    let loop = c .before .loop in
+    fits-judges _ _ _ _ (trees-none _ _ _ _ _ _ (c .loop-test .left) ∙ loop .inv .0) (loop .inv .1)
 
 pub +shape+shape-all-spec : {M : Type 1} → statement M
 +shape+shape-all-spec = close μ-shape μ-shape-all (λ t. shape-lts.spec (shape-uses t) (shape-at t)
@@ -196,10 +208,14 @@ pub +shape+shape-all-spec : {M : Type 1} → statement M
     λ t. shape-all-lts.spec
     (shape-all-uses t) (shape-all-at t)
     shape-all.Post
-    (shape-all-returns t)
+    shape-all-Inv-loop
+    shape-all-μ-loop
+    (shape-all-loop-holds t)
     (shape-all-shape-requires t)
     (shape-all-enum-known-r t)
     (shape-all-enum-told t)
+    (shape-all-returns t)
+    (shape-all-sub-more t)
+    (shape-all-loop-less t)
+    (shape-all-loop-again t)
     (shape-all-returns-2 t)
-    (shape-all-shape-all-requires t)
-    (shape-all-returns-3 t)

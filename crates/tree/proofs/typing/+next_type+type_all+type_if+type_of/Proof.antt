@@ -1,4 +1,5 @@
--- `tree::type_of`, `tree::type_if` and `tree::type_all` meet their contracts: a tree's type from its children's. Assumes nothing.
+-- `tree::type_of`, `tree::type_if`, `tree::type_all` and `tree::next_type` meet their contracts: a tree's type from its children's.
+-- Assumes nothing.
 use Prim.Native.Nat.{ℕ, _+_, _*_, _≤_, _<_}
 use mathlib.Core.Path.{sym, ap, _∙_}
 use native.Mathlib.Omega.{arith}
@@ -6,43 +7,60 @@ use lib.ListN.{length, getD}
 use borrow.Author.Needs.{needs}
 use mathlib.Core.Option.{some}
 use Rattle.alpha.specs.Read.{noHead}
-use Rattle.laws.specs.Sheets.{headsOf}
-use Rattle.tree.specs.Sorted.{typedAt}
+use Rattle.laws.specs.Sheets.{headsOf, varsOf}
+use Rattle.tree.specs.declared.Typed.{Typed}
+use Rattle.tree.specs.Standing.{StandingAll}
+use Rattle.tree.specs.Sorted.{typedAt, After, TreesTyped}
 use Rattle.tree.proofs.Noding.{code-there, second-there, arity-three-is, arity-some}
 use Rattle.tree.proofs.Heading.{prepared-sections}
 use Rattle.tree.proofs.Fitting.{variable-known}
 use Rattle.tree.proofs.Standings.{standing-noded, standing-some, standing-there, standing-children, children-few, first-standing, rest-standing}
-use Rattle.tree.proofs.Sorting.{type-variable, type-integer, type-boolean, type-if, type-other, integer-first, boolean-first}
-use Rattle.tree.proofs.Sorting.{types-last, types-integer, types-boolean, types-none, if-boolean, if-integer, if-mistyped}
+use Rattle.tree.proofs.Sorting.{type-variable, type-integer, type-boolean, type-if, type-other, boolean-first, if-boolean, if-integer, if-mistyped}
+use Rattle.tree.proofs.Sorting.{RestTyped, integer-after, boolean-after, next-integer, next-boolean, next-none}
+use Rattle.tree.proofs.Sorting.{first-after, rest-after, next-after, types-begin, types-go, types-end}
 use borrow.Fn.Kinds.{In}
 use borrow.Fn.PlainCycle.{Measures, is, falls, and}
+use Rattle.tree.proofs.typing.next_type.Reads as next-type
+use Rattle.tree.proofs.typing.next_type.Kinds as next-type-kinds
+use Rattle.tree.proofs.typing.+next_type+type_all+type_if+type_of.Lts-next_type as next-type-lts
 use Rattle.tree.proofs.typing.type_all.Reads as type-all
 use Rattle.tree.proofs.typing.type_all.Kinds as type-all-kinds
-use Rattle.tree.proofs.typing.+type_all+type_if+type_of.Lts-type_all as type-all-lts
+use Rattle.tree.proofs.typing.+next_type+type_all+type_if+type_of.Lts-type_all as type-all-lts
 use Rattle.tree.proofs.typing.type_if.Reads as type-if
 use Rattle.tree.proofs.typing.type_if.Kinds as type-if-kinds
-use Rattle.tree.proofs.typing.+type_all+type_if+type_of.Lts-type_if as type-if-lts
+use Rattle.tree.proofs.typing.+next_type+type_all+type_if+type_of.Lts-type_if as type-if-lts
 use Rattle.tree.proofs.typing.type_of.Reads as type-of
 use Rattle.tree.proofs.typing.type_of.Kinds as type-of-kinds
-use Rattle.tree.proofs.typing.+type_all+type_if+type_of.Lts-type_of as type-of-lts
+use Rattle.tree.proofs.typing.+next_type+type_all+type_if+type_of.Lts-type_of as type-of-lts
 use Rattle.tree.proofs.node.children.Reads as children-reads
 use Rattle.tree.proofs.node.natural.Reads as natural-reads
 use Rattle.tree.proofs.node.node_len.Reads as node-len-reads
 use Rattle.tree.proofs.typing.as_boolean.Reads as as-boolean-reads
 use Rattle.tree.proofs.typing.as_integer.Reads as as-integer-reads
+use Rattle.tree.proofs.typing.handed.Reads as handed-reads
 use Rattle.tree.proofs.typing.node_type.Reads as node-type-reads
 use Rattle.tree.proofs.typing.variable_type.Reads as variable-type-reads
-use Rattle.tree.proofs.typing.+type_all+type_if+type_of.{statement}
-use Rattle.tree.proofs.typing.+type_all+type_if+type_of.Tie.{close}
+use Rattle.tree.proofs.typing.+next_type+type_all+type_if+type_of.{statement}
+use Rattle.tree.proofs.typing.+next_type+type_all+type_if+type_of.Tie.{close}
+
+abbrev μ-next-type : Measures 2 next-type-kinds.ps ℕ
+μ-next-type κs a = 4 * a .1 .1 .1 .0 + 1
 
 abbrev μ-type-all : Measures 2 type-all-kinds.ps ℕ
-μ-type-all κs a = 70 * a .1 .1 .1 .0 + (a .1 .1 .1 .1 .0 + 1)
+μ-type-all κs a = 4 * a .1 .1 .1 .0 + 2
 
 abbrev μ-type-if : Measures 2 type-if-kinds.ps ℕ
-μ-type-if κs a = 70 * a .1 .1 .1 .0 + 5
+μ-type-if κs a = 4 * a .1 .1 .1 .0 + 3
 
 abbrev μ-type-of : Measures 2 type-of-kinds.ps ℕ
-μ-type-of κs a = 70 * a .1 .1 .1 .0
+μ-type-of κs a = 4 * a .1 .1 .1 .0
+
+abbrev next-type-at : ℕ → In 2 next-type-kinds.ps
+next-type-at t = and 2 next-type-kinds.ps (is 2 next-type-kinds.ps μ-next-type t) next-type.Pre
+
+abbrev next-type-below : ℕ → In 2 next-type-kinds.ps
+next-type-below t =
+    and 2 next-type-kinds.ps (falls 2 next-type-kinds.ps _<_ μ-next-type t) next-type.Pre
 
 abbrev type-all-at : ℕ → In 2 type-all-kinds.ps
 type-all-at t = and 2 type-all-kinds.ps (is 2 type-all-kinds.ps μ-type-all t) type-all.Pre
@@ -63,16 +81,24 @@ type-of-at t = and 2 type-of-kinds.ps (is 2 type-of-kinds.ps μ-type-of t) type-
 abbrev type-of-below : ℕ → In 2 type-of-kinds.ps
 type-of-below t = and 2 type-of-kinds.ps (falls 2 type-of-kinds.ps _<_ μ-type-of t) type-of.Pre
 
-abbrev type-all-uses : ℕ → type-all-lts.Claims
-type-all-uses t = (
+abbrev next-type-uses : ℕ → next-type-lts.Claims
+next-type-uses t = (
   type-of-below t,
   type-of.Post,
-  type-all-below t,
-  type-all.Post,
   as-integer-reads.Asked,
   as-integer-reads.Learnt,
   as-boolean-reads.Asked,
   as-boolean-reads.Learnt,
+)
+
+abbrev type-all-uses : ℕ → type-all-lts.Claims
+type-all-uses t = (
+  type-of-below t,
+  type-of.Post,
+  next-type-below t,
+  next-type.Post,
+  handed-reads.Asked,
+  handed-reads.Learnt,
 )
 
 abbrev type-if-uses : ℕ → type-if-lts.Claims
@@ -96,83 +122,106 @@ type-of-uses t = (
   node-type-reads.Learnt,
 )
 
-type-all-type-of-requires : (t : ℕ) → type-all-lts.Need-type-of-requires (type-all-uses t) (type-all-at t) type-all.Post
+next-type-enum-known-t : (t : ℕ) → next-type-lts.Need-enum-known-t (next-type-uses t) (next-type-at t) next-type.Post
+next-type-enum-known-t t c = search needs
+
+next-type-type-of-requires : (t : ℕ) → next-type-lts.Need-type-of-requires (next-type-uses t) (next-type-at t) next-type.Post
+next-type-type-of-requires t c κs =
+    let s = c .before .before .before .before in
+    let is = s .pre .0 in
+    let h = s .pre .1 in
+    (omega arith, (h .0, integer-after _ (h .1) _ (c .before .t .given .1), h .2))
+
+next-type-as-integer-requires : (t : ℕ) → next-type-lts.Need-as-integer-requires (next-type-uses t) (next-type-at t) next-type.Post
+next-type-as-integer-requires t c κs = search needs
+
+next-type-enum-known-t-2 : (t : ℕ) → next-type-lts.Need-enum-known-t-2 (next-type-uses t) (next-type-at t) next-type.Post
+next-type-enum-known-t-2 t c = search needs
+
+next-type-type-of-requires-2 : (t : ℕ) → next-type-lts.Need-type-of-requires-2 (next-type-uses t) (next-type-at t) next-type.Post
+next-type-type-of-requires-2 t c κs =
+    let s = c .before .before .before .before in
+    let is = s .pre .0 in
+    let h = s .pre .1 in
+    (omega arith, (h .0, boolean-after _ (h .1) _ (c .before .t2 .given .1), h .2))
+
+next-type-as-boolean-requires : (t : ℕ) → next-type-lts.Need-as-boolean-requires (next-type-uses t) (next-type-at t) next-type.Post
+next-type-as-boolean-requires t c κs = search needs
+
+next-type-enum-told : (t : ℕ) → next-type-lts.Need-enum-told (next-type-uses t) (next-type-at t) next-type.Post
+next-type-enum-told t c = search needs
+
+next-type-returns : (t : ℕ) → next-type-lts.Need-returns (next-type-uses t) (next-type-at t) next-type.Post
+next-type-returns t c =
+    let after-t = c .before .before .before in
+    λ o p is e q h.
+    c .as-integer .ensures ∙ next-integer _ _ _ (after-t .t .given .1) _ (c .before .type-of .ensures) o p is e q h
+
+next-type-returns-2 : (t : ℕ) → next-type-lts.Need-returns-2 (next-type-uses t) (next-type-at t) next-type.Post
+next-type-returns-2 t c =
+    let after-t2 = c .before .before .before in
+    λ o p is e q h.
+    c .as-boolean .ensures ∙ next-boolean _ _ _ (after-t2 .t2 .given .1) _ (c .before .type-of2 .ensures) o p is e q h
+
+next-type-returns-3 : (t : ℕ) → next-type-lts.Need-returns-3 (next-type-uses t) (next-type-at t) next-type.Post
+next-type-returns-3 t c = next-none _ _ (c .enum-told .given .1)
+
+-- other trees stand where the type so far ends, and what they come to with it is what all trees do
+abbrev type-all-Inv-loop : type-all-lts.InvT-loop
+type-all-Inv-loop s tab at left count t₀ more₀ t more =
+    After t (λ p. StandingAll (varsOf s) s p left more) × ((r : Typed) → RestTyped s t more r → TreesTyped s at count r)
+
+abbrev type-all-μ-loop : type-all-lts.MeasureT-loop
+type-all-μ-loop s tab at left count t₀ more₀ t more = more
+
+type-all-type-of-requires : (t : ℕ) → type-all-lts.Need-type-of-requires (type-all-uses t) (type-all-at t) type-all.Post type-all-Inv-loop type-all-μ-loop
 type-all-type-of-requires t c κs =
     let s = c .before in
     let is = s .pre .0 in
     let h = s .pre .1 in
     (omega arith, (h .0, first-standing _ _ _ _ _ (h .3) (h .1), h .2))
 
-type-all-returns : (t : ℕ) → type-all-lts.Need-returns (type-all-uses t) (type-all-at t) type-all.Post
+type-all-sub-more : (t : ℕ) → type-all-lts.Need-sub-more (type-all-uses t) (type-all-at t) type-all.Post type-all-Inv-loop type-all-μ-loop
+type-all-sub-more t c =
+    let s = c .before .before in
+    omega (arith, s .pre .1 .3)
+
+type-all-loop-holds : (t : ℕ) → type-all-lts.Need-loop-holds (type-all-uses t) (type-all-at t) type-all.Post type-all-Inv-loop type-all-μ-loop
+type-all-loop-holds t c =
+    let s = c .before .before in
+    let h = s .pre .1 in
+    let first = c .type-of .ensures in
+    (rest-after _ _ _ _ (h .3) _ (h .1) first, λ r rest. types-begin _ _ _ (h .3) _ first r rest)
+
+type-all-next-type-requires : (t : ℕ) → type-all-lts.Need-next-type-requires (type-all-uses t) (type-all-at t) type-all.Post type-all-Inv-loop type-all-μ-loop
+type-all-next-type-requires t c κs =
+    let s = c .before .before .before .before in
+    let is = s .pre .0 in
+    let h = s .pre .1 in
+    (omega arith, (h .0, first-after _ _ _ _ (c .loop-test .taken) (c .before .loop .inv .0), h .2))
+
+type-all-sub-more-2 : (t : ℕ) → type-all-lts.Need-sub-more-2 (type-all-uses t) (type-all-at t) type-all.Post type-all-Inv-loop type-all-μ-loop
+type-all-sub-more-2 t c = omega (arith, c .before .loop-test .taken)
+
+type-all-loop-less : (t : ℕ) → type-all-lts.Need-loop-less (type-all-uses t) (type-all-at t) type-all.Post type-all-Inv-loop type-all-μ-loop
+type-all-loop-less t c = omega (arith, c .before .loop-test .taken)
+
+type-all-loop-again : (t : ℕ) → type-all-lts.Need-loop-again (type-all-uses t) (type-all-at t) type-all.Post type-all-Inv-loop type-all-μ-loop
+type-all-loop-again t c =
+    let in-loop = c .before in
+    let inv = in-loop .before .loop .inv in
+    let enough = in-loop .loop-test .taken in
+    let next = c .next-type .ensures in
+    (next-after _ _ _ _ enough (inv .0) _ next, λ r rest. inv .1 r (types-go _ _ _ enough _ next r rest))
+
+type-all-handed-requires : (t : ℕ) → type-all-lts.Need-handed-requires (type-all-uses t) (type-all-at t) type-all.Post type-all-Inv-loop type-all-μ-loop
+type-all-handed-requires t c κs = search needs
+
+type-all-returns : (t : ℕ) → type-all-lts.Need-returns (type-all-uses t) (type-all-at t) type-all.Post type-all-Inv-loop type-all-μ-loop
 type-all-returns t c =
-    let s = c .before .before .before in
-    types-last _ _ _ _ (c .before .type-of .ensures) (s .pre .1 .3) (c .if1 .taken)
-
-type-all-enum-known-t : (t : ℕ) → type-all-lts.Need-enum-known-t (type-all-uses t) (type-all-at t) type-all.Post
-type-all-enum-known-t t c = search needs
-
-type-all-sub-type-all : (t : ℕ) → type-all-lts.Need-sub-type-all (type-all-uses t) (type-all-at t) type-all.Post
-type-all-sub-type-all t c = search needs
-
-type-all-type-all-requires : (t : ℕ) → type-all-lts.Need-type-all-requires (type-all-uses t) (type-all-at t) type-all.Post
-type-all-type-all-requires t c κs =
-    let else1 = c .before .before .before in
-    let after-type-of = else1 .before in
-    let s = after-type-of .before .before in
-    let is = s .pre .0 in
-    let h = s .pre .1 in
-    let two = else1 .if1 .left in
-    let ends = integer-first _ _ (s .args .count) _ (after-type-of .type-of .ensures) _ (c .before .t .given .1) in
-    (omega arith, (h .0, rest-standing _ _ _ _ _ (h .3) (h .1) _ ends, h .2, omega arith, omega (arith, h .4)))
-
-type-all-as-integer-requires : (t : ℕ) → type-all-lts.Need-as-integer-requires (type-all-uses t) (type-all-at t) type-all.Post
-type-all-as-integer-requires t c κs = search needs
-
-type-all-enum-known-t-2 : (t : ℕ) → type-all-lts.Need-enum-known-t-2 (type-all-uses t) (type-all-at t) type-all.Post
-type-all-enum-known-t-2 t c = search needs
-
-type-all-sub-type-all-2 : (t : ℕ) → type-all-lts.Need-sub-type-all-2 (type-all-uses t) (type-all-at t) type-all.Post
-type-all-sub-type-all-2 t c = search needs
-
-type-all-type-all-requires-2 : (t : ℕ) → type-all-lts.Need-type-all-requires-2 (type-all-uses t) (type-all-at t) type-all.Post
-type-all-type-all-requires-2 t c κs =
-    let else1 = c .before .before .before in
-    let after-type-of = else1 .before in
-    let s = after-type-of .before .before in
-    let is = s .pre .0 in
-    let h = s .pre .1 in
-    let two = else1 .if1 .left in
-    let ends = boolean-first _ _ (s .args .count) _ (after-type-of .type-of .ensures) _ (c .before .t2 .given .1) in
-    (omega arith, (h .0, rest-standing _ _ _ _ _ (h .3) (h .1) _ ends, h .2, omega arith, omega (arith, h .4)))
-
-type-all-as-boolean-requires : (t : ℕ) → type-all-lts.Need-as-boolean-requires (type-all-uses t) (type-all-at t) type-all.Post
-type-all-as-boolean-requires t c κs = search needs
-
-type-all-enum-told : (t : ℕ) → type-all-lts.Need-enum-told (type-all-uses t) (type-all-at t) type-all.Post
-type-all-enum-told t c = search needs
-
-type-all-returns-2 : (t : ℕ) → type-all-lts.Need-returns-2 (type-all-uses t) (type-all-at t) type-all.Post
-type-all-returns-2 t c =
-    let after-t = c .before .before .before in
-    let else1 = after-t .before .before in
-    let after-type-of = else1 .before in
-    let first = after-type-of .type-of .ensures in
-    λ es q h m.
-    c .as-integer .ensures ∙ types-integer _ _ _ _ first (else1 .if1 .left) _ (after-t .t .given .1) _ (c .before .type-all .ensures) es q h m
-
-type-all-returns-3 : (t : ℕ) → type-all-lts.Need-returns-3 (type-all-uses t) (type-all-at t) type-all.Post
-type-all-returns-3 t c =
-    let after-t2 = c .before .before .before in
-    let else1 = after-t2 .before .before in
-    let after-type-of = else1 .before in
-    let first = after-type-of .type-of .ensures in
-    λ es q h m.
-    c .as-boolean .ensures ∙ types-boolean _ _ _ _ first (else1 .if1 .left) _ (after-t2 .t2 .given .1) _ (c .before .type-all2 .ensures) es q h m
-
-type-all-returns-4 : (t : ℕ) → type-all-lts.Need-returns-4 (type-all-uses t) (type-all-at t) type-all.Post
-type-all-returns-4 t c =
-    let after-type-of = c .before .before .before in
-    types-none _ _ _ _ (after-type-of .type-of .ensures) (c .before .before .if1 .left) (c .enum-told .given .1)
+    let after-loop = c .before in
+    let inv = after-loop .before .loop .inv in
+    λ es q h m. c .handed .ensures ∙ inv .1 _ (types-end _ _ _ (after-loop .loop-test .left)) es q h m
 
 type-if-type-of-requires : (t : ℕ) → type-if-lts.Need-type-of-requires (type-if-uses t) (type-if-at t) type-if.Post
 type-if-type-of-requires t c κs =
@@ -193,7 +242,7 @@ type-if-type-all-requires t c κs =
     let s = after-type-of .before .before in
     let is = s .pre .0 in
     let h = s .pre .1 in
-    let ends = boolean-first _ _ 3 _ (after-type-of .type-of .ensures) _ (c .before .t .given .1) in
+    let ends = boolean-first _ _ _ (after-type-of .type-of .ensures) _ (c .before .t .given .1) in
     (omega arith, (h .0, rest-standing _ _ _ _ _ (omega arith) (h .1) _ ends, h .2, omega arith, omega arith))
 
 type-if-enum-told-2 : (t : ℕ) → type-if-lts.Need-enum-told-2 (type-if-uses t) (type-if-at t) type-if.Post
@@ -337,23 +386,33 @@ type-of-returns-5 t c =
     type-other _ _ _ long e q h (omega (arith, else3 .if3 .left)) (λ x. else4 .if4 .left (is ∙ x)) _ (c .before .before .children .ensures) _
     (c .before .type-all .ensures) _ (c .node-type .ensures)
 
-pub +type-all+type-if+type-of-spec : {M : Type 1} → statement M
-+type-all+type-if+type-of-spec = close μ-type-all μ-type-if μ-type-of (λ t. type-all-lts.spec (type-all-uses t) (type-all-at t)
+pub +next-type+type-all+type-if+type-of-spec : {M : Type 1} → statement M
++next-type+type-all+type-if+type-of-spec = close μ-next-type μ-type-all μ-type-if μ-type-of (λ t. next-type-lts.spec (next-type-uses t) (next-type-at t)
+    next-type.Post
+    (next-type-enum-known-t t)
+    (next-type-type-of-requires t)
+    (next-type-as-integer-requires t)
+    (next-type-enum-known-t-2 t)
+    (next-type-type-of-requires-2 t)
+    (next-type-as-boolean-requires t)
+    (next-type-enum-told t)
+    (next-type-returns t)
+    (next-type-returns-2 t)
+    (next-type-returns-3 t))
+    (λ t. type-all-lts.spec
+    (type-all-uses t) (type-all-at t)
     type-all.Post
+    type-all-Inv-loop
+    type-all-μ-loop
     (type-all-type-of-requires t)
-    (type-all-returns t)
-    (type-all-enum-known-t t)
-    (type-all-sub-type-all t)
-    (type-all-type-all-requires t)
-    (type-all-as-integer-requires t)
-    (type-all-enum-known-t-2 t)
-    (type-all-sub-type-all-2 t)
-    (type-all-type-all-requires-2 t)
-    (type-all-as-boolean-requires t)
-    (type-all-enum-told t)
-    (type-all-returns-2 t)
-    (type-all-returns-3 t)
-    (type-all-returns-4 t))
+    (type-all-sub-more t)
+    (type-all-loop-holds t)
+    (type-all-next-type-requires t)
+    (type-all-sub-more-2 t)
+    (type-all-loop-less t)
+    (type-all-loop-again t)
+    (type-all-handed-requires t)
+    (type-all-returns t))
     (λ t. type-if-lts.spec
     (type-if-uses t) (type-if-at t)
     type-if.Post
