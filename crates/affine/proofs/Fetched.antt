@@ -13,10 +13,8 @@ use Rattle.alpha.specs.Sheet as Sheet
 use Rattle.alpha.specs.Read.{got, dependence}
 use Rattle.affine.specs.declared.Row.{Row}
 use Rattle.affine.specs.declared.Map.{Map}
-use Rattle.alpha.specs.Affine.{image}
-use Rattle.affine.specs.Value.{at, line, pointOf, rowOf, mapOf, Padded, NeatRow, Neat}
-use Rattle.affine.specs.Size.{Fit}
-use Rattle.affine.specs.Reading.{rowFields, rowsFields, mapFields, RowAmong, MapRead, MapThere, ImageAt}
+use Rattle.affine.specs.Value.{at, line, rowOf, mapOf, NeatRow, Neat}
+use Rattle.affine.specs.Reading.{rowFields, rowsFields, mapFields, RowAmong, MapRead, MapThere}
 use Rattle.affine.proofs.Several.{lt-or-le, several-same, below-four, past-four}
 use Rattle.affine.proofs.Meaning.{padded-more, row-same, map-same, past-line}
 use Rattle.affine.proofs.Reader.{MapGot, dependence-got}
@@ -113,12 +111,3 @@ module _ (bs : List ℕ) (p n k : ℕ) (wide : n ≡ natAbs (field bs p)) (high 
   -- and the map of these is its map
   pub rows-map : (m : Map) → RowsMap bs p n k m → MapRead bs p m
   rows-map m e = map-is bs p m (e .1) n k (e .0) (e .3) (e .2) wide high
-
-  module _ (z : List Int) (m : Map) (e : RowsMap bs p n k m) where
-    -- which can be applied where each map read there can be
-    pub rows-fit : ((f : Map) → MapRead bs p f → Fit f z) → Neat m × Fit m z
-    rows-fit fit = (e .1, fit m (rows-map m e))
-
-    -- and gives the image
-    pub rows-image : (y : List Int) → (pointOf (m .height) y ≡ image (mapOf m .rows) (pointOf (m .width) z)) × Padded (m .height) y → ImageAt bs p z y
-    rows-image y g = record { map = m; read = rows-map m e; is = g .0; rest = g .1 }

@@ -423,22 +423,8 @@ pub fn map_read(b: &[u8], p: usize) -> Map
     rows_read(b, p + 16, k, n)
 }
 
-// The image of the point z by the map of the dependence whose fields stand at p. Two rows are a case of their own: there the rows past
-// them are known to be zeros before any is read.
-fn image_wide(b: &[u8], p: usize, z: [Int; 4]) -> [Int; 4]
-    requires { ⌜ MapThere (now b) p × ((m : Map) → MapRead (now b) p m → Fit m z) ⌝ }
-    ensures { λ y. ⌜ ImageAt (now (b .entry)) p z y ⌝ }
-{
-    let n = integer::to_usize(integer::number_at(b, p));
-    let k = integer::to_usize(integer::number_at(b, p + 8));
-    if k == 2 {
-        return apply(rows_read(b, p + 16, 2, n), z);
-    }
-    apply(rows_read(b, p + 16, k, n), z)
-}
-
-// The same, with the shapes that are common told here: no row, which is a constant's, and one row of one or two columns. It is short, so
-// that the compiler makes it part of its callers, where the image then needs no memory.
+// The image of the point z by the map of the dependence whose fields stand at p, a case for each shape that is common: there the rows and
+// columns past it are known to be zeros before any is read.
 pub fn image_at(b: &[u8], p: usize, z: [Int; 4]) -> [Int; 4]
     requires { ⌜ MapThere (now b) p × ((m : Map) → MapRead (now b) p m → Fit m z) ⌝ }
     ensures { λ y. ⌜ ImageAt (now (b .entry)) p z y ⌝ }
@@ -448,14 +434,17 @@ pub fn image_at(b: &[u8], p: usize, z: [Int; 4]) -> [Int; 4]
     if k < 1 {
         return apply(rows_read(b, p + 16, 0, n), z);
     }
-    if 1 < k {
-        return image_wide(b, p, z);
+    if k < 2 {
+        if n == 1 {
+            return apply(rows_read(b, p + 16, 1, 1), z);
+        }
+        if n == 2 {
+            return apply(rows_read(b, p + 16, 1, 2), z);
+        }
+        return apply(rows_read(b, p + 16, 1, n), z);
     }
-    if n == 1 {
-        return apply(rows_read(b, p + 16, 1, 1), z);
+    if k < 3 {
+        return apply(rows_read(b, p + 16, 2, n), z);
     }
-    if n == 2 {
-        return apply(rows_read(b, p + 16, 1, 2), z);
-    }
-    image_wide(b, p, z)
+    apply(rows_read(b, p + 16, k, n), z)
 }

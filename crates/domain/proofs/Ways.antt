@@ -1,9 +1,10 @@
 -- The ways through the walk that says how a tree stands: for each, what the code answers from what it has found. Assumes nothing.
 use mathlib.Core.Path.{_≡_, refl, sym, ap, _∙_, subst}
-use Prim.Native.Nat.{ℕ, zero, suc, _+_, _-_, _≤_, _<_}
+use Prim.Native.Nat.{ℕ, zero, suc, _+_, _*_, _-_, _≤_, _<_}
 use native.Mathlib.Omega.{arith}
 use mathlib.Core.Bool.{Bool, true, false, _&&_}
 use mathlib.Core.List.{List}
+use mathlib.Core.Logic.{⊎-elim}
 use lib.ListN.{length}
 use lib.IntN.{natAbs}
 use lib.Dec.{eqb}
@@ -19,23 +20,24 @@ use Rattle.alpha.specs.Shape.{fits, allFit}
 use Rattle.alpha.specs.Holds.{holds, clashes}
 use Rattle.laws.specs.At.{codeNumber, lengthOf, nodeLen, At}
 use Rattle.laws.specs.Children.{childrenOf, arity}
-use Rattle.tree.proofs.Noding.{arity-one-is}
+use Rattle.tree.proofs.Noding.{arity-one-is, second-there}
 use Rattle.laws.specs.Sheets.{headsOf, varsOf, sheetOf}
 use Rattle.laws.proofs.Tests.{&&-left, &&-right}
 use Rattle.laws.proofs.Readers.{counted-is}
 use Rattle.laws.proofs.Nodes.{node-next}
-use Rattle.laws.proofs.Shapes.{DepAt, RestrAt, at-var, at-dep, at-restr, allAt-none, MoreAt}
+use Rattle.laws.proofs.Shapes.{DepAt, RestrAt, at-var, at-un, at-dep, at-restr, allAt-none, MoreAt}
 use Rattle.affine.specs.declared.Map.{Map}
 use Rattle.affine.specs.Value.{pointOf, mapOf}
 use Rattle.affine.specs.Reading.{MapRead}
 use Rattle.affine.proofs.Meaning.{height-length, width-cols}
+use Rattle.affine.proofs.Several.{lt-or-le}
 use Rattle.tree.specs.Standing.{Standing as Stands}
 use Rattle.tree.specs.Ends.{EndsAt}
-use Rattle.tree.proofs.Standings.{children-at, children-counted, one-more, standing-children, first-standing}
+use Rattle.tree.proofs.Standings.{children-at, children-counted, one-more, standing-noded, standing-children, first-standing}
 use Rattle.domain.specs.declared.Standing.{Standing}
 use Rattle.domain.specs.declared.Standing.the-variants.{Not, Holds}
 use Rattle.domain.specs.declared.Stood.{Stood}
-use Rattle.domain.specs.Standing.{standing, joined, alone, together, StandsAt, StandTogether, Starts, Passed}
+use Rattle.domain.specs.Standing.{standing, joined, alone, together, StandsAt, StandTogether, Starts, UnaryAt, Unaries}
 use Rattle.domain.specs.Walk.{Walk}
 use Rattle.domain.specs.Constraints.{restrictionMet}
 use Rattle.domain.proofs.Standings.{joined-alone, joined-assoc, alone-joined, operands-stand, branches-stand, restriction-stands}
@@ -267,37 +269,62 @@ module _ (bs : List ℕ) (p : ℕ) (code : natAbs (field bs p) ≡ 3) where
       let start = node-starts bs p z Holds 3 (sym code) (omega arith) (omega arith) refl in
       children-way bs p 16 z unary-long 1 3 unary-one (sym code) (omega arith) Holds r start one
 
-  pub operand-passed : Passed bs p (p + 16)
-  operand-passed = record {
-    walk = λ left z w. walk-first bs (p + 16) (left - 1) 1 z (omega arith)
-        (walk-children bs p left z w 16 1 unary-long unary-one (λ e. absurd (omega arith)));
-    way = unary-way;
-  }
+  unary-walk : (left : ℕ) (z : List Int) → Walk bs p left z → Walk bs (p + 16) (left - 1) z
+  unary-walk left z w =
+      walk-first bs (p + 16) (left - 1) 1 z (omega arith) (walk-children bs p left z w 16 1 unary-long unary-one (λ e. absurd (omega arith)))
+
+  unary-at : (left : ℕ) → Stands (varsOf bs) bs p left → UnaryAt bs p
+  unary-at left h =
+      let here = code-field bs p (h .tree) (h .end) 3 (h .at) code in
+      record {
+        code = code;
+        op = at-un (varsOf bs) bs (h .tree) p (h .end) (h .at) here .chosen .high;
+        there = second-there (varsOf bs) bs p (standing-noded (varsOf bs) bs p left h) (λ e. absurd (omega arith));
+      }
+
+  pub one-unary : (left : ℕ) → Stands (varsOf bs) bs p left → Unaries bs p 1
+  one-unary left h = record { walk = unary-walk; way = unary-way; each = first }
+    where
+      first : (i : ℕ) → i < 1 → UnaryAt bs (p + 16 * i)
+      first i l = let e : p + 16 * i ≡ p = omega arith in rw e (unary-at left h)
 
   pub operand-stands : (left : ℕ) → Stands (varsOf bs) bs p left → Stands (varsOf bs) bs (p + 16) left
   operand-stands left h =
       let a = first-standing (varsOf bs) bs (p + 16) (left - 1) 1 (omega arith) (standing-children (varsOf bs) bs p left h 16 1 unary-long unary-one) in
       record { tree = a .tree; end = a .end; at = a .at; few = omega (arith, a .few) }
 
--- one more below
-pub passed-on : (bs : List ℕ) (p r : ℕ) → Passed bs p r → natAbs (field bs r) ≡ 3 → Passed bs p (r + 16)
-passed-on bs p r h code = record {
-  walk = λ left z w. fewer left z (operand-passed bs r code .walk (left - 1) z (h .walk left z w));
-  way = λ z t k. h .way z t (operand-passed bs r code .way z t k);
-}
-  where
-    fewer : (left : ℕ) (z : List Int) → Walk bs (r + 16) (left - 1 - 1) z → Walk bs (r + 16) (left - 1) z
-    fewer left z w = record {
-      tree = w .tree;
-      end = w .end;
-      dims = w .dims;
-      bound = w .bound;
-      at = w .at;
-      few = omega (arith, w .few);
-      fitting = w .fitting;
-      reaches = w .reaches;
-      point = w .point;
-    }
+-- one more below k of them
+module _ (bs : List ℕ) (p k : ℕ) (h : Unaries bs p k) (code : natAbs (field bs (p + 16 * k)) ≡ 3) (most : ℕ)
+    (stands : Stands (varsOf bs) bs (p + 16 * k) most) where
+  further : p + 16 * k + 16 ≡ p + 16 * (k + 1)
+  further = omega arith
+
+  pub unaries-on : Unaries bs p (k + 1)
+  unaries-on = record {
+    walk = λ left z w. fewer left z (unary-walk bs (p + 16 * k) code (left - 1) z (h .walk left z w));
+    way = λ z t x. h .way z t (unary-way bs (p + 16 * k) code z t (rw further x));
+    each = each;
+  }
+    where
+      fewer : (left : ℕ) (z : List Int) → Walk bs (p + 16 * k + 16) (left - 1 - 1) z → Walk bs (p + 16 * (k + 1)) (left - 1) z
+      fewer left z w = record {
+        tree = w .tree;
+        end = w .end;
+        dims = w .dims;
+        bound = w .bound;
+        at = rw further at (w .at);
+        few = omega (arith, w .few);
+        fitting = w .fitting;
+        reaches = w .reaches;
+        point = w .point;
+      }
+
+      each : (i : ℕ) → i < k + 1 → UnaryAt bs (p + 16 * i)
+      each i l =
+          ⊎-elim (λ low. h .each i low) (λ high. let e : i ≡ k = omega arith in rw e (unary-at bs (p + 16 * k) code most stands)) (lt-or-le i k)
+
+  pub next-stands : Stands (varsOf bs) bs (p + 16 * (k + 1)) most
+  next-stands = rw further at (operand-stands bs (p + 16 * k) code most stands)
 
 -- a tree that is walked, as one of at most 2,048 nodes
 pub walk-most : (bs : List ℕ) (p left : ℕ) (z : List Int) → Walk bs p left z → left ≤ 2048 → Stands (varsOf bs) bs p 2048

@@ -3,8 +3,9 @@
 use mathlib.Core.Bool.{Bool, true, false}
 use mathlib.Core.List.{List}
 use mathlib.Core.Path.{_≡_}
-use Prim.Native.Nat.{ℕ, _-_}
+use Prim.Native.Nat.{ℕ, _+_, _*_, _-_, _≤_, _<_}
 use lib.Dec.{eqb}
+use lib.ListN.{length}
 use lib.IntN.{natAbs}
 use Rattle.alpha.specs.Field.{field}
 use Rattle.alpha.specs.Pick.{ifb}
@@ -84,10 +85,18 @@ Starts bs p z own =
     joined (eqb (natAbs (field bs p)) 6) own (together (eqb (natAbs (field bs p)) 6) (childrenOf e) (sheetOf bs) (pointOf n z))
     ≡ standing e (sheetOf bs) (pointOf n z)
 
--- the tree at r is below the one at p: it may be walked where that may, and stands as that does at every point
-pub record Passed (bs : List ℕ) (p r : ℕ) : Type 0 where
-  pub walk : (left : ℕ) (z : List Int) → Walk bs p left z → Walk bs r (left - 1) z
-  pub way : (z : List Int) (t : Stood) → StandsAt bs r z t → StandsAt bs p z t
+-- a unary operator stands at p
+pub record UnaryAt (bs : List ℕ) (p : ℕ) : Type 0 where
+  pub code : natAbs (field bs p) ≡ 3
+  pub op : natAbs (field bs (p + 8)) ≤ 1
+  pub there : p + 16 ≤ length bs
+
+-- k of them stand from p on, one below another: the tree below them may be walked where the first may, and stands as that does at every
+-- point
+pub record Unaries (bs : List ℕ) (p k : ℕ) : Type 0 where
+  pub walk : (left : ℕ) (z : List Int) → Walk bs p left z → Walk bs (p + 16 * k) (left - 1) z
+  pub way : (z : List Int) (t : Stood) → StandsAt bs (p + 16 * k) z t → StandsAt bs p z t
+  pub each : (i : ℕ) → i < k → UnaryAt bs (p + 16 * i)
 
 -- r says whether the restriction or dependence at p lets its child's standing through at z: a restriction where its constraints hold
 pub record Passes (bs : List ℕ) (p : ℕ) (z : List Int) (r : Bool) : Type 0 where

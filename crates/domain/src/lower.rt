@@ -1,5 +1,5 @@
-// From a restriction or a dependence down to its child: whether it lets through what the child says, and the point at which the child
-// stands. Assumes nothing.
+// From a node with one child down: whether a restriction or a dependence lets through what its child says, the point at which the child
+// stands, and how many unary operators stand one below another. Assumes nothing.
 use super::constraint::restriction_meets;
 use alpha::Int;
 use tree::node::natural;
@@ -11,9 +11,11 @@ ghost use Rattle.alpha.specs.Field.{field};
 ghost use Rattle.affine.specs.declared.Map.{Map};
 ghost use Rattle.affine.specs.Size.{Fit};
 ghost use Rattle.affine.specs.Reading.{MapThere, MapRead};
+ghost use Rattle.laws.specs.Sheets.{varsOf};
+ghost use Rattle.tree.specs.Standing.{Standing};
 ghost use Rattle.domain.specs.Walk.{Lowered};
 ghost use Rattle.domain.specs.Constraints.{RestrictionTestable};
-ghost use Rattle.domain.specs.Standing.{Passes};
+ghost use Rattle.domain.specs.Standing.{Passes, Unaries};
 
 // Whether the node at `at` lets its child's standing through at z: a restriction where it holds, and a dependence always.
 pub fn passes(s: &[u8], at: usize, z: [Int; 4]) -> bool
@@ -35,4 +37,16 @@ pub fn lowered(s: &[u8], at: usize, z: [Int; 4]) -> [Int; 4]
         return affine::image_at(s, at + 8, z);
     }
     z
+}
+
+// How many unary operators stand one below another from the one at `at` on: 16 bytes each.
+pub fn unaries(s: &[u8], at: usize) -> usize
+    requires { ⌜ Standing (varsOf (now s)) (now s) at 2048 × (natAbs (field (now s) at) ≡ 3) ⌝ }
+    ensures { λ k. ⌜ Unaries (now (s .entry)) at k ⌝ }
+{
+    let mut k = 1;
+    while natural(s, at + 16 * k) == 3 {
+        k += 1;
+    }
+    k
 }

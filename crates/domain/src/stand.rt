@@ -5,6 +5,7 @@ use super::constraint::restriction_meets;
 use super::join::alone;
 use super::join::joined;
 use super::leaf::tip_stands;
+use super::lower::unaries;
 use alpha::Int;
 use tree::node::children;
 use tree::node::natural;
@@ -18,7 +19,7 @@ ghost use Rattle.tree.specs.Formed.{BodiesPlaced};
 ghost use Rattle.tree.specs.Standing as Trees;
 ghost use Rattle.domain.specs.Inside.{Inside};
 ghost use Rattle.domain.specs.Walk.{Walk, WalkAll};
-ghost use Rattle.domain.specs.Standing.{StandsAt, StandTogether, Starts, Passed};
+ghost use Rattle.domain.specs.Standing.{StandsAt, StandTogether, Starts};
 
 // A result handed on by its parts, which the compiler keeps in registers.
 fn handed(r: Stood) -> Stood
@@ -41,18 +42,6 @@ fn own_stands(s: &[u8], tab: &[usize; 102], inside: &[u8; 4096], at: usize, z: [
     alone(code == 6)
 }
 
-// The first tree below the unary operator at `at` that is none itself: operators are passed one by one, which spares a call for each.
-fn operand(s: &[u8], at: usize) -> usize
-    requires { ⌜ Trees.Standing (varsOf (now s)) (now s) at 2048 × (natAbs (field (now s) at) ≡ 3) ⌝ }
-    ensures { λ r. ⌜ Passed (now (s .entry)) at r ⌝ }
-{
-    let mut p = at + 16;
-    while natural(s, p) == 3 {
-        p += 16;
-    }
-    p
-}
-
 // How the tree at `at`, of at most `left` nodes, stands at z. A restriction that does not hold there is passed over.
 pub fn stand(
     s: &[u8],
@@ -68,7 +57,8 @@ pub fn stand(
     let code = natural(s, at);
     if code < 7 {
         if code == 3 {
-            return handed(child(s, tab, inside, operand(s, at), left - 1, z));
+            let below = at + 16 * unaries(s, at);
+            return handed(child(s, tab, inside, below, left - 1, z));
         }
         let first = at + node_len(s, at);
         let branches = code == 6;

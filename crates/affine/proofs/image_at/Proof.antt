@@ -1,12 +1,19 @@
--- `image_at` meets its contract: the shapes told apart are read and applied each as its own. Assumes nothing.
+-- `image_at` meets its contract: in each case the rows that the fields say are read, and the map of them is applied. Assumes nothing.
 use borrow.Author.Needs.{needs}
 use native.Mathlib.Omega.{arith}
 use mathlib.Core.Path.{_≡_, refl, ap, _∙_}
-use Prim.Native.Nat.{ℕ, _+_}
+use Prim.Native.Nat.{ℕ, _+_, _*_, _≤_}
 use mathlib.Core.List.{List}
+use lib.ListN.{length}
 use lib.IntN.{natAbs}
+use Rattle.alpha.specs.declared.Int.{Int}
 use Rattle.alpha.specs.Field.{field}
-use Rattle.affine.proofs.Fetched.{rows-there, rows-fit, rows-image}
+use Rattle.alpha.specs.Affine.{image}
+use Rattle.affine.specs.declared.Map.{Map}
+use Rattle.affine.specs.Value.{pointOf, mapOf, Padded, Neat}
+use Rattle.affine.specs.Size.{Fit}
+use Rattle.affine.specs.Reading.{MapRead, ImageAt}
+use Rattle.affine.proofs.Fetched.{RowsMap, rows-there, rows-map}
 use Rattle.affine.proofs.image_at.Statement.{statement}
 use Rattle.affine.proofs.image_at.Tie as tie
 
@@ -27,24 +34,33 @@ to-usize-requires-2 c κs = search needs
 
 -- ---- where the columns and the number of rows are read
 
-module _ (c : tie.After-to-usize2) where
-  abbrev start : tie.Start
-  start = c .before .before .before .before .before
+abbrev start : tie.After-to-usize2 → tie.Start
+start c = c .before .before .before .before .before
 
-  abbrev bs : List ℕ
-  bs = start .args .b .now
+abbrev cols : tie.After-to-usize2 → ℕ
+cols c = c .before .before .to-usize .result
 
-  abbrev p : ℕ
-  p = start .args .p
+wide : (c : tie.After-to-usize2) → cols c ≡ natAbs (field (start c .args .b .now) (start c .args .p))
+wide c = let first = c .before .before in first .to-usize .ensures ∙ ap natAbs (first .before .number-at .ensures)
 
-  abbrev cols : ℕ
-  cols = c .before .before .to-usize .result
+-- n is the number of columns, and k of rows
+module _ (c : tie.After-to-usize2) (n k : ℕ) (w : n ≡ cols c) (e : k ≡ c .to-usize2 .result) where
+  high : k ≡ natAbs (field (start c .args .b .now) (start c .args .p + 8))
+  high = e ∙ c .to-usize2 .ensures ∙ ap natAbs (c .before .number-at2 .ensures)
 
-  wide : (n : ℕ) → n ≡ cols → n ≡ natAbs (field bs p)
-  wide n e = let first = c .before .before in e ∙ first .to-usize .ensures ∙ ap natAbs (first .before .number-at .ensures)
+  there : (n ≤ 4) × (k ≤ 4) × (start c .args .p + 16 + k * (8 * n + 8) ≤ length (start c .args .b .now))
+  there = rows-there _ _ n k (w ∙ wide c) high (start c .pre .0)
 
-  high : (k : ℕ) → k ≡ c .to-usize2 .result → k ≡ natAbs (field bs (p + 8))
-  high k e = e ∙ c .to-usize2 .ensures ∙ ap natAbs (c .before .number-at2 .ensures)
+  read : (m : Map) → RowsMap (start c .args .b .now) (start c .args .p) n k m → MapRead (start c .args .b .now) (start c .args .p) m
+  read m h = rows-map _ _ n k (w ∙ wide c) high m h
+
+  answer : (m : Map) → RowsMap (start c .args .b .now) (start c .args .p) n k m → (y : List Int) →
+      (pointOf (m .height) y ≡ image (mapOf m .rows) (pointOf (m .width) (start c .args .z))) × Padded (m .height) y →
+      ImageAt (start c .args .b .now) (start c .args .p) (start c .args .z) y
+  answer m h y e = record { map = m; read = read m h; is = e .0; rest = e .1 }
+
+  fit : (m : Map) → RowsMap (start c .args .b .now) (start c .args .p) n k m → Neat m × Fit m (start c .args .z)
+  fit m h = (h .1, start c .pre .1 m (read m h))
 
 -- ---- the cases
 
@@ -53,66 +69,108 @@ add-rows-read c = search needs
 
 rows-read-requires : tie.Need-rows-read-requires
 rows-read-requires c κs =
-    let there = c .before in
-    rows-there _ _ _ 0 (wide there _ refl) (high there _ (omega arith)) (start there .pre .0)
+    let after-to-usize2 = c .before in
+    there after-to-usize2 _ 0 refl (omega arith)
 
 apply-requires : tie.Need-apply-requires
 apply-requires c κs =
-    let there = c .before .before in
-    rows-fit _ _ _ 0 (wide there _ refl) (high there _ (omega arith)) (start there .args .z) _ (c .rows-read .ensures) (start there .pre .1)
+    let after-to-usize2 = c .before .before in
+    fit after-to-usize2 _ 0 refl (omega arith) _ (c .rows-read .ensures)
 
 returns : tie.Need-returns
 returns c =
-    let there = c .before .before .before in
-    rows-image _ _ _ 0 (wide there _ refl) (high there _ (omega arith)) _ _ (c .before .rows-read .ensures) _ (c .apply .ensures)
-
-image-wide-requires : tie.Need-image-wide-requires
-image-wide-requires c κs = start (c .before .before) .pre
-
-returns-2 : tie.Need-returns-2
-returns-2 c = c .image-wide .ensures
+    let after-to-usize2 = c .before .before .before in
+    answer after-to-usize2 _ 0 refl (omega arith) _ (c .before .rows-read .ensures) _ (c .apply .ensures)
 
 add-rows-read-2 : tie.Need-add-rows-read-2
 add-rows-read-2 c = search needs
 
 rows-read-requires-2 : tie.Need-rows-read-requires-2
 rows-read-requires-2 c κs =
-    let there = c .before .before .before in
-    rows-there _ _ 1 1 (wide there _ (omega arith)) (high there _ (omega arith)) (start there .pre .0)
+    let after-to-usize2 = c .before .before .before in
+    there after-to-usize2 1 1 (omega arith) (omega arith)
 
 apply-requires-2 : tie.Need-apply-requires-2
 apply-requires-2 c κs =
-    let there = c .before .before .before .before in
-    rows-fit _ _ 1 1 (wide there _ (omega arith)) (high there _ (omega arith)) (start there .args .z) _ (c .rows-read2 .ensures) (start there .pre .1)
+    let after-to-usize2 = c .before .before .before .before in
+    fit after-to-usize2 1 1 (omega arith) (omega arith) _ (c .rows-read2 .ensures)
 
-returns-3 : tie.Need-returns-3
-returns-3 c =
-    let there = c .before .before .before .before .before in
-    rows-image _ _ 1 1 (wide there _ (omega arith)) (high there _ (omega arith)) _ _ (c .before .rows-read2 .ensures) _ (c .apply2 .ensures)
+returns-2 : tie.Need-returns-2
+returns-2 c =
+    let after-to-usize2 = c .before .before .before .before .before in
+    answer after-to-usize2 1 1 (omega arith) (omega arith) _ (c .before .rows-read2 .ensures) _ (c .apply2 .ensures)
 
 add-rows-read-3 : tie.Need-add-rows-read-3
 add-rows-read-3 c = search needs
 
 rows-read-requires-3 : tie.Need-rows-read-requires-3
 rows-read-requires-3 c κs =
-    let there = c .before .before .before .before in
-    rows-there _ _ 2 1 (wide there _ (omega arith)) (high there _ (omega arith)) (start there .pre .0)
+    let after-to-usize2 = c .before .before .before .before in
+    there after-to-usize2 2 1 (omega arith) (omega arith)
 
 apply-requires-3 : tie.Need-apply-requires-3
 apply-requires-3 c κs =
-    let there = c .before .before .before .before .before in
-    rows-fit _ _ 2 1 (wide there _ (omega arith)) (high there _ (omega arith)) (start there .args .z) _ (c .rows-read3 .ensures) (start there .pre .1)
+    let after-to-usize2 = c .before .before .before .before .before in
+    fit after-to-usize2 2 1 (omega arith) (omega arith) _ (c .rows-read3 .ensures)
+
+returns-3 : tie.Need-returns-3
+returns-3 c =
+    let after-to-usize2 = c .before .before .before .before .before .before in
+    answer after-to-usize2 2 1 (omega arith) (omega arith) _ (c .before .rows-read3 .ensures) _ (c .apply3 .ensures)
+
+add-rows-read-4 : tie.Need-add-rows-read-4
+add-rows-read-4 c = search needs
+
+rows-read-requires-4 : tie.Need-rows-read-requires-4
+rows-read-requires-4 c κs =
+    let after-to-usize2 = c .before .before .before .before in
+    there after-to-usize2 _ 1 refl (omega arith)
+
+apply-requires-4 : tie.Need-apply-requires-4
+apply-requires-4 c κs =
+    let after-to-usize2 = c .before .before .before .before .before in
+    fit after-to-usize2 _ 1 refl (omega arith) _ (c .rows-read4 .ensures)
 
 returns-4 : tie.Need-returns-4
 returns-4 c =
-    let there = c .before .before .before .before .before .before in
-    rows-image _ _ 2 1 (wide there _ (omega arith)) (high there _ (omega arith)) _ _ (c .before .rows-read3 .ensures) _ (c .apply3 .ensures)
+    let after-to-usize2 = c .before .before .before .before .before .before in
+    answer after-to-usize2 _ 1 refl (omega arith) _ (c .before .rows-read4 .ensures) _ (c .apply4 .ensures)
 
-image-wide-requires-2 : tie.Need-image-wide-requires-2
-image-wide-requires-2 c κs = start (c .before .before .before .before) .pre
+add-rows-read-5 : tie.Need-add-rows-read-5
+add-rows-read-5 c = search needs
+
+rows-read-requires-5 : tie.Need-rows-read-requires-5
+rows-read-requires-5 c κs =
+    let after-to-usize2 = c .before .before .before in
+    there after-to-usize2 _ 2 refl (omega arith)
+
+apply-requires-5 : tie.Need-apply-requires-5
+apply-requires-5 c κs =
+    let after-to-usize2 = c .before .before .before .before in
+    fit after-to-usize2 _ 2 refl (omega arith) _ (c .rows-read5 .ensures)
 
 returns-5 : tie.Need-returns-5
-returns-5 c = c .image-wide2 .ensures
+returns-5 c =
+    let after-to-usize2 = c .before .before .before .before .before in
+    answer after-to-usize2 _ 2 refl (omega arith) _ (c .before .rows-read5 .ensures) _ (c .apply5 .ensures)
+
+add-rows-read-6 : tie.Need-add-rows-read-6
+add-rows-read-6 c = search needs
+
+rows-read-requires-6 : tie.Need-rows-read-requires-6
+rows-read-requires-6 c κs =
+    let after-to-usize2 = c .before .before .before in
+    there after-to-usize2 _ _ refl refl
+
+apply-requires-6 : tie.Need-apply-requires-6
+apply-requires-6 c κs =
+    let after-to-usize2 = c .before .before .before .before in
+    fit after-to-usize2 _ _ refl refl _ (c .rows-read6 .ensures)
+
+returns-6 : tie.Need-returns-6
+returns-6 c =
+    let after-to-usize2 = c .before .before .before .before .before in
+    answer after-to-usize2 _ _ refl refl _ (c .before .rows-read6 .ensures) _ (c .apply6 .ensures)
 
 pub image-at-spec : {M : Type 1} → statement M
 image-at-spec =
@@ -127,15 +185,23 @@ image-at-spec =
     rows-read-requires
     apply-requires
     returns
-    image-wide-requires
-    returns-2
     add-rows-read-2
     rows-read-requires-2
     apply-requires-2
-    returns-3
+    returns-2
     add-rows-read-3
     rows-read-requires-3
     apply-requires-3
+    returns-3
+    add-rows-read-4
+    rows-read-requires-4
+    apply-requires-4
     returns-4
-    image-wide-requires-2
-    returns-5)
+    add-rows-read-5
+    rows-read-requires-5
+    apply-requires-5
+    returns-5
+    add-rows-read-6
+    rows-read-requires-6
+    apply-requires-6
+    returns-6)

@@ -15,8 +15,8 @@ use Rattle.affine.proofs.image_at.Reads as image-at-reads
 use Rattle.domain.proofs.constraint.restriction_meets.Reads as restriction-meets-reads
 use Rattle.domain.proofs.join.joined.Reads as joined-reads
 use Rattle.domain.proofs.leaf.tip_stands.Reads as tip-stands-reads
+use Rattle.domain.proofs.lower.unaries.Reads as unaries-reads
 use Rattle.domain.proofs.stand.handed.Reads as handed-reads
-use Rattle.domain.proofs.stand.operand.Reads as operand-reads
 use Rattle.domain.proofs.stand.own_stands.Reads as own-stands-reads
 use Rattle.tree.proofs.node.children.Reads as children-reads
 use Rattle.tree.proofs.node.natural.Reads as natural-reads
@@ -30,6 +30,7 @@ use mathlib.Core.List.{List}
 use Rattle.alpha.specs.declared.Int.{Int}
 use native.Mathlib.Omega.{arith}
 use borrow.Author.Needs.{needs}
+use lib.ListN.{length}
 use lib.IntN.{natAbs}
 use Rattle.alpha.specs.Field.{field}
 use Rattle.laws.specs.Sheets.{varsOf}
@@ -87,8 +88,8 @@ abbrev stand-uses : ℕ → stand-lts.Claims
 stand-uses t = (
   natural-reads.Asked,
   natural-reads.Learnt,
-  operand-reads.Asked,
-  operand-reads.Learnt,
+  unaries-reads.Asked,
+  unaries-reads.Learnt,
   child-below t,
   child.Post,
   handed-reads.Asked,
@@ -161,11 +162,25 @@ some t c = standing-some _ _ _ _ (walk-standing _ _ _ _ (c .pre .1 .2))
 stand-natural-requires : (t : ℕ) → stand-lts.Need-natural-requires (stand-uses t) (stand-at t) stand.Post
 stand-natural-requires t c κs = code-there _ _ _ (noded t (c .before))
 
-stand-operand-requires : (t : ℕ) → stand-lts.Need-operand-requires (stand-uses t) (stand-at t) stand.Post
-stand-operand-requires t c κs =
+stand-unaries-requires : (t : ℕ) → stand-lts.Need-unaries-requires (stand-uses t) (stand-at t) stand.Post
+stand-unaries-requires t c κs =
     let after-natural = c .before .before in
     let s = after-natural .before .before in
     (walk-most _ _ _ _ (s .pre .1 .2) (s .pre .1 .3), sym (after-natural .natural .ensures) ∙ c .if2 .taken)
+
+-- the tree below the operators is there
+stand-below-there : (t : ℕ) (c : stand-lts.After-unaries (stand-uses t) (stand-at t) stand.Post) →
+    let s = c .before .before .before .before .before in
+    s .args .at + 16 * c .unaries .result + 8 ≤ length (s .args .s .now)
+stand-below-there t c =
+    let s = c .before .before .before .before .before in
+    code-there _ _ _ (standing-noded _ _ _ _ (walk-standing _ _ _ _ (c .unaries .ensures .walk _ _ (s .pre .1 .2))))
+
+stand-mul-below : (t : ℕ) → stand-lts.Need-mul-below (stand-uses t) (stand-at t) stand.Post
+stand-mul-below t c = omega (arith, stand-below-there t c)
+
+stand-add-below : (t : ℕ) → stand-lts.Need-add-below (stand-uses t) (stand-at t) stand.Post
+stand-add-below t c = omega (arith, stand-below-there t c)
 
 stand-sub-child : (t : ℕ) → stand-lts.Need-sub-child (stand-uses t) (stand-at t) stand.Post
 stand-sub-child t c =
@@ -177,16 +192,16 @@ stand-child-requires t c κs =
     let s = c .before .before .before .before .before in
     let left = some t s in
     let is = s .pre .0 in
-    (omega arith, (s .pre .1 .0, s .pre .1 .1, c .operand .ensures .walk _ _ (s .pre .1 .2), omega (arith, s .pre .1 .3)))
+    (omega arith, (s .pre .1 .0, s .pre .1 .1, c .unaries .ensures .walk _ _ (s .pre .1 .2), omega (arith, s .pre .1 .3)))
 
 stand-handed-requires : (t : ℕ) → stand-lts.Need-handed-requires (stand-uses t) (stand-at t) stand.Post
 stand-handed-requires t c κs = search needs
 
 stand-returns : (t : ℕ) → stand-lts.Need-returns (stand-uses t) (stand-at t) stand.Post
 stand-returns t c =
-    let after-operand = c .before .before in
-    let s = after-operand .before .before .before .before .before in
-    let way = after-operand .operand .ensures .way (s .args .z) _ (c .before .child .ensures) in
+    let after-unaries = c .before .before in
+    let s = after-unaries .before .before .before .before .before in
+    let way = after-unaries .unaries .ensures .way (s .args .z) _ (c .before .child .ensures) in
     by-parts (s .args .s .now) (s .args .at) (s .args .z) _ _ (c .handed .ensures) way
 
 stand-node-len-requires : (t : ℕ) → stand-lts.Need-node-len-requires (stand-uses t) (stand-at t) stand.Post
@@ -417,7 +432,9 @@ pub +child+stand+stand-all-spec : {M : Type 1} → statement M
     (λ t. stand-lts.spec (stand-uses t) (stand-at t)
     stand.Post
     (stand-natural-requires t)
-    (stand-operand-requires t)
+    (stand-unaries-requires t)
+    (stand-mul-below t)
+    (stand-add-below t)
     (stand-sub-child t)
     (stand-child-requires t)
     (stand-handed-requires t)
