@@ -12,10 +12,10 @@ use Rattle.alpha.specs.Sheet.{Node}
 use Rattle.alpha.specs.Read.{got, node}
 use Rattle.laws.specs.Children.{arity}
 use Rattle.laws.specs.Sheets.{varsOf, sheetOf}
-use Rattle.laws.proofs.Shapes.{at-un, at-bin}
+use Rattle.laws.proofs.Shapes.{at-bin}
 use Rattle.tree.specs.Standing.{Noded}
 use Rattle.tree.specs.Formed.{Formed}
-use Rattle.tree.proofs.Noding.{length-if, length-other, second-there, arity-one-is, arity-two-is, arity-three-is}
+use Rattle.tree.proofs.Noding.{length-if, length-other, second-there, arity-two-is, arity-three-is}
 use Rattle.tree.proofs.Heading.{prepared-sections}
 use Rattle.tree.proofs.Standings.{standing-noded, standing-some}
 use Rattle.domain.specs.Walk.{Ends, Walk}
@@ -26,7 +26,7 @@ use Rattle.integer.specs.Range.{In32}
 use Rattle.affine.specs.Value.{pointOf}
 use Rattle.evaluate.specs.declared.Work.the-variants.{Value}
 use Rattle.evaluate.specs.declared.Worked.{Worked}
-use Rattle.evaluate.specs.Memo.{Memo}
+use Rattle.evaluate.specs.Memo.{Memo, Small}
 use Rattle.evaluate.specs.Working.{Ready, Evaluated, EvaluatesAt}
 use Rattle.evaluate.proofs.Doing.{ready-kept}
 
@@ -57,9 +57,6 @@ module _ (bs : List ℕ) (p left : ℕ) (z : List Int) (w : Walk bs p left z) wh
     pub there : (code ≡ 5 → ⊥) → p + 16 ≤ length bs
     there ne = second-there (varsOf bs) bs p walk-noded (other 5 ne)
 
-  pub one-few : natAbs (field bs p) ≡ 3 → natAbs (field bs (p + 8)) ≤ 1
-  one-few is = at-un (varsOf bs) bs (w .tree) p (w .end) (w .at) (code-field bs p (w .tree) (w .end) 3 (w .at) is) .chosen .high
-
   pub two-few : natAbs (field bs p) ≡ 4 → natAbs (field bs (p + 8)) ≤ 15
   two-few is = at-bin (varsOf bs) bs (w .tree) p (w .end) (w .at) (code-field bs p (w .tree) (w .end) 4 (w .at) is) .chosen .high
 
@@ -75,12 +72,6 @@ module _ (bs : List ℕ) (p left : ℕ) (z : List Int) (h : Held bs p left z) wh
   operands n low high many =
       held-operands bs p left z h 16 n (length-other (varsOf bs) bs p here (λ e. omega arith) (λ e. omega arith) (λ e. omega arith)) many (omega arith)
       (omega arith)
-
-  pub one-held : natAbs (field bs p) ≡ 3 → Held bs (p + 16) (left - 1) z
-  one-held is = held-first bs (p + 16) (left - 1) 1 z (omega arith) (operands 1 (omega arith) (omega arith) many)
-    where
-      many : (nd : Node) (q : ℕ) → node (varsOf bs) bs p ≡ got nd q → 1 ≡ arity nd
-      many nd q read = arity-one-is (varsOf bs) bs p nd q read (omega (arith, is)) (λ e. omega arith) (λ e. omega arith) (λ e. omega arith)
 
   module _ (is : natAbs (field bs p) ≡ 4) where
     two : HeldAll bs (p + 16) (left - 1) 2 z
@@ -120,9 +111,12 @@ module _ (bs : List ℕ) (p left : ℕ) (z : List Int) (w : Walk bs p left z) (m
   pub ready-after : Ready (sheetOf bs) memo → Ready (sheetOf bs) last
   ready-after M = ready-kept (sheetOf bs) memo last M (worked .done .kept)
 
+  pub operand-small : Small (r .out)
+  operand-small = worked .done .small
+
   module _ (x : Int) (is : r .out ≡ Value x) where
     pub small-value : In32 (x .v)
-    small-value = rw is at (worked .done .small)
+    small-value = rw is at operand-small
 
     pub operand-ends : Ends bs p (r .next)
     operand-ends e q d h f = E e q d h f .ends x is

@@ -1,7 +1,7 @@
 -- The ways through the evaluator of expressions, one for each kind of node: what is worked out of the tree at a place, from what was
 -- worked out of its operands. Assumes nothing.
 use mathlib.Core.Path.{_≡_, refl, sym, ap, _∙_, subst}
-use Prim.Native.Nat.{ℕ, zero, suc, _+_, _-_, _≤_, _<_}
+use Prim.Native.Nat.{ℕ, zero, suc, _+_, _*_, _-_, _≤_, _<_}
 use native.Mathlib.Omega.{arith}
 use mathlib.Core.Bool.{true, _&&_}
 use mathlib.Core.List.{List}
@@ -19,8 +19,7 @@ use Rattle.alpha.specs.Affine.{image}
 use Rattle.alpha.specs.Read.{unaryOf, binaryOf}
 use Rattle.alpha.specs.Shape.{fits}
 use Rattle.alpha.specs.Outcome.{Outcome, value, andThen, unary, binary, choose, isTrue, eval, outcome}
-use Rattle.alpha.specs.Written.{branchCount}
-use Rattle.laws.specs.At.{nodeLen, At, AllAt}
+use Rattle.laws.specs.At.{nodeLen, At}
 use Rattle.laws.specs.Sheets.{headsOf, varsOf, sheetOf}
 use Rattle.laws.proofs.Tests.{&&-left, &&-right}
 use Rattle.laws.proofs.Shapes.{UnAt, BinAt, IteAt, KaseAt, RestrAt, DepAt, at-int, at-boo, at-un, at-bin, at-ite, at-kase, at-restr, at-dep}
@@ -32,14 +31,15 @@ use Rattle.affine.specs.Value.{pointOf, mapOf}
 use Rattle.affine.specs.Reading.{MapRead}
 use Rattle.affine.proofs.Meaning.{height-length, width-cols}
 use Rattle.tree.specs.Ends.{EndsAt}
+use Rattle.domain.specs.Standing.{Unaries}
 use Rattle.domain.specs.Holding.{firstHolding, Taken, Chooses}
 use Rattle.domain.proofs.Walks.{code-field}
 use Rattle.domain.proofs.Choices.{outcomeOf, first-outcome}
 use Rattle.evaluate.specs.declared.Work.{Work}
-use Rattle.evaluate.specs.declared.Work.the-variants.{Value}
+use Rattle.evaluate.specs.declared.Work.the-variants.{Outside, Value, DivZero, Overflow, Loop, Deep}
 use Rattle.evaluate.specs.declared.Worked.{Worked}
-use Rattle.evaluate.specs.Memo.{Thing, Memo}
-use Rattle.evaluate.specs.Working.{workOf, expression, Done, ConstantRead, Evaluated, EvaluatesAt}
+use Rattle.evaluate.specs.Memo.{Thing, Memo, codeOf}
+use Rattle.evaluate.specs.Working.{workOf, expression, Done, ConstantRead, Evaluated, EvaluatesAt, Raised, RaisedAll}
 use Rattle.evaluate.proofs.Doing.{expression-grows, done-same, done-known, done-value, done-first, done-next}
 
 -- ---- what an expression's outcome is, by its operands'
@@ -162,7 +162,7 @@ module _ (bs : List ℕ) (p : ℕ) (z : List Int) where
     fit-one e q n h f = rw (here-one e q h .is) at f
 
     module _ (memo last : Memo) (a : Worked) (A : EvaluatesAt bs (p + 16) z memo last a) where
-      pub one-back : None (a .out) → EvaluatesAt bs p z memo last a
+      one-back : None (a .out) → EvaluatesAt bs p z memo last a
       one-back lacks e q n h f =
           let x = here-one e q h in
           let y = pointOf n z in
@@ -175,7 +175,7 @@ module _ (bs : List ℕ) (p : ℕ) (z : List Int) where
             ends = λ v g. absurd (lacks v g);
           })
 
-      pub one-way : (v : Int) (op : ℕ) (o : Outcomes.Outcome) → a .out ≡ Value v → op ≡ natAbs (field bs (p + 8)) →
+      one-way : (v : Int) (op : ℕ) (o : Outcomes.Outcome) → a .out ≡ Value v → op ≡ natAbs (field bs (p + 8)) →
           Range.Says o (unary (unaryOf op) (v .v)) →
           EvaluatesAt bs p z memo last (record { out = workOf o; next = a .next })
       one-way v op o is number says e q n h f =
@@ -192,6 +192,30 @@ module _ (bs : List ℕ) (p : ℕ) (z : List Int) where
             done = done-same sheet memo last _ _ (workOf o) (λ ins k. one-is sheet ins y k (x .op) (x .child)) d;
             ends = λ w g. E .ends v is;
           })
+
+      -- what the operator makes of its operand's answer
+      pub raised-way : (op : ℕ) → op ≡ natAbs (field bs (p + 8)) → (r : Work) → Raised op (a .out) r →
+          EvaluatesAt bs p z memo last (record { out = r; next = a .next })
+      raised-way op number r h = go (a .out) refl
+        where
+          with-out : (o : Work) → r ≡ o → EvaluatesAt bs p z memo last (record { out = o; next = a .next }) →
+              EvaluatesAt bs p z memo last (record { out = r; next = a .next })
+          with-out o e = subst (λ w. EvaluatesAt bs p z memo last (record { out = w; next = a .next })) (sym e)
+
+          back : (o : Work) → a .out ≡ o → (codeOf o ≡ 1 → ⊥) → EvaluatesAt bs p z memo last (record { out = r; next = a .next })
+          back o e none =
+              let lacks : None (a .out) = λ x is. none (ap codeOf (sym e ∙ is)) in
+              with-out (a .out) (h .other lacks) (one-back lacks)
+
+          go : (o : Work) → a .out ≡ o → EvaluatesAt bs p z memo last (record { out = r; next = a .next })
+          go (Value x) e =
+              let y = h .value x e in
+              with-out (workOf (y .out)) (y .is) (one-way x op (y .out) e number (y .says))
+          go Outside e = back Outside e (λ q. omega arith)
+          go DivZero e = back DivZero e (λ q. omega arith)
+          go Overflow e = back Overflow e (λ q. omega arith)
+          go Loop e = back Loop e (λ q. omega arith)
+          go (Deep d) e = back (Deep d) e (λ q. omega arith)
 
   -- ---- a binary operator
 
@@ -450,3 +474,28 @@ module _ (bs : List ℕ) (p : ℕ) (z : List Int) where
     where
       parts : (x : DepAt e (varsOf bs) bs p q) → eqb (x .by .cols) n && fits (x .child) (headsOf bs) (length (x .by .rows)) ≡ true
       parts x = unfold fits in rw (x .is) at f
+
+-- ---- unary operators one below another
+
+module _ (bs : List ℕ) (p many : ℕ) (U : Unaries bs p many) (o : Work) where
+  -- r is what those from operator k on make of the answer o of the tree below them
+  abbrev pub Up : ℕ → Work → Type 0
+  Up k r =
+      (z : List Int) (memo last : Memo) (next : ℕ) → EvaluatesAt bs (p + 16 * many) z memo last (record { out = o; next = next }) →
+      EvaluatesAt bs (p + 16 * k) z memo last (record { out = r; next = next })
+
+  pub up-on : (k : ℕ) → 0 < k → k ≤ many → (w : Work) → Up k w → (op : ℕ) → op ≡ natAbs (field bs (p + 16 * (k - 1) + 8)) →
+      (r : Work) → Raised op w r → Up (k - 1) r
+  up-on k more few w up op number r h z memo last next E =
+      let here = p + 16 * (k - 1) in
+      let code = U .each (k - 1) (omega arith) .code in
+      let place : p + 16 * k ≡ here + 16 = omega arith in
+      let below = subst (λ q. EvaluatesAt bs q z memo last (record { out = w; next = next })) place (up z memo last next E) in
+      raised-way bs here z code memo last (record { out = w; next = next }) below op number r h
+
+  -- all of them
+  pub up-all : (k : ℕ) → k ≤ 0 → (w : Work) → Up k w → (r : Work) → r ≡ w → RaisedAll bs p many o r
+  up-all k none w up r is z memo last next E =
+      let place : p + 16 * k ≡ p = omega arith in
+      let top = subst (λ q. EvaluatesAt bs q z memo last (record { out = w; next = next })) place (up z memo last next E) in
+      subst (λ x. EvaluatesAt bs p z memo last (record { out = x; next = next })) (sym is) top

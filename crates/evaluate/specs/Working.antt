@@ -1,12 +1,11 @@
 -- Elements and expressions as things that are worked out, and what working one out answers, for every input list: the code holds no
 -- list, since the memo has an entry for each input element from the start. Assumes nothing.
 use mathlib.Core.Path.{_≡_}
-use Prim.Native.Nat.{ℕ, _+_, _≤_, _<_}
+use Prim.Native.Nat.{ℕ, _+_, _*_, _≤_, _<_}
 use mathlib.Core.Bool.{true, false}
 use mathlib.Core.List.{List, [], _∷_}
 use lib.ListN.{length, getD}
-use mathlib.Core.Logic.{_⊎_}
-use lib.IntN.{ℤ, natAbs}
+use lib.IntN.{ℤ}
 use Rattle.alpha.specs.Field.{field}
 use Rattle.alpha.specs.declared.Int.{Int}
 use Rattle.alpha.specs.declared.Outcome as Declared
@@ -14,15 +13,15 @@ use Rattle.alpha.specs.declared.Outcome.the-variants as Outcomes
 use Rattle.alpha.specs.Sheet.{Expr, Sheet, Point}
 use Rattle.alpha.specs.Box.{inBox}
 use Rattle.alpha.specs.Shape.{fits}
-use Rattle.alpha.specs.Read.{dimension}
+use Rattle.alpha.specs.Read.{dimension, unaryOf}
 use Rattle.alpha.specs.Holds.{variable, isInput, inDomain}
 use Rattle.alpha.specs.Check.{Element, elements, total}
-use Rattle.alpha.specs.Outcome.{Outcome, eval, outcome}
+use Rattle.alpha.specs.Outcome.{Outcome, unary, eval, outcome}
 use Rattle.alpha.specs.Ask.{numberOf}
 use Rattle.laws.specs.At.{At}
 use Rattle.laws.specs.Sheets.{headsOf, varsOf, sheetOf}
 use Rattle.affine.specs.Value.{pointOf, Padded}
-use Rattle.affine.specs.Reading.{ImageAt}
+use Rattle.integer.specs.Range.{Says}
 use Rattle.domain.specs.declared.Standing.the-variants.{Holds}
 use Rattle.domain.specs.Standing.{standing}
 use Rattle.evaluate.specs.declared.Work.{Work}
@@ -103,3 +102,23 @@ pub record Evaluated (bs : List ℕ) (e : Expr) (q : ℕ) (z : Point) (memo last
 abbrev pub EvaluatesAt : List ℕ → ℕ → List Int → Memo → Memo → Worked → Type 0
 EvaluatesAt bs p z memo last r =
     (e : Expr) (q n : ℕ) → At e (varsOf bs) bs p q → fits e (headsOf bs) n ≡ true → Evaluated bs e q (pointOf n z) memo last r
+
+-- ---- a unary operator
+
+-- r is what the unary operator of the number op gives for the value x
+pub record Applied (op : ℕ) (x : Int) (r : Work) : Type 0 where
+  pub out : Declared.Outcome
+  pub is : r ≡ workOf out
+  pub says : Says out (unary (unaryOf op) (x .v))
+
+-- r is what it makes of an operand's answer o: where that is no value, the same
+pub record Raised (op : ℕ) (o r : Work) : Type 0 where
+  pub value : (x : Int) → o ≡ Value x → Applied op x r
+  pub other : ((x : Int) → o ≡ Value x → ⊥) → r ≡ o
+  pub small : Small r
+
+-- r is what k unary operators one below another from p on make of the answer o of the tree below them
+abbrev pub RaisedAll : List ℕ → ℕ → ℕ → Work → Work → Type 0
+RaisedAll bs p k o r =
+    (z : List Int) (memo last : Memo) (next : ℕ) → EvaluatesAt bs (p + 16 * k) z memo last (record { out = o; next = next }) →
+    EvaluatesAt bs p z memo last (record { out = r; next = next })

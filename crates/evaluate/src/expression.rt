@@ -1,15 +1,19 @@
 // The element evaluator and the expression evaluator, which call each other: the remaining depth falls, and then the remaining nodes.
-// Each operand's outcome is taken apart as a value, or else handed straight back. Assumes nothing.
+// Each operand's outcome is taken apart as a value, or else handed straight back; by its parts, since a copy as a whole would go through
+// memory. Assumes nothing.
 use super::Work;
 use super::Worked;
+use super::memo::again;
 use super::memo::code_of;
 use super::memo::known;
 use super::memo::note;
+use super::memo::raised;
 use super::memo::value_of;
 use super::memo::work_of;
 use alpha::Int;
 use domain::holding::holding;
 use domain::lower::lowered;
+use domain::lower::unaries;
 use points::Found;
 use sheet::table::body_place;
 use sheet::table::first_element;
@@ -27,8 +31,20 @@ ghost use Rattle.tree.specs.Formed.{Formed};
 ghost use Rattle.tree.specs.Ends.{EndsKept};
 ghost use Rattle.domain.specs.Inside.{Inside};
 ghost use Rattle.domain.specs.Held.{Held};
-ghost use Rattle.evaluate.specs.Working.{memoOf, outcomes, Ready, Done, ElementIs, ConstantRead, EvaluatesAt};
+ghost use Rattle.domain.specs.Standing.{Unaries};
+ghost use Rattle.evaluate.specs.Working.{memoOf, outcomes, Ready, Done, ElementIs, ConstantRead, RaisedAll, EvaluatesAt};
 ghost use Rattle.evaluate.specs.Memo as Memo;
+ghost use Rattle.evaluate.specs.Memo.{Small};
+
+// What was worked out, from its parts.
+fn handed(r: Worked) -> Worked
+    ensures { λ t. ⌜ t ≡ r ⌝ }
+{
+    let o = r.out;
+    let out = again(o);
+    let next = r.next;
+    Worked { out, next }
+}
 
 // Element e, the one of variable v at z: what the memo has, or else what the body gives. Where no depth remains, it has to be worked
 // out first.
@@ -59,7 +75,7 @@ pub fn element(
     let r = expression(s, tab, inside, ends, codes, values, at, 2048, z, depth - 1);
     let out = r.out;
     note(codes, values, e, code_of(out), value_of(out));
-    out
+    again(out)
 }
 
 // The tree at `at`, of at most `left` nodes, at z, where it holds without a clash. Restrictions and dependences are passed on the way to
@@ -135,11 +151,26 @@ fn variable(
         };
     };
     let e = first_element(tab, v) + i;
-    let out = element(s, tab, inside, ends, codes, values, v, e, z, depth);
+    let o = element(s, tab, inside, ends, codes, values, v, e, z, depth);
+    let out = again(o);
     Worked { out, next }
 }
 
-// A unary operator.
+// What `many` unary operators one below another from `at` on make of their operand's answer, the lowest first.
+fn raised_all(s: &[u8], at: usize, many: usize, o: Work) -> Work
+    requires { ⌜ Unaries (now s) at many × Small o ⌝ }
+    ensures { λ r. ⌜ RaisedAll (now (s .entry)) at many o r ⌝ }
+{
+    let mut out = again(o);
+    let mut k = many;
+    while 0 < k {
+        k -= 1;
+        out = raised(natural(s, at + 16 * k + 8), out);
+    }
+    again(out)
+}
+
+// Unary operators, which are passed on the way down and applied on the way up: that spares a call for each.
 fn one(
     s: &[u8],
     tab: &[usize; 102],
@@ -155,16 +186,14 @@ fn one(
     requires { ⌜ Formed (now s) (now tab) × Inside (sheetOf (now s)) (now inside) × Ready (sheetOf (now s)) (memoOf (now codes) (now values)) × Held (now s) at left z × (left ≤ 2048) × (natAbs (field (now s) at) ≡ 3) × EndsKept (now s) (now ends) ⌝ }
     ensures { λ r. ⌜ EvaluatesAt (now (s .entry)) at z (memoOf (now (codes .entry)) (now (values .entry))) (memoOf (now (codes .exit)) (now (values .exit))) r ⌝ }
 {
+    let k = unaries(s, at);
+    let below = at + 16 * k;
     let n = left - 1;
-    let a = expression(s, tab, inside, ends, codes, values, at + 16, n, z, depth);
+    let a = expression(s, tab, inside, ends, codes, values, below, n, z, depth);
     let o = a.out;
-    let Work::Value(x) = o else {
-        return a;
-    };
-    Worked {
-        out: work_of(integer::unary(natural(s, at + 8), x)),
-        next: a.next,
-    }
+    let out = raised_all(s, at, k, o);
+    let next = a.next;
+    Worked { out, next }
 }
 
 // A binary operator: the left operand, then the right one.
@@ -187,13 +216,13 @@ fn two(
     let first = expression(s, tab, inside, ends, codes, values, at + 16, n, z, depth);
     let o = first.out;
     let Work::Value(x) = o else {
-        return first;
+        return handed(first);
     };
     let middle = first.next;
     let second = expression(s, tab, inside, ends, codes, values, middle, n, z, depth);
     let p = second.out;
     let Work::Value(y) = p else {
-        return second;
+        return handed(second);
     };
     Worked {
         out: work_of(integer::binary(natural(s, at + 8), x, y)),
@@ -221,19 +250,19 @@ fn three(
     let test = expression(s, tab, inside, ends, codes, values, at + 8, n, z, depth);
     let o = test.out;
     let Work::Value(t) = o else {
-        return test;
+        return handed(test);
     };
     let middle = test.next;
     let then = expression(s, tab, inside, ends, codes, values, middle, n, z, depth);
     let p = then.out;
     let Work::Value(x) = p else {
-        return then;
+        return handed(then);
     };
     let last = then.next;
     let other = expression(s, tab, inside, ends, codes, values, last, n, z, depth);
     let q = other.out;
     let Work::Value(y) = q else {
-        return other;
+        return handed(other);
     };
     Worked {
         out: work_of(integer::choose(integer::is_true(t), x, y)),
@@ -260,7 +289,8 @@ fn branch(
     let taken = holding(s, tab, inside, ends, at, left, z);
     let n = left - 1;
     let r = expression(s, tab, inside, ends, codes, values, taken, n, z, depth);
-    let out = r.out;
+    let o = r.out;
+    let out = again(o);
     let next = end_of(s, ends, at, left);
     Worked { out, next }
 }

@@ -1,15 +1,14 @@
-// The memo's entries: looked up, and stored. Assumes nothing.
+// The memo's entries, looked up and stored, and answers. Assumes nothing.
 use super::Work;
 use alpha::Int;
 use alpha::Outcome;
 ghost use mathlib.Core.Path.{_≡_};
-ghost use Prim.Native.Nat.{ℕ, _<_};
+ghost use Prim.Native.Nat.{_≤_, _<_};
 ghost use lib.ListN.{length, set};
-ghost use lib.IntN.{ℤ};
 ghost use Rattle.integer.specs.Range.{In32};
 ghost use Rattle.evaluate.specs.Memo as Memo;
 ghost use Rattle.evaluate.specs.Memo.{Small};
-ghost use Rattle.evaluate.specs.Working.{entryOf, workOf};
+ghost use Rattle.evaluate.specs.Working.{entryOf, workOf, Raised};
 
 // What an entry that is not unknown says: an element in progress is LOOP.
 pub fn known(code: u8, x: Int) -> Work
@@ -63,6 +62,20 @@ pub fn value_of(r: Work) -> Int
     }
 }
 
+// The same answer, from its parts: a copy as a whole would go through memory.
+pub fn again(r: Work) -> Work
+    ensures { λ t. ⌜ t ≡ r ⌝ }
+{
+    match r {
+        Work::Outside => Work::Outside,
+        Work::Value(x) => Work::Value(x),
+        Work::DivZero => Work::DivZero,
+        Work::Overflow => Work::Overflow,
+        Work::Loop => Work::Loop,
+        Work::Deep(e) => Work::Deep(e),
+    }
+}
+
 // What an operator gives, as an answer.
 pub fn work_of(o: Outcome) -> Work
     ensures { λ r. ⌜ r ≡ workOf o ⌝ }
@@ -73,5 +86,20 @@ pub fn work_of(o: Outcome) -> Work
         Outcome::DivZero => Work::DivZero,
         Outcome::Overflow => Work::Overflow,
         Outcome::Loop => Work::Loop,
+    }
+}
+
+// What the unary operator of the number `op` makes of its operand's answer.
+pub fn raised(op: usize, r: Work) -> Work
+    requires { ⌜ (op ≤ 1) × Small r ⌝ }
+    ensures { λ t. ⌜ Raised op r t ⌝ }
+{
+    match r {
+        Work::Outside => Work::Outside,
+        Work::Value(x) => work_of(integer::unary(op, x)),
+        Work::DivZero => Work::DivZero,
+        Work::Overflow => Work::Overflow,
+        Work::Loop => Work::Loop,
+        Work::Deep(e) => Work::Deep(e),
     }
 }

@@ -1,5 +1,5 @@
 -- `domain::pick` meets its contract. Assumes nothing.
-use mathlib.Core.Path.{refl, sym}
+use mathlib.Core.Path.{refl}
 use Rattle.laws.proofs.Tests.{true-not-false}
 use Rattle.domain.proofs.holding.pick.Statement.{statement}
 use Rattle.domain.proofs.holding.pick.Tie as tie

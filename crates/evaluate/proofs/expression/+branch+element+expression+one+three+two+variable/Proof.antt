@@ -27,7 +27,11 @@ use Rattle.evaluate.proofs.expression.variable.Kinds as variable-kinds
 use Rattle.evaluate.proofs.expression.+branch+element+expression+one+three+two+variable.Lts-variable as variable-lts
 use Rattle.domain.proofs.holding.holding.Reads as holding-reads
 use Rattle.domain.proofs.lower.lowered.Reads as lowered-reads
+use Rattle.domain.proofs.lower.unaries.Reads as unaries-reads
 use Rattle.evaluate.proofs.expression.constant.Reads as constant-reads
+use Rattle.evaluate.proofs.expression.handed.Reads as handed-reads
+use Rattle.evaluate.proofs.expression.raised_all.Reads as raised-all-reads
+use Rattle.evaluate.proofs.memo.again.Reads as again-reads
 use Rattle.evaluate.proofs.memo.code_of.Reads as code-of-reads
 use Rattle.evaluate.proofs.memo.known.Reads as known-reads
 use Rattle.evaluate.proofs.memo.note.Reads as note-reads
@@ -38,7 +42,6 @@ use Rattle.integer.proofs.choose.Reads as choose-reads
 use Rattle.integer.proofs.is_true.Reads as is-true-reads
 use Rattle.integer.proofs.of.Reads as of-reads
 use Rattle.integer.proofs.of32.Reads as of32-reads
-use Rattle.integer.proofs.unary.Reads as unary-reads
 use Rattle.points.proofs.index.Reads as index-reads
 use Rattle.sheet.proofs.table.body_place.Reads as body-place-reads
 use Rattle.sheet.proofs.table.first_element.Reads as first-element-reads
@@ -66,6 +69,8 @@ use Rattle.tree.proofs.Noding.{code-there}
 use Rattle.tree.proofs.Standings.{standing-there}
 use Rattle.domain.proofs.Walks.{walk-standing}
 use Rattle.domain.proofs.Lowering.{lowered-there, lowered-fits}
+use Rattle.domain.proofs.Ways.{walk-most}
+use Rattle.domain.proofs.Carried.{held-unaries}
 use Rattle.domain.proofs.Records.{VariableLaid, laid-variable}
 use Rattle.domain.specs.Held.{Held}
 use Rattle.evaluate.specs.declared.Worked.{Worked}
@@ -74,10 +79,10 @@ use Rattle.evaluate.specs.Memo.{busy, Memo, noted}
 use Rattle.evaluate.specs.Working.{memoOf, outcomes, Ready, Done, EvaluatesAt}
 use Rattle.evaluate.proofs.Entries.{no-value, noted-is}
 use Rattle.evaluate.proofs.Doing.{ready-kept}
-use Rattle.evaluate.proofs.Operands.{not-zero, case-code, some-variable, walk-noded, walk-some, there, one-few, two-few, ready-after}
-use Rattle.evaluate.proofs.Operands.{small-value, operand-ends}
-use Rattle.evaluate.proofs.Operands.{one-held, left-held, right-held, test-held, first-held, second-held}
-use Rattle.evaluate.proofs.Ways.{constant-way, one-back, one-way, left-back, right-back, two-way, test-back, first-back, second-back}
+use Rattle.evaluate.proofs.Operands.{not-zero, case-code, some-variable, walk-noded, walk-some, there, two-few, ready-after}
+use Rattle.evaluate.proofs.Operands.{operand-small, small-value, operand-ends}
+use Rattle.evaluate.proofs.Operands.{left-held, right-held, test-held, first-held, second-held}
+use Rattle.evaluate.proofs.Ways.{constant-way, left-back, right-back, two-way, test-back, first-back, second-back}
 use Rattle.evaluate.proofs.Ways.{three-way, branch-way}
 use Rattle.evaluate.proofs.Lowering.{lowered-held, lowered-way}
 use Rattle.evaluate.proofs.Elements.{element-low, known-way, deep-way, ready-marked, held-body, body-done, worked-way}
@@ -151,7 +156,16 @@ variable-below t =
     and 6 variable-kinds.ps (falls 6 variable-kinds.ps _<_ μ-variable t) variable.Pre
 
 abbrev branch-uses : ℕ → branch-lts.Claims
-branch-uses t = (holding-reads.Asked, holding-reads.Learnt, expression-below t, expression.Post, end-of-reads.Asked, end-of-reads.Learnt)
+branch-uses t = (
+  holding-reads.Asked,
+  holding-reads.Learnt,
+  expression-below t,
+  expression.Post,
+  again-reads.Asked,
+  again-reads.Learnt,
+  end-of-reads.Asked,
+  end-of-reads.Learnt,
+)
 
 abbrev element-uses : ℕ → element-lts.Claims
 element-uses t = (
@@ -171,6 +185,8 @@ element-uses t = (
   code-of-reads.Learnt,
   value-of-reads.Asked,
   value-of-reads.Learnt,
+  again-reads.Asked,
+  again-reads.Learnt,
 )
 
 abbrev expression-uses : ℕ → expression-lts.Claims
@@ -197,20 +213,20 @@ expression-uses t = (
 
 abbrev one-uses : ℕ → one-lts.Claims
 one-uses t = (
+  unaries-reads.Asked,
+  unaries-reads.Learnt,
   expression-below t,
   expression.Post,
-  natural-reads.Asked,
-  natural-reads.Learnt,
-  unary-reads.Asked,
-  unary-reads.Learnt,
-  work-of-reads.Asked,
-  work-of-reads.Learnt,
+  raised-all-reads.Asked,
+  raised-all-reads.Learnt,
 )
 
 abbrev three-uses : ℕ → three-lts.Claims
 three-uses t = (
   expression-below t,
   expression.Post,
+  handed-reads.Asked,
+  handed-reads.Learnt,
   is-true-reads.Asked,
   is-true-reads.Learnt,
   choose-reads.Asked,
@@ -223,6 +239,8 @@ abbrev two-uses : ℕ → two-lts.Claims
 two-uses t = (
   expression-below t,
   expression.Post,
+  handed-reads.Asked,
+  handed-reads.Learnt,
   natural-reads.Asked,
   natural-reads.Learnt,
   binary-reads.Asked,
@@ -243,6 +261,8 @@ variable-uses t = (
   first-element-reads.Learnt,
   element-below t,
   element.Post,
+  again-reads.Asked,
+  again-reads.Learnt,
 )
 
 branch-holding-requires : (t : ℕ) → branch-lts.Need-holding-requires (branch-uses t) (branch-at t) branch.Post
@@ -267,17 +287,23 @@ branch-expression-requires t c κs =
 
 branch-end-of-requires : (t : ℕ) → branch-lts.Need-end-of-requires (branch-uses t) (branch-at t) branch.Post
 branch-end-of-requires t c κs =
-    let s = c .before .before .before .before .before in
+    let s = c .before .before .before .before .before .before in
     let p = s .pre .1 in
     (walk-standing _ _ _ _ (p .3 .walk), p .4, p .6)
 
+branch-again-requires : (t : ℕ) → branch-lts.Need-again-requires (branch-uses t) (branch-at t) branch.Post
+branch-again-requires t c κs = search needs
+
 branch-returns : (t : ℕ) → branch-lts.Need-returns (branch-uses t) (branch-at t) branch.Post
 branch-returns t c =
-    let at-expression = c .before in
+    let at-again = c .before in
+    let at-expression = at-again .before in
     let at-holding = at-expression .before .before .before in
     let s = at-holding .before .before in
     let p = s .pre .1 in
-    branch-way _ _ (s .args .z) _ (p .5) _ (at-holding .holding .ensures) _ _ _ (at-expression .expression .ensures) _ (c .end-of .ensures)
+    let a = at-expression .expression .ensures in
+    let way = branch-way _ _ (s .args .z) _ (p .5) _ (at-holding .holding .ensures) _ _ _ a _ (c .end-of .ensures) in
+    rw (at-again .again .ensures) way
 
 element-element-copy-out-code : (t : ℕ) → element-lts.Need-element-copy-out-code (element-uses t) (element-at t) element.Post
 element-element-copy-out-code t c =
@@ -406,9 +432,13 @@ element-note-requires-2 t c κs =
     (body-done _ _ (p .0) _ _ _ (p .3) _ (p .2) late _ place _ _ body .kept) in
     (omega (arith, element-low _ _ (p .0) _ _ _ (p .3), p .2 .few), ready .codes-long, ready .values-long, c .value-of .ensures .1)
 
+element-again-requires : (t : ℕ) → element-lts.Need-again-requires (element-uses t) (element-at t) element.Post
+element-again-requires t c κs = search needs
+
 element-returns-3 : (t : ℕ) → element-lts.Need-returns-3 (element-uses t) (element-at t) element.Post
 element-returns-3 t c =
-    let at-value-of = c .before in
+    let at-note = c .before in
+    let at-value-of = at-note .before in
     let at-code-of = at-value-of .before in
     let at-expression = at-code-of .before .before .before in
     let at-body-place = at-expression .before .before .before in
@@ -420,12 +450,12 @@ element-returns-3 t c =
     let body = element-body t at-expression in
     let worked = worked-way _ _ (p .0) _ _ _ (p .3) _ (p .2) late _ place _ _ body in
     let kept = element-after t at-expression in
-    let code = c .note2 .ensures .0 ∙ ap (set (kept .codes) (s .args .e)) (at-code-of .code-of .ensures) in
-    let stored = noted-is kept _ _ _ _ _ _ code (c .note2 .ensures .1) (at-value-of .value-of .ensures .0) in
+    let code = at-note .note2 .ensures .0 ∙ ap (set (kept .codes) (s .args .e)) (at-code-of .code-of .ensures) in
+    let stored = noted-is kept _ _ _ _ _ _ code (at-note .note2 .ensures .1) (at-value-of .value-of .ensures .0) in
     let sheet = sheetOf (now (s .args .s)) in
     let memo = memoOf (now (s .args .codes)) (now (s .args .values)) in
-    subst (λ m. Done sheet memo m (λ ins. Memo.element (outcomes sheet ins) (s .args .e)) (at-expression .expression .result .out)) (sym stored)
-    worked
+    let all = subst (λ m. Done sheet memo m (λ ins. Memo.element (outcomes sheet ins) (s .args .e)) (at-expression .expression .result .out)) (sym stored) worked in
+    rw (c .again .ensures) all
 
 -- what is worked out of the node that is reached is what the tree gives
 abbrev expression-Inv-loop : expression-lts.InvT-loop
@@ -621,68 +651,45 @@ expression-returns-6 t c =
     let at-loop = c .before .before .before .before .before .before .before .before in
     at-loop .loop .inv .2 _ _ _ (c .branch .ensures)
 
-one-sub-n : (t : ℕ) → one-lts.Need-sub-n (one-uses t) (one-at t) one.Post
-one-sub-n t c = omega (arith, walk-some _ _ _ _ (c .before .pre .1 .3 .walk))
+one-unaries-requires : (t : ℕ) → one-lts.Need-unaries-requires (one-uses t) (one-at t) one.Post
+one-unaries-requires t c κs =
+    let p = c .before .pre .1 in
+    (walk-most _ _ _ _ (p .3 .walk) (p .4), p .5)
 
-one-add-expression : (t : ℕ) → one-lts.Need-add-expression (one-uses t) (one-at t) one.Post
-one-add-expression t c =
-    let s = c .before .before .before in
-    omega (arith, there _ _ _ _ (s .pre .1 .3 .walk) 3 (s .pre .1 .5) (λ e. omega arith))
+-- the tree below the operators holds too
+one-below-held : (t : ℕ) (c : one-lts.After-unaries (one-uses t) (one-at t) one.Post) →
+    let s = c .before .before in
+    Held (now (s .args .s)) (s .args .at + 16 * c .unaries .result) (s .args .left - 1) (s .args .z)
+one-below-held t c = held-unaries _ _ _ _ _ (c .unaries .ensures) (c .before .before .pre .1 .3)
+
+one-mul-below : (t : ℕ) → one-lts.Need-mul-below (one-uses t) (one-at t) one.Post
+one-mul-below t c = omega (arith, code-there _ _ _ (walk-noded _ _ _ _ (one-below-held t c .walk)))
+
+one-add-below : (t : ℕ) → one-lts.Need-add-below (one-uses t) (one-at t) one.Post
+one-add-below t c = omega (arith, code-there _ _ _ (walk-noded _ _ _ _ (one-below-held t c .walk)))
+
+one-sub-n : (t : ℕ) → one-lts.Need-sub-n (one-uses t) (one-at t) one.Post
+one-sub-n t c = omega (arith, walk-some _ _ _ _ (c .before .before .pre .1 .3 .walk))
 
 one-expression-requires : (t : ℕ) → one-lts.Need-expression-requires (one-uses t) (one-at t) one.Post
 one-expression-requires t c κs =
-    let s = c .before .before .before in
+    let at-unaries = c .before .before in
+    let s = at-unaries .before .before in
     let p = s .pre .1 in
     let is = s .pre .0 in
     let some = walk-some _ _ _ _ (p .3 .walk) in
-    (omega arith, (p .0, p .1, p .2, one-held _ _ _ _ (p .3) (p .5), omega (arith, p .4), p .6))
+    (omega arith, (p .0, p .1, p .2, one-below-held t at-unaries, omega (arith, p .4), p .6))
 
-one-enum-known-o : (t : ℕ) → one-lts.Need-enum-known-o (one-uses t) (one-at t) one.Post
-one-enum-known-o t c = search needs
+one-raised-all-requires : (t : ℕ) → one-lts.Need-raised-all-requires (one-uses t) (one-at t) one.Post
+one-raised-all-requires t c κs =
+    let at-unaries = c .before .before .before in
+    (at-unaries .unaries .ensures, operand-small _ _ _ _ (one-below-held t at-unaries .walk) _ _ _ (c .expression .ensures))
 
 one-returns : (t : ℕ) → one-lts.Need-returns (one-uses t) (one-at t) one.Post
 one-returns t c =
     let at-expression = c .before in
-    let s = at-expression .before .before .before .before in
-    let p = s .pre .1 in
-    one-back _ _ (s .args .z) (p .5) _ _ _ (at-expression .expression .ensures) (no-value _ (c .match .keys2))
-
-one-add-natural : (t : ℕ) → one-lts.Need-add-natural (one-uses t) (one-at t) one.Post
-one-add-natural t c =
-    let s = c .before .before .before .before .before .before .before in
-    omega (arith, there _ _ _ _ (s .pre .1 .3 .walk) 3 (s .pre .1 .5) (λ e. omega arith))
-
-one-natural-requires : (t : ℕ) → one-lts.Need-natural-requires (one-uses t) (one-at t) one.Post
-one-natural-requires t c κs =
-    let s = c .before .before .before .before .before .before .before in
-    omega (arith, there _ _ _ _ (s .pre .1 .3 .walk) 3 (s .pre .1 .5) (λ e. omega arith))
-
-one-unary-requires : (t : ℕ) → one-lts.Need-unary-requires (one-uses t) (one-at t) one.Post
-one-unary-requires t c κs =
-    let at-o = c .before .before in
-    let at-expression = at-o .before .before in
-    let s = at-expression .before .before .before .before in
-    let p = s .pre .1 in
-    let o = at-o .o .given in
-    let x = small-value _ _ _ _ (one-held _ _ _ _ (p .3) (p .5) .walk) _ _ _ (at-expression .expression .ensures) _ (o .1) in
-    (omega (arith, one-few _ _ _ _ (p .3 .walk) (p .5), c .natural .ensures), x)
-
-one-work-of-requires : (t : ℕ) → one-lts.Need-work-of-requires (one-uses t) (one-at t) one.Post
-one-work-of-requires t c κs = search needs
-
-one-returns-2 : (t : ℕ) → one-lts.Need-returns-2 (one-uses t) (one-at t) one.Post
-one-returns-2 t c =
-    let at-unary = c .before in
-    let at-natural = at-unary .before in
-    let at-o = at-natural .before .before in
-    let at-expression = at-o .before .before in
-    let s = at-expression .before .before .before .before in
-    let p = s .pre .1 in
-    let o = at-o .o .given in
-    let way =
-    one-way _ _ (s .args .z) (p .5) _ _ _ (at-expression .expression .ensures) _ _ _ (o .1) (at-natural .natural .ensures)
-    (at-unary .unary .ensures) in
-    rw (c .work-of .ensures) way
+    let s = at-expression .before .before .before .before .before in
+    c .raised-all .ensures (s .args .z) _ _ _ (at-expression .expression .ensures)
 
 three-sub-n : (t : ℕ) → three-lts.Need-sub-n (three-uses t) (three-at t) three.Post
 three-sub-n t c = omega (arith, walk-some _ _ _ _ (c .before .pre .1 .3 .walk))
@@ -703,12 +710,16 @@ three-expression-requires t c κs =
 three-enum-known-o : (t : ℕ) → three-lts.Need-enum-known-o (three-uses t) (three-at t) three.Post
 three-enum-known-o t c = search needs
 
+three-handed-requires : (t : ℕ) → three-lts.Need-handed-requires (three-uses t) (three-at t) three.Post
+three-handed-requires t c κs = search needs
+
 three-returns : (t : ℕ) → three-lts.Need-returns (three-uses t) (three-at t) three.Post
 three-returns t c =
-    let at-expression = c .before in
+    let at-expression = c .before .before in
     let s = at-expression .before .before .before .before in
     let p = s .pre .1 in
-    test-back _ _ (s .args .z) (p .5) _ _ _ (at-expression .expression .ensures) (no-value _ (c .match .keys2))
+    let way = test-back _ _ (s .args .z) (p .5) _ _ _ (at-expression .expression .ensures) (no-value _ (c .before .match .keys2)) in
+    rw (c .handed .ensures) way
 
 three-expression-requires-2 : (t : ℕ) → three-lts.Need-expression-requires-2 (three-uses t) (three-at t) three.Post
 three-expression-requires-2 t c κs =
@@ -727,15 +738,20 @@ three-expression-requires-2 t c κs =
 three-enum-known-p : (t : ℕ) → three-lts.Need-enum-known-p (three-uses t) (three-at t) three.Post
 three-enum-known-p t c = search needs
 
+three-handed-requires-2 : (t : ℕ) → three-lts.Need-handed-requires-2 (three-uses t) (three-at t) three.Post
+three-handed-requires-2 t c κs = search needs
+
 three-returns-2 : (t : ℕ) → three-lts.Need-returns-2 (three-uses t) (three-at t) three.Post
 three-returns-2 t c =
-    let at-expression2 = c .before in
+    let at-expression2 = c .before .before in
     let at-o = at-expression2 .before .before .before .before in
     let at-expression = at-o .before .before in
     let s = at-expression .before .before .before .before in
     let p = s .pre .1 in
+    let way =
     first-back _ _ (s .args .z) (p .5) _ _ _ (at-expression .expression .ensures) _ (at-o .o .given .1) _ _ (at-expression2 .expression2 .ensures)
-    (no-value _ (c .match2 .keys2))
+    (no-value _ (c .before .match2 .keys2)) in
+    rw (c .handed2 .ensures) way
 
 three-expression-requires-3 : (t : ℕ) → three-lts.Need-expression-requires-3 (three-uses t) (three-at t) three.Post
 three-expression-requires-3 t c κs =
@@ -759,9 +775,12 @@ three-expression-requires-3 t c κs =
 three-enum-known-q : (t : ℕ) → three-lts.Need-enum-known-q (three-uses t) (three-at t) three.Post
 three-enum-known-q t c = search needs
 
+three-handed-requires-3 : (t : ℕ) → three-lts.Need-handed-requires-3 (three-uses t) (three-at t) three.Post
+three-handed-requires-3 t c κs = search needs
+
 three-returns-3 : (t : ℕ) → three-lts.Need-returns-3 (three-uses t) (three-at t) three.Post
 three-returns-3 t c =
-    let at-expression3 = c .before in
+    let at-expression3 = c .before .before in
     let at-p = at-expression3 .before .before .before .before in
     let at-expression2 = at-p .before .before in
     let at-o = at-expression2 .before .before .before .before in
@@ -770,8 +789,10 @@ three-returns-3 t c =
     let p = s .pre .1 in
     let a = at-expression .expression .ensures in
     let b = at-expression2 .expression2 .ensures in
+    let way =
     second-back _ _ (s .args .z) (p .5) _ _ _ a _ (at-o .o .given .1) _ _ b _ (at-p .p .given .1) _ _ (at-expression3 .expression3 .ensures)
-    (no-value _ (c .match3 .keys2))
+    (no-value _ (c .before .match3 .keys2)) in
+    rw (c .handed3 .ensures) way
 
 three-is-true-requires : (t : ℕ) → three-lts.Need-is-true-requires (three-uses t) (three-at t) three.Post
 three-is-true-requires t c κs = search needs
@@ -836,12 +857,16 @@ two-expression-requires t c κs =
 two-enum-known-o : (t : ℕ) → two-lts.Need-enum-known-o (two-uses t) (two-at t) two.Post
 two-enum-known-o t c = search needs
 
+two-handed-requires : (t : ℕ) → two-lts.Need-handed-requires (two-uses t) (two-at t) two.Post
+two-handed-requires t c κs = search needs
+
 two-returns : (t : ℕ) → two-lts.Need-returns (two-uses t) (two-at t) two.Post
 two-returns t c =
-    let at-expression = c .before in
+    let at-expression = c .before .before in
     let s = at-expression .before .before .before .before in
     let p = s .pre .1 in
-    left-back _ _ (s .args .z) (p .5) _ _ _ (at-expression .expression .ensures) (no-value _ (c .match .keys2))
+    let way = left-back _ _ (s .args .z) (p .5) _ _ _ (at-expression .expression .ensures) (no-value _ (c .before .match .keys2)) in
+    rw (c .handed .ensures) way
 
 two-expression-requires-2 : (t : ℕ) → two-lts.Need-expression-requires-2 (two-uses t) (two-at t) two.Post
 two-expression-requires-2 t c κs =
@@ -860,15 +885,20 @@ two-expression-requires-2 t c κs =
 two-enum-known-p : (t : ℕ) → two-lts.Need-enum-known-p (two-uses t) (two-at t) two.Post
 two-enum-known-p t c = search needs
 
+two-handed-requires-2 : (t : ℕ) → two-lts.Need-handed-requires-2 (two-uses t) (two-at t) two.Post
+two-handed-requires-2 t c κs = search needs
+
 two-returns-2 : (t : ℕ) → two-lts.Need-returns-2 (two-uses t) (two-at t) two.Post
 two-returns-2 t c =
-    let at-expression2 = c .before in
+    let at-expression2 = c .before .before in
     let at-o = at-expression2 .before .before .before .before in
     let at-expression = at-o .before .before in
     let s = at-expression .before .before .before .before in
     let p = s .pre .1 in
+    let way =
     right-back _ _ (s .args .z) (p .5) _ _ _ (at-expression .expression .ensures) _ (at-o .o .given .1) _ _ (at-expression2 .expression2 .ensures)
-    (no-value _ (c .match2 .keys2))
+    (no-value _ (c .before .match2 .keys2)) in
+    rw (c .handed2 .ensures) way
 
 two-add-natural : (t : ℕ) → two-lts.Need-add-natural (two-uses t) (two-at t) two.Post
 two-add-natural t c =
@@ -1012,9 +1042,13 @@ variable-element-requires t c κs =
     let element = named-element _ _ (p .0) _ _ _ (p .3 .walk) (p .5) _ number known _ found _ here in
     (omega arith, (p .0, p .1, p .2, element, p .6))
 
+variable-again-requires : (t : ℕ) → variable-lts.Need-again-requires (variable-uses t) (variable-at t) variable.Post
+variable-again-requires t c κs = search needs
+
 variable-returns-2 : (t : ℕ) → variable-lts.Need-returns-2 (variable-uses t) (variable-at t) variable.Post
 variable-returns-2 t c =
-    let at-first-element = c .before .before .before in
+    let at-element = c .before in
+    let at-first-element = at-element .before .before .before in
     let at-found = at-first-element .before .before in
     let at-index = at-found .before .before in
     let at-record-place = at-index .before in
@@ -1025,7 +1059,8 @@ variable-returns-2 t c =
     let number = n .natural .ensures in
     let found = rw (at-record-place .record-place .ensures) at (sym (at-found .found .given .1) ∙ at-index .index .ensures) in
     let here = ap (λ x. x + at-found .found .given .0 .0) (at-first-element .first-element .ensures) in
-    variable-way _ _ (p .0) _ _ _ (p .3 .walk) (p .5) _ number known _ found _ here _ _ _ (c .element .ensures)
+    let way = variable-way _ _ (p .0) _ _ _ (p .3 .walk) (p .5) _ number known _ found _ here _ _ _ (at-element .element .ensures) in
+    rw (c .again .ensures) way
 
 pub +branch+element+expression+one+three+two+variable-spec : {M : Type 1} → statement M
 +branch+element+expression+one+three+two+variable-spec =
@@ -1042,6 +1077,7 @@ pub +branch+element+expression+one+three+two+variable-spec : {M : Type 1} → st
     (branch-holding-requires t)
     (branch-sub-n t)
     (branch-expression-requires t)
+    (branch-again-requires t)
     (branch-end-of-requires t)
     (branch-returns t))
     (λ t. element-lts.spec (element-uses t) (element-at t)
@@ -1060,6 +1096,7 @@ pub +branch+element+expression+one+three+two+variable-spec : {M : Type 1} → st
     (element-code-of-requires t)
     (element-value-of-requires t)
     (element-note-requires-2 t)
+    (element-again-requires t)
     (element-returns-3 t))
     (λ t. expression-lts.spec (expression-uses t) (expression-at t)
     expression.Post
@@ -1088,28 +1125,28 @@ pub +branch+element+expression+one+three+two+variable-spec : {M : Type 1} → st
     (expression-returns-6 t))
     (λ t. one-lts.spec (one-uses t) (one-at t)
     one.Post
+    (one-unaries-requires t)
+    (one-mul-below t)
+    (one-add-below t)
     (one-sub-n t)
-    (one-add-expression t)
     (one-expression-requires t)
-    (one-enum-known-o t)
-    (one-returns t)
-    (one-add-natural t)
-    (one-natural-requires t)
-    (one-unary-requires t)
-    (one-work-of-requires t)
-    (one-returns-2 t))
+    (one-raised-all-requires t)
+    (one-returns t))
     (λ t. three-lts.spec (three-uses t) (three-at t)
     three.Post
     (three-sub-n t)
     (three-add-expression t)
     (three-expression-requires t)
     (three-enum-known-o t)
+    (three-handed-requires t)
     (three-returns t)
     (three-expression-requires-2 t)
     (three-enum-known-p t)
+    (three-handed-requires-2 t)
     (three-returns-2 t)
     (three-expression-requires-3 t)
     (three-enum-known-q t)
+    (three-handed-requires-3 t)
     (three-returns-3 t)
     (three-is-true-requires t)
     (three-choose-requires t)
@@ -1121,9 +1158,11 @@ pub +branch+element+expression+one+three+two+variable-spec : {M : Type 1} → st
     (two-add-expression t)
     (two-expression-requires t)
     (two-enum-known-o t)
+    (two-handed-requires t)
     (two-returns t)
     (two-expression-requires-2 t)
     (two-enum-known-p t)
+    (two-handed-requires-2 t)
     (two-returns-2 t)
     (two-add-natural t)
     (two-natural-requires t)
@@ -1143,4 +1182,5 @@ pub +branch+element+expression+one+three+two+variable-spec : {M : Type 1} → st
     (variable-first-element-requires t)
     (variable-add-e t)
     (variable-element-requires t)
+    (variable-again-requires t)
     (variable-returns-2 t)
