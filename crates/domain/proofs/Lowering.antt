@@ -1,13 +1,13 @@
 -- From a restriction or a dependence to its child: the child may be walked at its own point, and where its standing is let through the
 -- parent stands as it does. Assumes nothing.
-use mathlib.Core.Path.{_≡_, refl, sym, subst}
+use mathlib.Core.Path.{_≡_, refl, sym, ap, _∙_, subst}
 use mathlib.Core.Logic.{⊎-elim}
 use mathlib.Core.Bool.{Bool, true, false}
 use Prim.Native.Nat.{ℕ, _+_, _-_, _≤_, _<_}
 use native.Mathlib.Omega.{arith}
-use mathlib.Core.List.{List}
-use lib.ListN.{length}
-use lib.IntN.{natAbs}
+use mathlib.Core.List.{List, [], _∷_}
+use lib.ListN.{length, getD}
+use lib.IntN.{pos, natAbs}
 use Rattle.alpha.specs.declared.Int.{Int}
 use Rattle.alpha.specs.Field.{field}
 use Rattle.laws.specs.At.{nodeLen}
@@ -15,8 +15,10 @@ use Rattle.laws.specs.Sheets.{varsOf}
 use Rattle.laws.proofs.Tests.{true-not-false}
 use Rattle.laws.proofs.Trees.{at-unique}
 use Rattle.affine.specs.declared.Map.{Map}
+use Rattle.affine.specs.Value.{at}
 use Rattle.affine.specs.Size.{Fit}
 use Rattle.affine.specs.Reading.{MapThere, MapRead, ImageAt}
+use Rattle.affine.proofs.Several.{several-same, lt-or-le, below-four, past-four}
 use Rattle.tree.proofs.Noding.{second-there, wide-fields}
 use Rattle.tree.proofs.Standings.{standing-noded}
 use Rattle.domain.specs.declared.Standing.the-variants.{Not}
@@ -27,6 +29,24 @@ use Rattle.domain.specs.Standing.{StandsAt, Passes}
 use Rattle.domain.proofs.Walks.{walk-standing, walk-seven, map-stands, image-fits, walk-image}
 use Rattle.domain.proofs.Restrictions.{restriction-testable, restriction-walk}
 use Rattle.domain.proofs.Ways.{restriction-way, restriction-off-way, image-way}
+
+-- a point built again from its coordinates
+abbrev parted : List Int → List Int
+parted y =
+    let zero : Int = record { v = pos 0 } in
+    getD y 0 zero ∷ getD y 1 zero ∷ getD y 2 zero ∷ getD y 3 zero ∷ []
+
+-- is an image where it was one
+pub image-parted : (bs : List ℕ) (p : ℕ) (z y : List Int) → ImageAt bs p z y → ImageAt bs p z (parted y)
+image-parted bs p z y h = record {
+  map = h .map;
+  read = h .read;
+  is = several-same (h .map .height) (at (parted y)) (at y) (λ i low. same i (omega (arith, h .read .neat .rows-few))) ∙ h .is;
+  rest = λ j past. ⊎-elim (λ low. same j low ∙ h .rest j past) (λ high. ap {A = Int} (λ x. x .v) (past-four _ _ _ _ _ j high)) (lt-or-le j 4);
+}
+  where
+    same : (i : ℕ) → i < 4 → at (parted y) i ≡ at y i
+    same = below-four (λ i. at (parted y) i ≡ at y i) refl refl refl refl
 
 module _ (bs : List ℕ) (p left : ℕ) (z : List Int) (w : Walk bs p left z) where
   abbrev Code : ℕ → Type 0

@@ -28,13 +28,19 @@ pub fn passes(s: &[u8], at: usize, z: [Int; 4]) -> bool
     true
 }
 
-// The point at which the child of the restriction or dependence at `at` stands, whose own point is z.
+// The point at which the child of the restriction or dependence at `at` stands, whose own point is z. An image is built again from its
+// coordinates, since a copy as a whole would go through memory.
 pub fn lowered(s: &[u8], at: usize, z: [Int; 4]) -> [Int; 4]
     requires { ⌜ (at + 16 ≤ length (now s)) × (natAbs (field (now s) at) ≡ 8 → MapThere (now s) (at + 8) × ((m : Map) → MapRead (now s) (at + 8) m → Fit m z)) ⌝ }
     ensures { λ y. ⌜ Lowered (now (s .entry)) at z y ⌝ }
 {
     if natural(s, at) == 8 {
-        return affine::image_at(s, at + 8, z);
+        let y = affine::image_at(s, at + 8, z);
+        let y0 = y[0];
+        let y1 = y[1];
+        let y2 = y[2];
+        let y3 = y[3];
+        return [y0, y1, y2, y3];
     }
     z
 }
