@@ -1,21 +1,25 @@
 -- What is read number by number is the row and the map of the fields. Assumes nothing.
-use Prim.Native.Nat.{ℕ, _+_, _*_, _≤_, _<_}
-use mathlib.Core.Path.{_≡_, sym, ap, _∙_}
+use Prim.Native.Nat.{ℕ, _+_, _*_, _^_, _≤_, _<_}
+use mathlib.Core.Path.{_≡_, refl, sym, ap, _∙_}
 use mathlib.Core.Logic.{⊎-elim}
 use mathlib.Core.List.{List, [], _∷_}
 use native.Mathlib.Omega.{arith}
 use native.Mathlib.Nat.{suc-mul, mul-le-mul, mul-le-mul-right}
 use lib.ListN.{length}
+use lib.Dec.{ltb}
+use borrow.Author.Tests.{lt-ltb, le-ltb}
 use lib.IntN.{ℤ, pos, natAbs}
 use Rattle.alpha.specs.declared.Int.{Int}
 use Rattle.alpha.specs.Field.{field}
+use Rattle.alpha.specs.Pick.{ifb}
 use Rattle.alpha.specs.Sheet as Sheet
 use Rattle.alpha.specs.Read.{got, dependence}
 use Rattle.affine.specs.declared.Row.{Row}
 use Rattle.affine.specs.declared.Map.{Map}
-use Rattle.affine.specs.Value.{at, line, rowOf, mapOf, NeatRow, Neat}
+use Rattle.affine.specs.Value.{at, line, pointOf, rowOf, mapOf, NeatRow, Neat}
+use Rattle.affine.specs.Size.{rowSize, Fit}
 use Rattle.affine.specs.Reading.{rowFields, rowsFields, mapFields, RowAmong, MapRead, MapThere}
-use Rattle.affine.proofs.Several.{lt-or-le, several-same, below-four, past-four}
+use Rattle.affine.proofs.Several.{lt-or-le, several-same, below-four, past-four, zeros-at}
 use Rattle.affine.proofs.Meaning.{padded-more, row-same, map-same, past-line}
 use Rattle.affine.proofs.Reader.{MapGot, dependence-got}
 
@@ -51,14 +55,48 @@ module _ (bs : List ℕ) (p n : ℕ) (few : n ≤ 4) (a b c d k : Int) where
         record { few = few; rest = λ j l. ⊎-elim (λ q. each j q .1 l) (past j) (lt-or-le j 4) },
       )
 
+-- ---- a row among others
+
+-- a row of zeros
+abbrev zerosRow : Row
+zerosRow = let z : Int = record { v = pos 0 } in record { coef = z ∷ z ∷ z ∷ z ∷ []; constant = z }
+
+module _ {bs : List ℕ} {p i k n : ℕ} where
+  pub row-among : {r : Row} → i < k → rowOf n r ≡ rowFields n bs (p + i * (8 * n + 8)) → NeatRow n r → RowAmong bs p i k n r
+  row-among l e neat = record { is = λ h. e; rest = neat .rest; zeros = λ h. absurd (omega arith) }
+
+  pub past-among : k ≤ i → RowAmong bs p i k n zerosRow
+  past-among l =
+      record {
+        is = λ h. absurd (omega arith);
+        rest = λ j h. zeros-at j;
+        zeros = λ h. record { coefs = λ j q. zeros-at j; const = refl };
+      }
+
+-- there is a row i among them, also where the code has read none
+record RowThere (bs : List ℕ) (p i k n : ℕ) : Type 0 where
+  row : Row
+  among : RowAmong bs p i k n row
+
+row-there : (bs : List ℕ) (p i k n : ℕ) → n ≤ 4 → RowThere bs p i k n
+row-there bs p i k n few =
+    let q = p + i * (8 * n + 8) in
+    let x : ℕ → Int = λ j. record { v = ifb (ltb j n) (λ _. field bs (q + 8 * j)) (λ _. pos 0) } in
+    let e : (j : ℕ) → Coefficient bs q n j (x j .v) = λ j. (λ h. rw (lt-ltb j n h), λ h. rw (le-ltb j n h)) in
+    let read = row-is bs q n few (x 0) (x 1) (x 2) (x 3) (record { v = field bs (q + 8 * n) }) (e 0) (e 1) (e 2) (e 3) refl in
+    ⊎-elim (λ l. record { row = _; among = row-among l (read .0) (read .1) }) (λ l. record { row = zerosRow; among = past-among l }) (lt-or-le i k)
+
 -- ---- a map
 
-module _ (bs : List ℕ) (p k n : ℕ) (cols-few : n ≤ 4) (rows-few : k ≤ 4) (a b c d : Row) where
+-- m has the k rows of n coefficients that stand from p on
+abbrev pub RowsMap : List ℕ → ℕ → ℕ → ℕ → Map → Type 0
+RowsMap bs p n k m = (mapOf m ≡ record { cols = n; rows = rowsFields k n bs p }) × Neat m × (m .height ≡ k) × (m .width ≡ n)
+
+module _ (bs : List ℕ) (p k n : ℕ) (cols-few : n ≤ 4) (rows-few : k ≤ 4) where
   pub rows-are :
-      RowAmong bs p 0 k n a → RowAmong bs p 1 k n b → RowAmong bs p 2 k n c → RowAmong bs p 3 k n d →
-      (mapOf (record { rows = a ∷ b ∷ c ∷ d ∷ []; height = k; width = n }) ≡ record { cols = n; rows = rowsFields k n bs p })
-      × Neat (record { rows = a ∷ b ∷ c ∷ d ∷ []; height = k; width = n })
-  rows-are ea eb ec ed =
+      {a b c d : Row} → RowAmong bs p 0 k n a → RowAmong bs p 1 k n b → RowAmong bs p 2 k n c → RowAmong bs p 3 k n d →
+      RowsMap bs p n k (record { rows = a ∷ b ∷ c ∷ d ∷ []; height = k; width = n })
+  rows-are {a} {b} {c} {d} ea eb ec ed =
       let m : Map = record { rows = a ∷ b ∷ c ∷ d ∷ []; height = k; width = n } in
       let each : (i : ℕ) → i < 4 → RowAmong bs p i k n (line m i) = below-four (λ i. RowAmong bs p i k n (line m i)) ea eb ec ed in
       let past = past-line a b c d k n in (
@@ -69,7 +107,24 @@ module _ (bs : List ℕ) (p k n : ℕ) (cols-few : n ≤ 4) (rows-few : k ≤ 4)
           lines = λ i. ⊎-elim (λ l. each i l .rest) (λ l. padded-more (line m i .coef) (omega arith) (past i l .coefs)) (lt-or-le i 4);
           beyond = λ i q. ⊎-elim (λ l. each i l .zeros q) (past i) (lt-or-le i 4);
         },
+        refl,
+        refl,
       )
+
+  -- each row has a value at z where each map of the rows has an image of z: for there is such a map with this row
+  pub among-fits :
+      (z : List Int) → ((m : Map) → RowsMap bs p n k m → Fit m z) →
+      (i : ℕ) → i < 4 → (r : Row) → RowAmong bs p i k n r → rowSize (rowOf 4 r) (pointOf 4 z) < 2 ^ 63
+  among-fits z fit =
+      let a = row-there bs p 0 k n cols-few in
+      let b = row-there bs p 1 k n cols-few in
+      let c = row-there bs p 2 k n cols-few in
+      let d = row-there bs p 3 k n cols-few in
+      below-four (λ i. (r : Row) → RowAmong bs p i k n r → rowSize (rowOf 4 r) (pointOf 4 z) < 2 ^ 63)
+      (λ r e. fit _ (rows-are e (b .among) (c .among) (d .among)) 0)
+      (λ r e. fit _ (rows-are (a .among) e (c .among) (d .among)) 1)
+      (λ r e. fit _ (rows-are (a .among) (b .among) e (d .among)) 2)
+      (λ r e. fit _ (rows-are (a .among) (b .among) (c .among) e) 3)
 
 module _ (bs : List ℕ) (p : ℕ) (m : Map) (neat : Neat m) where
   -- where no dependence stands, any map will do
@@ -94,10 +149,6 @@ module _ (bs : List ℕ) (p : ℕ) (m : Map) (neat : Neat m) where
 
 -- ---- where a dependence stands
 
--- m has the k rows of n coefficients that stand after its columns and its number of rows
-abbrev pub RowsMap : List ℕ → ℕ → ℕ → ℕ → Map → Type 0
-RowsMap bs p n k m = (mapOf m ≡ record { cols = n; rows = rowsFields k n bs (p + 16) }) × Neat m × (m .height ≡ k) × (m .width ≡ n)
-
 pub map-there : (bs : List ℕ) (p : ℕ) {f : Sheet.Map} {q : ℕ} → dependence bs p ≡ got (Sheet.Node.nDep f) q → MapThere bs p
 map-there bs p e =
     let g = dependence-got bs p e in record { cols-few = g .cols-few; rows-few = g .rows-few; inside = rw (g .next) at (g .inside) }
@@ -109,5 +160,5 @@ module _ (bs : List ℕ) (p n k : ℕ) (wide : n ≡ natAbs (field bs p)) (high 
       let low = t .cols-few in let few = t .rows-few in (omega arith, omega arith, omega (arith, span-same wide high, t .inside))
 
   -- and the map of these is its map
-  pub rows-map : (m : Map) → RowsMap bs p n k m → MapRead bs p m
+  pub rows-map : (m : Map) → RowsMap bs (p + 16) n k m → MapRead bs p m
   rows-map m e = map-is bs p m (e .1) n k (e .0) (e .3) (e .2) wide high

@@ -7,7 +7,7 @@ use integer::mul;
 ghost use mathlib.Core.Path.{_≡_};
 ghost use Prim.Native.Nat.{ℕ, _+_, _*_, _^_, _≤_, _<_, max};
 ghost use lib.ListN.{length};
-ghost use lib.IntN.{ℤ, pos, natAbs, _+ℤ_, _*ℤ_};
+ghost use lib.IntN.{pos, natAbs, _+ℤ_, _*ℤ_};
 ghost use Rattle.alpha.specs.Affine as Affine;
 ghost use Rattle.alpha.specs.Reach.{sizes, rowReach, mapReach};
 ghost use Rattle.alpha.specs.Read as Read;
@@ -424,7 +424,8 @@ pub fn map_read(b: &[u8], p: usize) -> Map
 }
 
 // The image of the point z by the map of the dependence whose fields stand at p, a case for each shape that is common: there the rows and
-// columns past it are known to be zeros before any is read.
+// columns past it are known to be zeros before any is read. Three or four rows are taken one by one: rows_read with a number of rows that is
+// not known is too large to become part of this function, and a call of it makes the compiler copy the slice to memory in every case.
 pub fn image_at(b: &[u8], p: usize, z: [Int; 4]) -> [Int; 4]
     requires { ⌜ MapThere (now b) p × ((m : Map) → MapRead (now b) p m → Fit m z) ⌝ }
     ensures { λ y. ⌜ ImageAt (now (b .entry)) p z y ⌝ }
@@ -446,5 +447,9 @@ pub fn image_at(b: &[u8], p: usize, z: [Int; 4]) -> [Int; 4]
     if k < 3 {
         return apply(rows_read(b, p + 16, 2, n), z);
     }
-    apply(rows_read(b, p + 16, k, n), z)
+    let y0 = coordinate(k, 0, row_of(b, p + 16, 0, k, n), z);
+    let y1 = coordinate(k, 1, row_of(b, p + 16, 1, k, n), z);
+    let y2 = coordinate(k, 2, row_of(b, p + 16, 2, k, n), z);
+    let y3 = coordinate(k, 3, row_of(b, p + 16, 3, k, n), z);
+    [y0, y1, y2, y3]
 }

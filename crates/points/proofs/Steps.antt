@@ -6,13 +6,14 @@ use native.Mathlib.Numerals.{sub-one}
 use native.Mathlib.Omega.{arith}
 use mathlib.Core.Bool.{Bool, true, false}
 use mathlib.Core.List.{List, [], _∷_}
-use lib.IntN.{ℤ, natAbs, _-ℤ_}
+use lib.ListN.{getD}
+use lib.IntN.{ℤ, pos, natAbs, _-ℤ_}
 use Rattle.alpha.specs.Pick.{ifb}
 use Rattle.alpha.specs.Sheet.{Range, Point}
 use Rattle.alpha.specs.Box.{within, side, size, inBox, index}
 use Rattle.alpha.specs.declared.Int.{Int}
 use Rattle.affine.specs.Value.{at, pointOf}
-use Rattle.affine.proofs.Several.{several-same}
+use Rattle.affine.proofs.Several.{several-same, below-four}
 use Rattle.sheet.specs.Record.{boxAt, Ranges}
 use Rattle.laws.proofs.Order.{within-among}
 use Rattle.laws.proofs.Boxes.{size-pos}
@@ -74,37 +75,45 @@ ranges-tail bs p n h =
     next : (i : ℕ) → p + 16 * suc i ≡ p + 16 + 16 * i
     next i = omega arith
 
+-- ---- coordinates that move up to the front of four
+
+-- the first four numbers of an array, as the code reads them
+abbrev pub firstFour : List Int → List Int
+firstFour z =
+    let x : ℕ → Int = λ i. getD z i (record { v = pos 0 }) in x 0 ∷ x 1 ∷ x 2 ∷ x 3 ∷ []
+
+-- they make each point of at most four coordinates
+pub first-four : (n : ℕ) (z : List Int) → n ≤ 4 → pointOf n (firstFour z) ≡ pointOf n z
+first-four n z h =
+    several-same n (at (firstFour z)) (at z) (λ i l. below-four (λ j. at (firstFour z) j ≡ at z j) refl refl refl refl i (omega arith))
+
+-- a point of the first of four numbers: one coordinate, and then those that moved up by one
+moved-up : (n : ℕ) (a b c d : Int) → n < 4 → a .v ∷ pointOf n (b ∷ c ∷ d ∷ d ∷ []) ≡ pointOf (suc n) (a ∷ b ∷ c ∷ d ∷ [])
+moved-up n a b c d h =
+    below-four (λ m. a .v ∷ pointOf m (b ∷ c ∷ d ∷ d ∷ []) ≡ pointOf (suc m) (a ∷ b ∷ c ∷ d ∷ [])) refl refl refl refl n h
+
 -- ---- a turn of the loop: one coordinate more
 
-module _ (bs : List ℕ) (p k e : ℕ) (z : List Int) where
-  step-in : (n i : ℕ) → digitIn (rangeAt bs p) (at z k) ≡ At i →
-      numberFrom e (boxAt bs p (suc n)) (pointFrom k (suc n) z) ≡ numberFrom (e * side (rangeAt bs p) + i) (boxAt bs (p + 16) n) (pointFrom (k + 1) n z)
+module _ (bs : List ℕ) (p e n : ℕ) (x : ℤ) (z : Point) where
+  step-in : (i : ℕ) → digitIn (rangeAt bs p) x ≡ At i →
+      numberFrom e (boxAt bs p (suc n)) (x ∷ z) ≡ numberFrom (e * side (rangeAt bs p) + i) (boxAt bs (p + 16) n) z
   unfolding boxAt
-  step-in n i h =
-      let r = rangeAt bs p in
-      ap (numberFrom e (r ∷ boxAt bs (p + 16) n)) (pointFrom-cons k n z)
-      ∙ go (within (r .lo) (r .hi) (at z k)) refl h
+  step-in i h = go (within (rangeAt bs p .lo) (rangeAt bs p .hi) x) refl h
     where
-      go : (b : Bool) → within (rangeAt bs p .lo) (rangeAt bs p .hi) (at z k) ≡ b →
-          ifb b (λ _. At (natAbs (at z k -ℤ rangeAt bs p .lo))) (λ _. Off) ≡ At i →
-          numberFrom e (rangeAt bs p ∷ boxAt bs (p + 16) n) (at z k ∷ pointFrom (k + 1) n z)
-          ≡ numberFrom (e * side (rangeAt bs p) + i) (boxAt bs (p + 16) n) (pointFrom (k + 1) n z)
+      go : (b : Bool) → within (rangeAt bs p .lo) (rangeAt bs p .hi) x ≡ b → ifb b (λ _. At (natAbs (x -ℤ rangeAt bs p .lo))) (λ _. Off) ≡ At i →
+          numberFrom e (rangeAt bs p ∷ boxAt bs (p + 16) n) (x ∷ z) ≡ numberFrom (e * side (rangeAt bs p) + i) (boxAt bs (p + 16) n) z
       go true w q =
-          let d : natAbs (at z k -ℤ rangeAt bs p .lo) ≡ i = cc in
-          rw (numberFrom-in e (rangeAt bs p) (boxAt bs (p + 16) n) (at z k) (pointFrom (k + 1) n z) w, d) refl
+          let d : natAbs (x -ℤ rangeAt bs p .lo) ≡ i = cc in rw (numberFrom-in e (rangeAt bs p) (boxAt bs (p + 16) n) x z w, d) refl
       go false w q = absurd (let o : _≡_ {A = ℕ} 0 1 = cc in omega arith)
 
-  step-off : (n : ℕ) → digitIn (rangeAt bs p) (at z k) ≡ Off → numberFrom e (boxAt bs p (suc n)) (pointFrom k (suc n) z) ≡ Off
+  step-off : digitIn (rangeAt bs p) x ≡ Off → numberFrom e (boxAt bs p (suc n)) (x ∷ z) ≡ Off
   unfolding boxAt
-  step-off n h =
-      ap (numberFrom e (rangeAt bs p ∷ boxAt bs (p + 16) n)) (pointFrom-cons k n z)
-      ∙ go (within (rangeAt bs p .lo) (rangeAt bs p .hi) (at z k)) refl h
+  step-off h = go (within (rangeAt bs p .lo) (rangeAt bs p .hi) x) refl h
     where
-      go : (b : Bool) → within (rangeAt bs p .lo) (rangeAt bs p .hi) (at z k) ≡ b →
-          ifb b (λ _. At (natAbs (at z k -ℤ rangeAt bs p .lo))) (λ _. Off) ≡ Off →
-          numberFrom e (rangeAt bs p ∷ boxAt bs (p + 16) n) (at z k ∷ pointFrom (k + 1) n z) ≡ Off
+      go : (b : Bool) → within (rangeAt bs p .lo) (rangeAt bs p .hi) x ≡ b → ifb b (λ _. At (natAbs (x -ℤ rangeAt bs p .lo))) (λ _. Off) ≡ Off →
+          numberFrom e (rangeAt bs p ∷ boxAt bs (p + 16) n) (x ∷ z) ≡ Off
       go true w q = absurd (let o : _≡_ {A = ℕ} 0 1 = cc in omega arith)
-      go false w q = numberFrom-off e (rangeAt bs p) (boxAt bs (p + 16) n) (at z k) (pointFrom (k + 1) n z) w
+      go false w q = numberFrom-off e (rangeAt bs p) (boxAt bs (p + 16) n) x z w
 
 -- a digit is below the width
 pub digit-low : (r : Range) (x : ℤ) (i : ℕ) → digitIn r x ≡ At i → i < side r
@@ -114,44 +123,49 @@ digit-low r x i h = go (within (r .lo) (r .hi) x) refl h
     go true w q = let d : natAbs (x -ℤ r .lo) ≡ i = cc in omega (arith, d, within-among r x w .small)
     go false w q = absurd (let o : _≡_ {A = ℕ} 0 1 = cc in omega arith)
 
--- what the loop keeps: the number from here is the number asked for, it stays below 4,096, and the ranges are there
-pub record Kept (bs : List ℕ) (asked : Found) (z : List Int) (p k e n : ℕ) : Type 0 where
-  pub number : numberFrom e (boxAt bs p n) (pointFrom k n z) ≡ asked
+-- what the loop keeps, where the first n numbers of z are left: the number from here is the number asked for, it stays below 4,096, and
+-- the ranges are there
+pub record Kept (bs : List ℕ) (asked : Found) (z : List Int) (p e n : ℕ) : Type 0 where
+  pub number : numberFrom e (boxAt bs p n) (pointOf n z) ≡ asked
   pub low : (e + 1) * size (boxAt bs p n) ≤ 4096
   pub ranges : Ranges bs p n
-  pub few : k + n ≤ 4
+  pub few : n ≤ 4
 
-module _ {bs : List ℕ} {asked : Found} {z : List Int} {p k e : ℕ} where
-  pub kept-low : (n : ℕ) → Kept bs asked z p k e n → e < 4096
+module _ {bs : List ℕ} {asked : Found} {z : List Int} {p e : ℕ} where
+  pub kept-low : (n : ℕ) → Kept bs asked z p e n → e < 4096
   kept-low n h = omega (arith, mul-le-mul-left (e + 1) (size-pos (boxAt bs p n)), mul-one (e + 1), h .low)
 
-  pub kept-end : (n : ℕ) → n ≡ 0 → Kept bs asked z p k e n → At e ≡ asked
+  pub kept-end : (n : ℕ) → n ≡ 0 → Kept bs asked z p e n → At e ≡ asked
   unfolding boxAt
   kept-end n zeroed h = sym (numberFrom-end e) ∙ rw zeroed at (h .number)
 
-  pub kept-off : (n : ℕ) → 0 < n → Kept bs asked z p k e n → digitIn (rangeAt bs p) (at z k) ≡ Off → Off ≡ asked
+  pub kept-off : (n : ℕ) → 0 < n → Kept bs asked z p e n → digitIn (rangeAt bs p) (at z 0) ≡ Off → Off ≡ asked
   kept-off zero l h d = absurd (omega arith)
-  kept-off (suc n) l h d = sym (step-off bs p k e z n d) ∙ h .number
+  kept-off (suc n) l h d = sym (step-off bs p e n (at z 0) _ d) ∙ h .number
 
-  pub kept-head : (n : ℕ) → 0 < n → Kept bs asked z p k e n → Ranges bs p 1
+  pub kept-head : (n : ℕ) → 0 < n → Kept bs asked z p e n → Ranges bs p 1
   kept-head zero l h = absurd (omega arith)
   kept-head (suc n) l h = ranges-head bs p n (h .ranges)
 
-  more : (n i : ℕ) → Kept bs asked z p k e (suc n) → digitIn (rangeAt bs p) (at z k) ≡ At i →
-      Kept bs asked z (p + 16) (k + 1) (e * side (rangeAt bs p) + i) n
+module _ {bs : List ℕ} {asked : Found} {x0 x1 x2 x3 : Int} {p e : ℕ} where
+  more : (n i : ℕ) → Kept bs asked (x0 ∷ x1 ∷ x2 ∷ x3 ∷ []) p e (suc n) → digitIn (rangeAt bs p) (x0 .v) ≡ At i →
+      Kept bs asked (x1 ∷ x2 ∷ x3 ∷ x3 ∷ []) (p + 16) (e * side (rangeAt bs p) + i) n
   unfolding boxAt
   more n i h d =
       let w = side (rangeAt bs p) in
       let rest = size (boxAt bs (p + 16) n) in
-      let i-low : e * w + i + 1 ≤ (e + 1) * w = omega (arith, add-mul e 1 w, digit-low (rangeAt bs p) (at z k) i d) in
+      let i-low : e * w + i + 1 ≤ (e + 1) * w = omega (arith, add-mul e 1 w, digit-low (rangeAt bs p) (x0 .v) i d) in
       record {
-        number = sym (step-in bs p k e z n i d) ∙ h .number;
+        number =
+            sym (step-in bs p e n (x0 .v) (pointOf n (x1 ∷ x2 ∷ x3 ∷ x3 ∷ [])) i d)
+            ∙ ap (numberFrom e (boxAt bs p (suc n))) (moved-up n x0 x1 x2 x3 (omega (arith, h .few)))
+            ∙ h .number;
         low = omega (arith, mul-le-mul-right rest i-low, mul-assoc (e + 1) w rest, h .low);
         ranges = ranges-tail bs p n (h .ranges);
         few = omega (arith, h .few);
       }
 
-  pub kept-more : (n i : ℕ) → 0 < n → Kept bs asked z p k e n → digitIn (rangeAt bs p) (at z k) ≡ At i →
-      Kept bs asked z (p + 16) (k + 1) (e * side (rangeAt bs p) + i) (n - 1)
+  pub kept-more : (n i : ℕ) → 0 < n → Kept bs asked (x0 ∷ x1 ∷ x2 ∷ x3 ∷ []) p e n → digitIn (rangeAt bs p) (x0 .v) ≡ At i →
+      Kept bs asked (x1 ∷ x2 ∷ x3 ∷ x3 ∷ []) (p + 16) (e * side (rangeAt bs p) + i) (n - 1)
   kept-more zero i l h d = absurd (omega arith)
   kept-more (suc n) i l h d = rw (sub-one (suc n)) (more n i h d)

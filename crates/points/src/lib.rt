@@ -2,9 +2,8 @@
 // record stands. Assumes nothing.
 use alpha::Int;
 ghost use mathlib.Core.Path.{_≡_};
-ghost use Prim.Native.Nat.{ℕ, _+_, _*_, _≤_, _<_};
-ghost use lib.ListN.{length};
-ghost use lib.IntN.{ℤ, pos, natAbs, _+ℤ_, _-ℤ_};
+ghost use Prim.Native.Nat.{_≤_, _<_};
+ghost use lib.IntN.{pos, natAbs, _+ℤ_, _-ℤ_};
 ghost use Rattle.alpha.specs.Box.{side, size};
 ghost use Rattle.alpha.specs.Field.{field};
 ghost use Rattle.affine.specs.Value.{pointOf};
@@ -57,23 +56,29 @@ fn digit(s: &[u8], p: usize, x: Int) -> Found
     }
 }
 
-// The number of z in the box of the record at `place`.
+// The number of z in the box of the record at `place`. x0 is the next coordinate, and the later ones move up one by one: z is read at fixed
+// places only, so that the compiler keeps the coordinates in registers and does not copy z in memory.
 pub fn index(s: &[u8], place: usize, z: [Int; 4]) -> Found
     requires { ⌜ Recorded (now s) place × (size (boxOf (now s) place) ≤ 4096) ⌝ }
     ensures { λ r. ⌜ r ≡ numberIn (boxOf (now (s .entry)) place) (pointOf (dimensionAt (now (s .entry)) place) z) ⌝ }
 {
     let mut left = dimension(s, place);
     let mut p = place + 32;
-    let mut k: usize = 0;
     let mut e: usize = 0;
+    let mut x0 = z[0];
+    let mut x1 = z[1];
+    let mut x2 = z[2];
+    let x3 = z[3];
     while left > 0 {
-        let d = digit(s, p, z[k]);
+        let d = digit(s, p, x0);
         let Found::At(i) = d else {
             return Found::Off;
         };
         e = e * width(s, p) + i;
+        x0 = x1;
+        x1 = x2;
+        x2 = x3;
         p += 16;
-        k += 1;
         left -= 1;
     }
     Found::At(e)

@@ -1,9 +1,7 @@
 -- `row_of` meets its contract: row i lies among the k rows. Assumes nothing.
 use borrow.Author.Needs.{needs}
 use native.Mathlib.Omega.{arith}
-use mathlib.Core.Path.{refl}
-use Rattle.affine.proofs.Several.{zeros-at}
-use Rattle.affine.proofs.Fetched.{span-small, place-inside}
+use Rattle.affine.proofs.Fetched.{span-small, place-inside, row-among, past-among}
 use Rattle.affine.proofs.row_of.Statement.{statement}
 use Rattle.affine.proofs.row_of.Tie as tie
 
@@ -29,20 +27,10 @@ row-read-requires c κs =
     let h = place-inside (s .args .i) (s .args .k) (s .args .n) (c .if1 .taken) in (s .pre .0, omega arith)
 
 returns : tie.Need-returns
-returns c =
-    record {
-      is = λ h. c .row-read .ensures .0;
-      rest = c .row-read .ensures .1 .rest;
-      zeros = λ h. absurd (omega arith);
-    }
+returns c = row-among (c .before .if1 .taken) (c .row-read .ensures .0) (c .row-read .ensures .1)
 
 returns-2 : tie.Need-returns-2
-returns-2 c =
-    record {
-      is = λ h. absurd (omega arith);
-      rest = λ j h. zeros-at j;
-      zeros = λ h. record { coefs = λ j k. zeros-at j; const = refl };
-    }
+returns-2 c = past-among (c .if1 .left)
 
 pub row-of-spec : {M : Type 1} → statement M
 row-of-spec =

@@ -1,6 +1,5 @@
 -- `rows_read` meets its contract. Assumes nothing.
 use borrow.Author.Needs.{needs}
-use mathlib.Core.Path.{refl}
 use Rattle.affine.proofs.Fetched.{rows-are}
 use Rattle.affine.proofs.rows_read.Statement.{statement}
 use Rattle.affine.proofs.rows_read.Tie as tie
@@ -23,11 +22,8 @@ returns c =
     let c2 = c3 .before in
     let c1 = c2 .before in
     let s = c1 .before .before in
-    let both =
     rows-are (s .args .b .now) (s .args .p) (s .args .k) (s .args .n) (s .pre .0) (s .pre .1)
-    (c1 .row-of .result) (c2 .row-of2 .result) (c3 .row-of3 .result) (c .row-of4 .result)
-    (c1 .row-of .ensures) (c2 .row-of2 .ensures) (c3 .row-of3 .ensures) (c .row-of4 .ensures) in
-    (both .0, both .1, refl, refl)
+    (c1 .row-of .ensures) (c2 .row-of2 .ensures) (c3 .row-of3 .ensures) (c .row-of4 .ensures)
 
 pub rows-read-spec : {M : Type 1} → statement M
 rows-read-spec =
