@@ -16,6 +16,7 @@ use Rattle.evaluate.specs.declared.Work.{Work}
 use Rattle.evaluate.specs.declared.Work.the-variants.{Outside, Value, DivZero, Overflow, Loop, Deep}
 use Rattle.evaluate.specs.Memo.{busy, unknown, Memo, codeAt, sum, busyOne, toDo, Right, Waits, Says, Said, noted, codeOf}
 use Rattle.evaluate.specs.Memo.{valueOf}
+use Rattle.evaluate.specs.Memo as Memo
 use Rattle.evaluate.specs.Working.{elementAt, outcomes, Bodied, Ready, Done}
 use Rattle.evaluate.specs.Settling.{bodyOf, standing, Stacked, Linked, Turned, Idle, Settled}
 use Rattle.evaluate.proofs.Stores.{decide, code-same, code-other, sum-store, answer-unmarked, loop-down, right-set, said-stored}
@@ -292,6 +293,10 @@ module _ (s : Sheet) (memo : Memo) (M : Ready s memo) (stack : List ℕ) (high :
 
 -- ---- from the first turn to the last
 
+-- a code that is no unknown element's, and none in progress, is a settled one's
+under-busy : (c : ℕ) → c < 6 → (c ≡ busy → ⊥) → c ≤ 4
+under-busy c l ne = omega (arith, ne)
+
 -- element e was put on an empty stack, which left memo, and so far
 pub record Going (s : Sheet) (e : ℕ) (memo memo′ : Memo) (stack : List ℕ) (high : ℕ) : Type 0 where
   pub ready : Ready s memo′
@@ -319,9 +324,27 @@ module _ (s : Sheet) (e : ℕ) (memo : Memo) (M : Ready s memo) (idle : Idle mem
     settled = under-busy (codeAt memo e) l (idle-none memo idle e);
     right = λ ins R. R;
   }
-    where
-      under-busy : (c : ℕ) → c < 6 → (c ≡ busy → ⊥) → c ≤ 4
-      under-busy c l ne = omega (arith, ne)
+
+  -- after one attempt at it
+  module _ (last : Memo) (r : Work) (D : Done s memo last (λ ins. Memo.element (outcomes s ins) e) r) where
+    pub idle-after : Idle last
+    idle-after = D .kept .marks ∙ idle
+
+    -- every entry is right, since no element waits for this one
+    attempt-right : (ins : List ℤ) → Right (outcomes s ins) (total s) memo → Right (outcomes s ins) (total s) last
+    attempt-right ins R = D .said ins R (record { waits = λ m h b k q. absurd (idle-none memo idle m b) }) .right
+
+    -- it is settled, or unknown still
+    pub attempted : codeAt last e < 6 → Settled s e memo last
+    attempted l = record {
+      ready = ready-kept s memo last M (D .kept);
+      idle = idle-after;
+      settled = under-busy (codeAt last e) l (idle-none last idle-after e);
+      right = attempt-right;
+    }
+
+    pub settled-after : (memo′ : Memo) → Settled s e last memo′ → Settled s e memo memo′
+    settled-after memo′ S = record { ready = S .ready; idle = S .idle; settled = S .settled; right = λ ins R. S .right ins (attempt-right ins R) }
 
   -- it is marked, and put on the stack
   module _ (late : 6 ≤ codeAt memo e) where

@@ -46,20 +46,19 @@ fn fill(
     ends: &[u16; 8192],
     known: &mut [u8; 4096],
     found: &mut [i32; 4096],
-    stack: &mut [u16; 4096],
     v: usize,
     codes: &mut [u8],
     values: &mut [i32],
 )
-    requires { ⌜ Formed (now s) (now tab) × Inside (sheetOf (now s)) (now inside) × Ready (sheetOf (now s)) (memoOf (now known) (now found)) × Idle (memoOf (now known) (now found)) × (length (now stack) ≡ 4096) × (v < varsOf (now s)) × (length (now codes) ≡ size (variable (sheetOf (now s)) v .head .box)) × (length (now values) ≡ size (variable (sheetOf (now s)) v .head .box)) × EndsKept (now s) (now ends) ⌝ }
-    ensures { λ _. ⌜ FillsVariable (sheetOf (now (s .entry))) v (memoOf (now (known .entry)) (now (found .entry))) (memoOf (now (known .exit)) (now (found .exit))) (now (codes .exit)) (now (values .exit)) × (length (now (stack .exit)) ≡ 4096) ⌝ }
+    requires { ⌜ Formed (now s) (now tab) × Inside (sheetOf (now s)) (now inside) × Ready (sheetOf (now s)) (memoOf (now known) (now found)) × Idle (memoOf (now known) (now found)) × (v < varsOf (now s)) × (length (now codes) ≡ size (variable (sheetOf (now s)) v .head .box)) × (length (now values) ≡ size (variable (sheetOf (now s)) v .head .box)) × EndsKept (now s) (now ends) ⌝ }
+    ensures { λ _. ⌜ FillsVariable (sheetOf (now (s .entry))) v (memoOf (now (known .entry)) (now (found .entry))) (memoOf (now (known .exit)) (now (found .exit))) (now (codes .exit)) (now (values .exit)) ⌝ }
 {
     let first = first_element(tab, v);
     let n = codes.len();
     let mut i = 0;
     while i < n {
         let e = first + i;
-        settle(s, tab, inside, ends, known, found, stack, e);
+        settle(s, tab, inside, ends, known, found, e);
         put(known, found, e, codes, values, i);
         i += 1;
     }
@@ -80,7 +79,6 @@ pub fn fill_all(
 {
     let mut ends = [0u16; 8192];
     keep_all(s, tab, &mut ends);
-    let mut stack = [0u16; 4096];
     let n = variable_count(tab);
     let mut v = 0;
     while v < n {
@@ -93,7 +91,6 @@ pub fn fill_all(
             &ends,
             known,
             found,
-            &mut stack,
             v,
             &mut codes[from..to],
             &mut values[from..to],

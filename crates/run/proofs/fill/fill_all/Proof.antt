@@ -20,12 +20,12 @@ use Rattle.run.proofs.fill.fill_all.Statement.{statement}
 use Rattle.run.proofs.fill.fill_all.Tie as tie
 
 abbrev Inv-loop : tie.InvT-loop
-Inv-loop s tab inside known₀ found₀ codes₀ values₀ ends stack₀ n v₀ known found codes values stack v =
+Inv-loop s tab inside known₀ found₀ codes₀ values₀ ends n v₀ known found codes values v =
     FillsAll (sheetOf s) (memoOf known₀ found₀) (before (sheetOf s) v) codes₀ codes values₀ values
-    × Advances (sheetOf s) (memoOf known₀ found₀) (memoOf known found) × (length stack ≡ 4096) × (v ≤ varsOf s)
+    × Advances (sheetOf s) (memoOf known₀ found₀) (memoOf known found) × (v ≤ varsOf s)
 
 abbrev μ-loop : tie.MeasureT-loop
-μ-loop s tab inside known₀ found₀ codes₀ values₀ ends stack₀ n v₀ known found codes values stack v = n - v
+μ-loop s tab inside known₀ found₀ codes₀ values₀ ends n v₀ known found codes values v = n - v
 
 abbrev start : tie.In-loop Inv-loop μ-loop → tie.Start Inv-loop μ-loop
 start c = c .before .before .before .before .before .before .before
@@ -64,7 +64,7 @@ loop-holds : tie.Need-loop-holds Inv-loop μ-loop
 loop-holds c =
     let s = c .before .before .before .before .before in
     let p = s .pre in
-    (fills-start _ _ _ _, advances-none _ _ (p .2) (p .3), refl, omega arith)
+    (fills-start _ _ _ _, advances-none _ _ (p .2) (p .3), omega arith)
 
 first-element-requires : tie.Need-first-element-requires Inv-loop μ-loop
 first-element-requires c κs = omega (arith, laid c .low)
@@ -116,75 +116,75 @@ ends c =
 
 sub-fill : tie.Need-sub-fill Inv-loop μ-loop
 sub-fill c =
-    let after-first-element2 = c .before .before .before .before in
+    let after-first-element2 = c .before .before .before in
     let after-first-element = after-first-element2 .before in
     let in-loop = after-first-element .before in
     let l = laid in-loop in omega (arith, from-is after-first-element, to-is after-first-element2)
 
 part-fill-start : tie.Need-part-fill-start Inv-loop μ-loop
 part-fill-start c =
-    let after-first-element2 = c .before .before .before .before in
+    let after-first-element2 = c .before .before .before in
     let after-first-element = after-first-element2 .before in
     let in-loop = after-first-element .before in
     let l = laid in-loop in omega (arith, from-is after-first-element, to-is after-first-element2)
 
 part-fill-end : tie.Need-part-fill-end Inv-loop μ-loop
 part-fill-end c =
-    let after-first-element2 = c .before .before .before .before in
+    let after-first-element2 = c .before .before .before in
     omega (arith, in-codes after-first-element2)
 
 mul-fill : tie.Need-mul-fill Inv-loop μ-loop
 mul-fill c =
-    let after-first-element = c .before .before .before .before .before .before in
+    let after-first-element = c .before .before .before .before .before in
     let in-loop = after-first-element .before in
     let small : after-first-element .first-element .result ≤ 4096 = omega (arith, from-is after-first-element, laid in-loop .few) in search needs
 
 sub-fill-2 : tie.Need-sub-fill-2 Inv-loop μ-loop
 sub-fill-2 c =
-    let after-first-element2 = c .before .before .before .before .before in
+    let after-first-element2 = c .before .before .before .before in
     let after-first-element = after-first-element2 .before in
     let in-loop = after-first-element .before in
     let l = laid in-loop in omega (arith, from-is after-first-element, to-is after-first-element2)
 
 part-fill-start-2 : tie.Need-part-fill-start-2 Inv-loop μ-loop
 part-fill-start-2 c =
-    let after-first-element2 = c .before .before .before .before .before in
+    let after-first-element2 = c .before .before .before .before in
     let after-first-element = after-first-element2 .before in
     let in-loop = after-first-element .before in
     let l = laid in-loop in omega (arith, from-is after-first-element, to-is after-first-element2)
 
 part-fill-end-2 : tie.Need-part-fill-end-2 Inv-loop μ-loop
 part-fill-end-2 c =
-    let after-first-element2 = c .before .before .before .before .before in
+    let after-first-element2 = c .before .before .before .before in
     omega (arith, in-values after-first-element2)
 
 fill-requires : tie.Need-fill-requires Inv-loop μ-loop
 fill-requires c κs =
-    let t = c .before .before .before .before .before .before in
+    let t = c .before .before .before .before .before in
     let l = t .before .before in
     let at-loop = l .before in
     let p = start l .pre in
     let m = at-loop .loop .inv in
     let wide = stretch-is t in
     let kept = at-loop .before .before .keep-all .ensures in
-    (p .0, p .1, m .1 .ready, m .1 .idle, m .2, known l, part-long _ _ _ _ wide (in-codes t) (order t), part-long _ _ _ _ wide (in-values t) (order t), kept)
+    (p .0, p .1, m .1 .ready, m .1 .idle, known l, part-long _ _ _ _ wide (in-codes t) (order t), part-long _ _ _ _ wide (in-values t) (order t), kept)
 
 add-v : tie.Need-add-v Inv-loop μ-loop
 add-v c =
-    let l = c .before .before .before .before .before .before .before .before .before .before .before .before in
+    let l = c .before .before .before .before .before .before .before .before .before .before .before in
     let after-variable-count = l .before .before in
     let few = prepared-sections _ _ (start l .pre .0 .placed .prepared) .few in
     omega (arith, few, count-is after-variable-count, l .loop-test .taken)
 
 loop-less : tie.Need-loop-less Inv-loop μ-loop
 loop-less c =
-    let in-loop = c .before .before .before .before .before .before .before .before .before .before .before .before in
+    let in-loop = c .before .before .before .before .before .before .before .before .before .before .before in
     omega (arith, in-loop .loop-test .taken)
 
 loop-again : tie.Need-loop-again Inv-loop μ-loop
 loop-again c =
     let after-fill = c .before .before .before in
-    let t = after-fill .before .before .before .before .before .before .before in
+    let t = after-fill .before .before .before .before .before .before in
     let after-first-element = t .before in
     let l = after-first-element .before in
     let at-loop = l .before in
@@ -193,10 +193,10 @@ loop-again c =
     let m = at-loop .loop .inv in
     let F = after-fill .fill .ensures in
     let next =
-    fills-on sheet (at-loop .loop .v) _ _ (from-is after-first-element) (to-is t) _ _ _ (m .1) _ _ _ _ _ _ (m .0) (F .0)
+    fills-on sheet (at-loop .loop .v) _ _ (from-is after-first-element) (to-is t) _ _ _ (m .1) _ _ _ _ _ _ (m .0) F
     (omega (arith, room t .0)) (omega (arith, room t .1)) in
     let one : t .first-element2 .result ≡ before sheet (at-loop .loop .v + 1) = ends t in
-    (fills-at _ _ _ _ _ _ _ _ one next, advances-on _ _ _ _ (m .1) (F .0 .advances), F .1, omega (arith, known l))
+    (fills-at _ _ _ _ _ _ _ _ one next, advances-on _ _ _ _ (m .1) (F .advances), omega (arith, known l))
 
 same-length : tie.Need-same-length Inv-loop μ-loop
 same-length c = c .before .loop .inv .0 .codes-long
@@ -209,7 +209,7 @@ returns c =
     let s = c .before .before .before .before .before .before .before in
     let m = c .before .loop .inv in
     let all : c .before .loop .v ≡ length (sheetOf (s .args .s .now)) =
-    omega (arith, count-is (c .before .before), c .loop-test .left, m .3, laid-length _ _ (s .pre .0 .placed)) in
+    omega (arith, count-is (c .before .before), c .loop-test .left, m .2, laid-length _ _ (s .pre .0 .placed)) in
     fills-at _ _ _ _ _ _ _ _ (ap (before (sheetOf (s .args .s .now))) all ∙ before-all (sheetOf (s .args .s .now))) (m .0)
 
 pub fill-all-spec : {M : Type 1} → statement M
