@@ -13,7 +13,6 @@ use sheet::table::first_element;
 use sheet::table::record_place;
 ghost use mathlib.Core.Path.{_≡_};
 ghost use Prim.Native.Nat.{_≤_, _<_};
-ghost use lib.ListN.{length};
 ghost use Rattle.alpha.specs.Check.{total};
 ghost use Rattle.laws.specs.Sheets.{sheetOf};
 ghost use Rattle.tree.specs.Formed.{Formed};

@@ -4,7 +4,7 @@ use sheet::table::first_element;
 use sheet::table::variable_count;
 use tree::ends::keep_all;
 ghost use mathlib.Core.Path.{_≡_};
-ghost use Prim.Native.Nat.{ℕ, _≤_, _<_};
+ghost use Prim.Native.Nat.{_≤_, _<_};
 ghost use lib.ListN.{length, getD, set};
 ghost use Rattle.alpha.specs.Box.{size};
 ghost use Rattle.alpha.specs.Check.{total};

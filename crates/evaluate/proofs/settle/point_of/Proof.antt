@@ -3,7 +3,6 @@ use Prim.Native.Nat.{_<_}
 use native.Mathlib.Omega.{arith}
 use Rattle.domain.proofs.Records.{laid-variable}
 use Rattle.evaluate.proofs.Owning.{owned-low, size-is, place-low, owned-element}
-use borrow.Author.Needs.{needs}
 use Rattle.evaluate.proofs.settle.point_of.Statement.{statement}
 use Rattle.evaluate.proofs.settle.point_of.Tie as tie
 

@@ -3,7 +3,6 @@
 use mathlib.Core.Path.{_≡_, _∙_}
 use Prim.Native.Nat.{_+_, _-_, _<_}
 use native.Mathlib.Omega.{arith}
-use lib.ListN.{length}
 use Rattle.alpha.specs.Box.{size}
 use Rattle.alpha.specs.Holds.{variable}
 use Rattle.alpha.specs.Check.{total}

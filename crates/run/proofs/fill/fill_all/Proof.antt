@@ -1,6 +1,6 @@
 -- `run::fill_all` meets its contract. The loop's invariant: the stretches of the variables before v are filled. The measure is how many are
 -- left. Assumes nothing.
-use mathlib.Core.Path.{_≡_, refl, ap, _∙_}
+use mathlib.Core.Path.{_≡_, ap, _∙_}
 use Prim.Native.Nat.{suc, _+_, _-_, _≤_, _<_}
 use native.Mathlib.Omega.{arith}
 use borrow.Author.Needs.{needs}
