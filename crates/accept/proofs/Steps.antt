@@ -23,7 +23,7 @@ use Rattle.tree.specs.Ruled.{ruled, formsOf}
 use Rattle.tree.specs.declared.Ruling.{Ruling}
 use Rattle.tree.specs.declared.Ruling.the-variants.{Passes, Refused as Ruled}
 use Rattle.domain.specs.Inside.{Inside}
-use Rattle.accept.specs.Admits.{Admits}
+use Rattle.accept.specs.Admits.{Forms, Admits, Accepts}
 use Rattle.tree.specs.Prepared.{Prepared}
 use Rattle.tree.proofs.Checking.{check-refused, check-formed}
 
@@ -73,15 +73,30 @@ pub refused-admits : (bs tab inside : List ℕ) (r : Verdict) (k : Refusal) → 
 refused-admits bs tab inside r k e a =
     record { answer = ap told e ∙ a; admitted = λ n q. absurd (let z : _≡_ {A = ℕ} 0 1 = cc in omega arith) }
 
+-- a refusal before the elements are looked at
+refused-forms : (bs tab : List ℕ) (r : Verdict) (k : Refusal) → r ≡ Refused k → refused (numberOf k) (placeOf k) ≡ totalOf (check bs) → Forms bs tab r
+refused-forms bs tab r k e a = record {
+  refuses = λ j q. subst (λ (v : Verdict). told v ≡ totalOf (check bs)) (sym e ∙ q) a;
+  formed = λ n q. absurd (let z : _≡_ {A = ℕ} 0 1 = cc in omega arith);
+  read = λ n q. absurd (let z : _≡_ {A = ℕ} 0 1 = cc in omega arith);
+}
+
 -- reading refused
-pub read-admits : (bs tab inside : List ℕ) (r : Verdict) (k : Refusal) → r ≡ Refused k → told r ≡ readAnswer bs → Admits bs tab inside r
-read-admits bs tab inside r k e a = refused-admits bs tab inside r k e (read-refuses bs (numberOf k) (placeOf k) (sym (ap told e) ∙ a))
+pub read-forms : (bs tab : List ℕ) (r : Verdict) (k : Refusal) → r ≡ Refused k → told r ≡ readAnswer bs → Forms bs tab r
+read-forms bs tab r k e a = refused-forms bs tab r k e (read-refuses bs (numberOf k) (placeOf k) (sym (ap told e) ∙ a))
 
 -- SHAPE, TYPE or REACH refused
-pub forms-admit : (bs tab₀ tab inside : List ℕ) (f : Ruling) (k : Refusal) → Prepared bs tab₀ → f ≡ Ruled k → ruled f ≡ formsOf bs →
-    Admits bs tab inside (Refused k)
-forms-admit bs tab₀ tab inside f k h e a =
-    refused-admits bs tab inside (Refused k) k refl (forms-refuse bs tab₀ h (numberOf k) (placeOf k) (sym (ap ruled e) ∙ a))
+pub rules-form : (bs tab₀ tab : List ℕ) (f : Ruling) (k : Refusal) → Prepared bs tab₀ → f ≡ Ruled k → ruled f ≡ formsOf bs → Forms bs tab (Refused k)
+rules-form bs tab₀ tab f k h e a =
+    refused-forms bs tab (Refused k) k refl (forms-refuse bs tab₀ h (numberOf k) (placeOf k) (sym (ap ruled e) ∙ a))
+
+-- none did
+pub all-form : (bs tab : List ℕ) (r : Verdict) (n : ℕ) → Formed bs tab → r ≡ Accepted n → told r ≡ readAnswer bs → Forms bs tab (Accepted n)
+all-form bs tab r n f e a = record {
+  refuses = λ k q. absurd (let z : _≡_ {A = ℕ} 0 1 = cc in omega arith);
+  formed = λ m q. f;
+  read = λ m q. subst (λ (v : Verdict). told v ≡ readAnswer bs) (e ∙ q) a;
+}
 
 -- GAP or CLASH refused
 pub faults-admit : (bs tab inside : List ℕ) (g : Ruling) (k : Refusal) → Formed bs tab → g ≡ Ruled k →
@@ -90,15 +105,19 @@ faults-admit bs tab inside g k f e a =
     refused-admits bs tab inside (Refused k) k refl (faults-refuse bs tab f (numberOf k) (placeOf k) (sym (ap ruled e) ∙ a))
 
 -- nothing refused
-pub all-admit : (bs tab inside : List ℕ) (r : Verdict) (n : ℕ) (g : Ruling) → Formed bs tab → Inside (sheetOf bs) inside → r ≡ Accepted n →
-    told r ≡ readAnswer bs → g ≡ Passes → ruled g ≡ faults (sheetOf bs) 0 (elements (sheetOf bs)) → Admits bs tab inside (Accepted n)
-all-admit bs tab inside r n g f i e a p q =
+pub all-admit : (bs tab inside : List ℕ) (n : ℕ) (g : Ruling) → Formed bs tab → Inside (sheetOf bs) inside → accepted n ≡ readAnswer bs →
+    g ≡ Passes → ruled g ≡ faults (sheetOf bs) 0 (elements (sheetOf bs)) → Admits bs tab inside (Accepted n)
+all-admit bs tab inside n g f i a p q =
     let pass : accepted tt ≡ faults (sheetOf bs) 0 (elements (sheetOf bs)) = sym (ap ruled p) ∙ q in
     record {
-      answer = total-told bs tab f n (sym (ap told e) ∙ a) pass;
+      answer = total-told bs tab f n a pass;
       admitted = λ m h. record { sheet-is = all-pass bs tab f pass; formed = f; filled = i };
     }
 
 -- after reading, the walkers may walk
 pub prepared-after : (bs tab : List ℕ) (r : Verdict) (n : ℕ) → r ≡ Accepted n → Reads bs tab r → Prepared bs tab
 prepared-after bs tab r n e h = read-prepared bs tab n (subst (Reads bs tab) e h)
+
+-- what was told before the elements were looked at is told of the whole
+pub forms-accept : (bs tab : List ℕ) (r : Verdict) (k : Refusal) → r ≡ Refused k → Forms bs tab r → Accepts bs tab r
+forms-accept bs tab r k e h = record { inside = []; admits = refused-admits bs tab [] r k e (h .refuses k e) }

@@ -13,20 +13,20 @@ use tree::variable::kind_of;
 ghost use Prim.Native.Nat.{ℕ, _≤_};
 ghost use mathlib.Core.Path.{_≡_};
 ghost use lib.ListN.{length};
+ghost use Rattle.alpha.specs.Answer.{accepted};
 ghost use Rattle.alpha.specs.Ask.{noPart, partOf, bodyPart, numbered};
 ghost use Rattle.alpha.specs.Promise.{Checks, Numbers, Finds};
 ghost use Rattle.alpha.specs.Verdict.{told};
 ghost use Rattle.affine.specs.Value.{pointOf};
 ghost use Rattle.laws.specs.Sheets.{sheetOf};
+ghost use Rattle.sheet.specs.Table.{readAnswer};
 ghost use Rattle.tree.specs.Formed.{Formed};
-ghost use Rattle.accept.specs.Admits.{Admits};
+ghost use Rattle.accept.specs.Admits.{Forms, Admits, Accepts};
 ghost use Rattle.accept.specs.Shown.{IsPart};
 
-// Reads the sheet, then SHAPE, TYPE and REACH, then GAP and CLASH at each element. Where it is accepted, the table has its places and
-// each element's byte says whether it is inside its declared domain.
-pub fn admit(s: &[u8], tab: &mut [usize; 102], inside: &mut [u8; 4096]) -> Verdict
-    requires { ⌜ length (now inside) ≡ 4096 ⌝ }
-    ensures { λ r. ⌜ Admits (now (s .entry)) (now (tab .exit)) (now (inside .exit)) r ⌝ }
+// Reads the sheet, then SHAPE, TYPE and REACH: the element total, with the sheet's places in the table, or refusal 1 to 9.
+pub fn form(s: &[u8], tab: &mut [usize; 102]) -> Verdict
+    ensures { λ r. ⌜ Forms (now (s .entry)) (now (tab .exit)) r ⌝ }
 {
     let r = sheet::read(s, tab);
     let Verdict::Accepted(total) = r else {
@@ -36,6 +36,15 @@ pub fn admit(s: &[u8], tab: &mut [usize; 102], inside: &mut [u8; 4096]) -> Verdi
     if let Ruling::Refused(why) = f {
         return Verdict::Refused(why);
     }
+    Verdict::Accepted(total)
+}
+
+// Then GAP and CLASH at each element of a sheet that `form` let pass with `total` elements. Where it is accepted, each element's byte says
+// whether it is inside its declared domain.
+pub fn admit(s: &[u8], tab: &[usize; 102], total: usize, inside: &mut [u8; 4096]) -> Verdict
+    requires { ⌜ Formed (now s) (now tab) × (accepted total ≡ readAnswer (now s)) × (length (now inside) ≡ 4096) ⌝ }
+    ensures { λ r. ⌜ Admits (now (s .entry)) (now (tab .entry)) (now (inside .exit)) r ⌝ }
+{
     let g = domain::domains(s, tab, inside);
     if let Ruling::Refused(fault) = g {
         return Verdict::Refused(fault);
@@ -43,13 +52,25 @@ pub fn admit(s: &[u8], tab: &mut [usize; 102], inside: &mut [u8; 4096]) -> Verdi
     Verdict::Accepted(total)
 }
 
+// The whole check: the element total, with the sheet's places in the table, or refusal 1 to 11. No byte of an element is made before
+// refusals 1 to 9 are told.
+pub fn judge(s: &[u8], tab: &mut [usize; 102]) -> Verdict
+    ensures { λ r. ⌜ Accepts (now (s .entry)) (now (tab .exit)) r ⌝ }
+{
+    let r = form(s, tab);
+    let Verdict::Accepted(total) = r else {
+        return r;
+    };
+    let mut inside = [0u8; 4096];
+    admit(s, tab, total, &mut inside)
+}
+
 // The element total, or refusal 1 to 11 with its place.
 pub fn check(s: &[u8]) -> Verdict
     ensures { λ r. ⌜ Checks (now (s .entry)) r ⌝ }
 {
     let mut tab = [0usize; 102];
-    let mut inside = [0u8; 4096];
-    admit(s, &mut tab, &mut inside)
+    judge(s, &mut tab)
 }
 
 // A part of a sheet: where it starts, and how long it is.
@@ -90,8 +111,7 @@ pub fn find_body(s: &[u8], variable: u64) -> Part
     ensures { λ p. ⌜ IsPart (now (s .entry)) (bodyPart (now (s .entry)) variable) p ⌝ }
 {
     let mut tab = [0usize; 102];
-    let mut inside = [0u8; 4096];
-    let r = admit(s, &mut tab, &mut inside);
+    let r = judge(s, &mut tab);
     let Verdict::Accepted(_) = r else {
         return nothing(s);
     };
@@ -151,8 +171,7 @@ pub fn element(s: &[u8], variable: u64, point: &[i64]) -> Verdict
     ensures { λ r. ⌜ Numbers (now (s .entry)) variable (now (point .entry)) r ⌝ }
 {
     let mut tab = [0usize; 102];
-    let mut inside = [0u8; 4096];
-    let judged = admit(s, &mut tab, &mut inside);
+    let judged = judge(s, &mut tab);
     let Verdict::Accepted(_) = judged else {
         return judged;
     };

@@ -1,7 +1,7 @@
 // The normaliser: the sheet with every body in normal form (source document 002, 8.1 to 8.3), or WIDE or ROOM. Nothing is copied but the
 // first two sections: a case has its children's branches in turn; a branch of any other tree is found by its number, counted over the tree,
 // and followed from the top down with the map composed so far, once for its constraints and once for its tree. Assumes nothing.
-use accept::admit;
+use accept::judge;
 use alpha::Refusal;
 use alpha::Verdict;
 use sheet::table::third_place;
@@ -68,8 +68,7 @@ pub fn normalise(s: &[u8], out: &mut [u8]) -> Verdict
     ensures { λ r. ⌜ Normalises (now (s .entry)) (now (out .entry)) (now (out .exit)) r ⌝ }
 {
     let mut tab = [0usize; 102];
-    let mut inside = [0u8; 4096];
-    let r = admit(s, &mut tab, &mut inside);
+    let r = judge(s, &mut tab);
     let Verdict::Accepted(_) = r else {
         return r;
     };

@@ -22,7 +22,6 @@ pub fn report(
     ensures { λ r. ⌜ Wrote (now (out .entry)) (now (out .exit)) 0 r (reportIn (sheetOf (now (s .entry))) (now (codes .entry)) (now (values .entry))) × (r ≤ 208910) × (check (now (s .entry)) ≡ Answer.accepted (sheetOf (now (s .entry)))) ⌝ }
 {
     let mut tab = [0usize; 102];
-    let mut inside = [0u8; 4096];
-    accept::admit(s, &mut tab, &mut inside);
+    accept::judge(s, &mut tab);
     text::report::report(s, &tab, total, codes, values, out, 0)
 }

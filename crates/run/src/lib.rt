@@ -18,8 +18,12 @@ pub fn run(s: &[u8], ins: &[i32], codes: &mut [u8], values: &mut [i32]) -> Verdi
     ensures { λ r. ⌜ Runs (now (s .entry)) (now (ins .entry)) (now (codes .entry)) (now (codes .exit)) (now (values .entry)) (now (values .exit)) r ⌝ }
 {
     let mut tab = [0usize; 102];
+    let formed = accept::form(s, &mut tab);
+    let Verdict::Accepted(count) = formed else {
+        return formed;
+    };
     let mut inside = [0u8; 4096];
-    let judged = accept::admit(s, &mut tab, &mut inside);
+    let judged = accept::admit(s, &tab, count, &mut inside);
     let Verdict::Accepted(total) = judged else {
         return judged;
     };

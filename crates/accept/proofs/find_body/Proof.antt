@@ -4,14 +4,9 @@ use Rattle.accept.proofs.Parts.{no-part, refused-part, accepted-part}
 use borrow.Author.Needs.{needs}
 use Rattle.accept.proofs.find_body.Statement.{statement}
 use Rattle.accept.proofs.find_body.Tie as tie
-use Rattle.accept.proofs.find_body.Reads as reads
-use Rattle.accept.proofs.find_body.Lts as lts
-use Rattle.accept.proofs.admit.Reads as admit-reads
-use Rattle.accept.proofs.nothing.Reads as nothing-reads
-use Rattle.accept.proofs.part_of.Reads as part-of-reads
 
-admit-requires : tie.Need-admit-requires
-admit-requires c κs = search needs
+judge-requires : tie.Need-judge-requires
+judge-requires c κs = search needs
 
 enum-told : tie.Need-enum-told
 enum-told c = search needs
@@ -24,18 +19,18 @@ nothing-requires c κs = search needs
 
 returns : tie.Need-returns
 returns c =
-    let after-admit = c .before .before .before in
-    no-part _ _ _ (refused-part _ _ _ _ (c .before .enum-told2 .given .1) (after-admit .admit .ensures .answer)) (c .nothing .ensures)
+    let after-judge = c .before .before .before in
+    no-part _ _ _ (refused-part _ _ _ _ (c .before .enum-told2 .given .1) (after-judge .judge .ensures .admits .answer)) (c .nothing .ensures)
 
 part-of-requires : tie.Need-part-of-requires
 part-of-requires c κs =
-    let after-admit = c .before .before .before in
-    after-admit .admit .ensures .admitted _ (c .before .enum-told .given .1) .formed
+    let after-judge = c .before .before .before in
+    after-judge .judge .ensures .admits .admitted _ (c .before .enum-told .given .1) .formed
 
 returns-2 : tie.Need-returns-2
 returns-2 c =
-    let after-admit = c .before .before .before .before in
-    let admitted = after-admit .admit .ensures .admitted _ (c .before .before .enum-told .given .1) in
+    let after-judge = c .before .before .before .before in
+    let admitted = after-judge .judge .ensures .admits .admitted _ (c .before .before .enum-told .given .1) in
     let p = c .part-of .ensures in
     record { is = accepted-part _ _ (admitted .sheet-is) ∙ p .is; there = p .there }
 
@@ -43,7 +38,7 @@ pub find-body-spec : {M : Type 1} → statement M
 find-body-spec =
     tie.close
     (tie.spec
-    admit-requires
+    judge-requires
     enum-told
     enum-told-2
     nothing-requires

@@ -7,8 +7,8 @@ use Rattle.normal.proofs.Normalising.{check-refuses, front-there, wide-
 use Rattle.normal.proofs.normalise.Statement.{statement}
 use Rattle.normal.proofs.normalise.Tie as tie
 
-admit-requires : tie.Need-admit-requires
-admit-requires c κs = search needs
+judge-requires : tie.Need-judge-requires
+judge-requires c κs = search needs
 
 enum-told : tie.Need-enum-told
 enum-told c = search needs
@@ -19,7 +19,7 @@ enum-told-2 c = search needs
 returns : tie.Need-returns
 returns c =
     let s = c .before .before .before .before .before .before .before in
-    check-refuses _ (s .args .out .now) _ _ (c .enum-told2 .given .1) (c .before .before .admit .ensures .answer)
+    check-refuses _ (s .args .out .now) _ _ (c .enum-told2 .given .1) (c .before .before .judge .ensures .admits .answer)
 
 third-place-requires : tie.Need-third-place-requires
 third-place-requires c κs = search needs
@@ -27,16 +27,16 @@ third-place-requires c κs = search needs
 add-plan-from : tie.Need-add-plan-from
 add-plan-from c =
     let after-enum-told = c .before .before .before in
-    let after-admit = after-enum-told .before .before in
-    let admitted = after-admit .admit .ensures .admitted _ (after-enum-told .enum-told .given .1) in
+    let after-judge = after-enum-told .before .before in
+    let admitted = after-judge .judge .ensures .admits .admitted _ (after-enum-told .enum-told .given .1) in
     let third = c .third-place .ensures ∙ admitted .formed .placed .prepared .table .third in
     omega (arith, third, front-there _ _ (admitted .formed) (admitted .sheet-is), prepared-read _ _ (admitted .formed .placed .prepared) .short)
 
 plan-from-requires : tie.Need-plan-from-requires
 plan-from-requires c κs =
     let after-enum-told = c .before .before .before in
-    let after-admit = after-enum-told .before .before in
-    let admitted = after-admit .admit .ensures .admitted _ (after-enum-told .enum-told .given .1) in
+    let after-judge = after-enum-told .before .before in
+    let admitted = after-judge .judge .ensures .admits .admitted _ (after-enum-told .enum-told .given .1) in
     let third = c .third-place .ensures ∙ admitted .formed .placed .prepared .table .third in (
       admitted .formed,
       omega arith,
@@ -53,8 +53,8 @@ write-all-requires c κs =
     let after-plan-from = after-plan .before .before in
     let after-third-place = after-plan-from .before in
     let after-enum-told = after-third-place .before .before .before in
-    let after-admit = after-enum-told .before .before in
-    let admitted = after-admit .admit .ensures .admitted _ (after-enum-told .enum-told .given .1) in
+    let after-judge = after-enum-told .before .before in
+    let admitted = after-judge .judge .ensures .admits .admitted _ (after-enum-told .enum-told .given .1) in
     plan-holds _ _ (admitted .formed) (admitted .sheet-is) _ (after-third-place .third-place .ensures) _ (after-plan-from .plan-from .ensures) _ _
     (after-plan .plan .given .1)
 
@@ -72,9 +72,9 @@ returns-3 c =
     let after-plan-from = c .before .before .before in
     let after-third-place = after-plan-from .before in
     let after-enum-told = after-third-place .before .before .before in
-    let after-admit = after-enum-told .before .before in
-    let s = after-admit .before .before .before .before .before in
-    let admitted = after-admit .admit .ensures .admitted _ (after-enum-told .enum-told .given .1) in
+    let after-judge = after-enum-told .before .before in
+    let s = after-judge .before .before .before .before .before in
+    let admitted = after-judge .judge .ensures .admits .admitted _ (after-enum-told .enum-told .given .1) in
     wide-refuses _ _ (admitted .formed) (admitted .sheet-is) _ (after-third-place .third-place .ensures) _ (after-plan-from .plan-from .ensures)
     (s .args .out .now) _ (c .before .plan2 .given .1)
 
@@ -82,7 +82,7 @@ pub normalise-spec : {M : Type 1} → statement M
 normalise-spec =
     tie.close
     (tie.spec
-    admit-requires
+    judge-requires
     enum-told
     enum-told-2
     returns

@@ -1,6 +1,8 @@
 -- `run::run` meets its contract, way by way. Assumes nothing.
 use mathlib.Core.Path.{_≡_, refl, sym, ap, _∙_}
+use Prim.Native.Nat.{ℕ}
 use native.Mathlib.Omega.{arith}
+use lib.ListN.{length-replicate}
 use borrow.Author.Needs.{needs}
 use Rattle.alpha.specs.Answer.{accepted}
 use Rattle.alpha.specs.Check.{total}
@@ -16,23 +18,44 @@ use Rattle.run.proofs.Running.{unread-runs, inputs-runs, total-is, code
 use Rattle.run.proofs.run.Statement.{statement}
 use Rattle.run.proofs.run.Tie as tie
 
-admit-requires : tie.Need-admit-requires
-admit-requires c κs = search needs
+form-requires : tie.Need-form-requires
+form-requires c κs = search needs
 
-enum-known-judged : tie.Need-enum-known-judged
-enum-known-judged c = search needs
+enum-known-formed : tie.Need-enum-known-formed
+enum-known-formed c = search needs
 
 enum-told : tie.Need-enum-told
 enum-told c = search needs
 
 returns : tie.Need-returns
-returns c = unread-runs _ _ _ _ _ (c .enum-told .given .1) (c .before .before .admit .ensures .answer)
+returns c =
+    let told-is = c .enum-told .given .1 in
+    unread-runs _ _ _ _ _ told-is (ap told told-is ∙ c .before .before .form .ensures .refuses _ told-is)
+
+admit-requires : tie.Need-admit-requires
+admit-requires c κs =
+    let after-formed = c .before .before .before in
+    let form = after-formed .before .before .form .ensures in
+    let told-is = after-formed .formed .given .1 in
+    (form .formed _ told-is, form .read _ told-is, length-replicate {A = ℕ} 4096 0)
+
+enum-known-judged : tie.Need-enum-known-judged
+enum-known-judged c = search needs
+
+enum-told-2 : tie.Need-enum-told-2
+enum-told-2 c = search needs
+
+returns-2 : tie.Need-returns-2
+returns-2 c = unread-runs _ _ _ _ _ (c .enum-told2 .given .1) (c .before .before .admit .ensures .answer)
 
 abbrev start : tie.After-judged → tie.Start
-start c = c .before .before .before .before .before .before .before
+start c = c .before .before .before .before .before .before .before .before .before .before .before .before
 
 -- the sheet is accepted
-admits : (c : tie.After-judged) → let a = c .before .before in Admitted (start c .args .s .now) (a .admit .last .1 .0) (a .admit .last .1 .1 .0)
+admits : (c : tie.After-judged) →
+    let a = c .before .before in
+    let f = a .before .before .before .before .before .before in
+    Admitted (start c .args .s .now) (f .form .last .1 .0) (a .admit .last .1 .1 .1 .0)
 admits c = c .before .before .admit .ensures .admitted _ (c .judged .given .1)
 
 many : (c : tie.After-judged) → c .judged .given .0 .0 ≡ total (sheetOf (start c .args .s .now))
@@ -46,39 +69,39 @@ inputs-requires c κs = admits (c .before .before) .formed
 enum-known-r : tie.Need-enum-known-r
 enum-known-r c = search needs
 
-returns-2 : tie.Need-returns-2
-returns-2 c =
+returns-3 : tie.Need-returns-3
+returns-3 c =
     let after-inputs = c .before .before .before in
     let j = after-inputs .before .before .before in
     let s = start j in
     inputs-runs _ _ (s .args .codes .now) (s .args .values .now) _ (admits j .sheet-is) _
     (sym (ap ruled (c .before .r .given .1)) ∙ after-inputs .inputs .ensures)
 
-enum-told-2 : tie.Need-enum-told-2
-enum-told-2 c = search needs
+enum-told-3 : tie.Need-enum-told-3
+enum-told-3 c = search needs
 
 -- and so is the list
-taken : (c : tie.After-enum-told2) → let s = start (c .before .before .before .before .before) in accepted tt
+taken : (c : tie.After-enum-told3) → let s = start (c .before .before .before .before .before) in accepted tt
     ≡ inputs (sheetOf (s .args .s .now)) (s .args .ins .now)
-taken c = sym (ap ruled (c .enum-told2 .given .1)) ∙ c .before .before .inputs .ensures
+taken c = sym (ap ruled (c .enum-told3 .given .1)) ∙ c .before .before .inputs .ensures
 
-returns-3 : tie.Need-returns-3
-returns-3 c =
+returns-4 : tie.Need-returns-4
+returns-4 c =
     let j = c .before .before .before .before .before .before in
     let s = start j in
     codes-runs _ _ _ (s .args .values .now) _ (admits j .sheet-is) (taken (c .before)) _ (many j) (c .if1 .taken) _ refl
 
-returns-4 : tie.Need-returns-4
-returns-4 c =
+returns-5 : tie.Need-returns-5
+returns-5 c =
     let j = c .before .before .before .before .before .before .before in
     values-runs _ _ _ _ _ (admits j .sheet-is) (taken (c .before .before)) _ (many j) (c .before .if1 .left) (c .if2 .taken) _ refl
 
 start-requires : tie.Need-start-requires
 start-requires c κs =
-    let after-enum-told2 = c .before .before .before .before .before .before in
-    let j = after-enum-told2 .before .before .before .before .before in
+    let after-enum-told3 = c .before .before .before .before .before .before in
+    let j = after-enum-told3 .before .before .before .before .before in
     let a = admits j in
-    (a .formed, a .filled, inputs-length _ _ (sym (taken after-enum-told2)), started-none _ _)
+    (a .formed, a .filled, inputs-length _ _ (sym (taken after-enum-told3)), started-none _ _)
 
 fill-all-requires : tie.Need-fill-all-requires
 fill-all-requires c κs =
@@ -99,36 +122,40 @@ same-length c = search needs
 same-length-2 : tie.Need-same-length-2
 same-length-2 c = search needs
 
-returns-5 : tie.Need-returns-5
-returns-5 c =
+returns-6 : tie.Need-returns-6
+returns-6 c =
     let after-fill-all = c .before .before .before in
     let after-start = after-fill-all .before .before .before .before .before .before .before in
     let else2 = after-start .before .before .before .before .before in
     let else1 = else2 .before in
-    let after-enum-told2 = else1 .before in
-    let j = after-enum-told2 .before .before .before .before .before in
+    let after-enum-told3 = else1 .before in
+    let j = after-enum-told3 .before .before .before .before .before in
     let a = admits j in
     let S = after-start .start .ensures in
     let few = laid-total _ _ (a .formed .placed) in
-    all-runs _ _ _ _ _ (a .sheet-is) (taken after-enum-told2) _ (many j) (else1 .if1 .left) (else2 .if2 .left) _ (started-right _ _ _ few S) _ _
+    all-runs _ _ _ _ _ (a .sheet-is) (taken after-enum-told3) _ (many j) (else1 .if1 .left) (else2 .if2 .left) _ (started-right _ _ _ few S) _ _
     (after-fill-all .fill-all .ensures)
 
 pub run-spec : {M : Type 1} → statement M
 run-spec =
     tie.close
     (tie.spec
-    admit-requires
-    enum-known-judged
+    form-requires
+    enum-known-formed
     enum-told
     returns
+    admit-requires
+    enum-known-judged
+    enum-told-2
+    returns-2
     inputs-requires
     enum-known-r
-    returns-2
-    enum-told-2
     returns-3
+    enum-told-3
     returns-4
+    returns-5
     start-requires
     fill-all-requires
     same-length
     same-length-2
-    returns-5)
+    returns-6)
