@@ -31,6 +31,16 @@ fn level_below(code: usize, level: usize) -> usize
     level + 1
 }
 
+// A pen handed on by its parts, which the compiler keeps in registers.
+fn handed(pen: Pen) -> Pen
+    ensures { λ r. ⌜ r ≡ pen ⌝ }
+{
+    let to = pen.to;
+    let things = pen.things;
+    let deep = pen.deep;
+    Pen { to, things, deep }
+}
+
 // Branch b of the tree at `at`, which has `of` branches and at most `left` nodes, below `level` nodes of the branch's own tree.
 pub fn follow(
     s: &[u8],
@@ -56,18 +66,23 @@ pub fn follow(
         let child = c.at;
         let i = c.b;
         let n = c.of;
-        return follow(s, child, left - 1, i, n, m, tree, dry, level, out, pen);
+        let now = handed(pen);
+        let end = follow(s, child, left - 1, i, n, m, tree, dry, level, out, now);
+        return handed(end);
     }
     if code == 8 {
         let w = compose(map_read(s, at + 8), m);
-        return follow(s, next, left - 1, b, of, w, tree, dry, level, out, pen);
+        let now = handed(pen);
+        let end = follow(s, next, left - 1, b, of, w, tree, dry, level, out, now);
+        return handed(end);
     }
-    let pen = visit(s, at, m, tree, dry, level, out, pen);
+    let now = visit(s, at, m, tree, dry, level, out, pen);
     let down = level_below(code, level);
-    follow_all(s, next, left - 1, many, b, of, m, tree, dry, down, out, pen)
+    follow_all(s, next, left - 1, many, b, of, m, tree, dry, down, out, now)
 }
 
-// Combination b of `many` operands one after another, which have `of`, the leftmost operand's branch changing slowest.
+// Combination b of `many` operands one after another, which have `of`, the leftmost operand's branch changing slowest. The last operand has
+// the branch that is left.
 fn follow_all(
     s: &[u8],
     at: usize,
@@ -85,19 +100,25 @@ fn follow_all(
     requires { ⌜ RouteAll (now s) at left many m b of tree level (pen .to) (roomOf dry (now out)) × (left ≤ 2048) × (level + left ≤ 4096) × (many ≤ 64) × (pen .things ≤ pen .to) ⌝ }
     ensures { λ r. ⌜ FollowsAll (now (s .entry)) at many m b of tree level dry pen (now (out .entry)) (now (out .exit)) r ⌝ }
 {
-    if many < 1 {
-        return pen;
+    let mut sofar = pen;
+    let mut p = at;
+    let mut more = many;
+    let mut i = b;
+    let mut n = of;
+    while more > 1 {
+        let c = split(s, p, left, i, n);
+        let j = c.b;
+        let k = c.of;
+        let now = handed(sofar);
+        sofar = handed(follow(s, p, left, j, k, m, tree, dry, level, out, now));
+        p = c.next;
+        i = c.rest;
+        n = c.among;
+        more -= 1;
     }
-    if many < 2 {
-        return follow(s, at, left, b, of, m, tree, dry, level, out, pen);
+    if more < 1 {
+        return sofar;
     }
-    let c = split(s, at, left, b, of);
-    let branch = c.b;
-    let first = c.of;
-    let pen = follow(s, at, left, branch, first, m, tree, dry, level, out, pen);
-    let next = c.next;
-    let more = many - 1;
-    let rest = c.rest;
-    let n = c.among;
-    follow_all(s, next, left, more, rest, n, m, tree, dry, level, out, pen)
+    let now = handed(sofar);
+    handed(follow(s, p, left, i, n, m, tree, dry, level, out, now))
 }
