@@ -4,7 +4,8 @@ use super::Pen;
 use super::choose::choose;
 use super::choose::split;
 use super::node::visit;
-use affine::Map;
+use super::packed::map_in;
+use super::packed::packed;
 use affine::compose;
 use affine::map_read;
 use tree::node::children;
@@ -14,6 +15,7 @@ ghost use mathlib.Core.Path.{_≡_};
 ghost use Prim.Native.Nat.{_+_, _≤_};
 ghost use Rattle.alpha.specs.Sheet.{Node};
 ghost use Rattle.laws.specs.At.{codeOf};
+ghost use Rattle.normal.specs.Packed.{mapIn};
 ghost use Rattle.normal.specs.Part.{levelBelow};
 ghost use Rattle.normal.specs.Followed.{roomOf, Route, RouteAll, Follows, FollowsAll};
 
@@ -48,15 +50,15 @@ pub fn follow(
     left: usize,
     b: usize,
     of: usize,
-    m: Map,
+    m: &[i64; 22],
     tree: bool,
     dry: bool,
     level: usize,
     out: &mut [u8],
     pen: Pen,
 ) -> Pen
-    requires { ⌜ Route (now s) at left m b of tree level (pen .to) (roomOf dry (now out)) × (left ≤ 2048) × (level + left ≤ 4096) × (pen .things ≤ pen .to) ⌝ }
-    ensures { λ r. ⌜ Follows (now (s .entry)) at m b of tree level dry pen (now (out .entry)) (now (out .exit)) r ⌝ }
+    requires { ⌜ Route (now s) at left (mapIn (now m)) b of tree level (pen .to) (roomOf dry (now out)) × (left ≤ 2048) × (level + left ≤ 4096) × (pen .things ≤ pen .to) ⌝ }
+    ensures { λ r. ⌜ Follows (now (s .entry)) at (mapIn (now (m .entry))) b of tree level dry pen (now (out .entry)) (now (out .exit)) r ⌝ }
 {
     let code = natural(s, at);
     let next = at + node_len(s, at);
@@ -71,9 +73,9 @@ pub fn follow(
         return handed(end);
     }
     if code == 8 {
-        let w = compose(map_read(s, at + 8), m);
+        let w = packed(compose(map_read(s, at + 8), map_in(m)));
         let now = handed(pen);
-        let end = follow(s, next, left - 1, b, of, w, tree, dry, level, out, now);
+        let end = follow(s, next, left - 1, b, of, &w, tree, dry, level, out, now);
         return handed(end);
     }
     let now = visit(s, at, m, tree, dry, level, out, pen);
@@ -90,15 +92,15 @@ fn follow_all(
     many: usize,
     b: usize,
     of: usize,
-    m: Map,
+    m: &[i64; 22],
     tree: bool,
     dry: bool,
     level: usize,
     out: &mut [u8],
     pen: Pen,
 ) -> Pen
-    requires { ⌜ RouteAll (now s) at left many m b of tree level (pen .to) (roomOf dry (now out)) × (left ≤ 2048) × (level + left ≤ 4096) × (many ≤ 64) × (pen .things ≤ pen .to) ⌝ }
-    ensures { λ r. ⌜ FollowsAll (now (s .entry)) at many m b of tree level dry pen (now (out .entry)) (now (out .exit)) r ⌝ }
+    requires { ⌜ RouteAll (now s) at left many (mapIn (now m)) b of tree level (pen .to) (roomOf dry (now out)) × (left ≤ 2048) × (level + left ≤ 4096) × (many ≤ 64) × (pen .things ≤ pen .to) ⌝ }
+    ensures { λ r. ⌜ FollowsAll (now (s .entry)) at many (mapIn (now (m .entry))) b of tree level dry pen (now (out .entry)) (now (out .exit)) r ⌝ }
 {
     let mut sofar = pen;
     let mut p = at;
