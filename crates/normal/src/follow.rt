@@ -4,7 +4,8 @@ use super::Pen;
 use super::choose::choose;
 use super::choose::split;
 use super::node::visit;
-use affine::Map;
+use super::packed::map_in;
+use super::packed::packed;
 use affine::compose;
 use affine::map_read;
 use tree::node::children;
@@ -14,6 +15,7 @@ ghost use mathlib.Core.Path.{_≡_};
 ghost use Prim.Native.Nat.{_+_, _≤_};
 ghost use Rattle.alpha.specs.Sheet.{Node};
 ghost use Rattle.laws.specs.At.{codeOf};
+ghost use Rattle.normal.specs.Packed.{mapIn};
 ghost use Rattle.normal.specs.Part.{levelBelow};
 ghost use Rattle.normal.specs.Followed.{roomOf, Route, RouteAll, Follows, FollowsAll};
 
@@ -31,6 +33,16 @@ fn level_below(code: usize, level: usize) -> usize
     level + 1
 }
 
+// A pen handed on by its parts, which the compiler keeps in registers.
+fn handed(pen: Pen) -> Pen
+    ensures { λ r. ⌜ r ≡ pen ⌝ }
+{
+    let to = pen.to;
+    let things = pen.things;
+    let deep = pen.deep;
+    Pen { to, things, deep }
+}
+
 // Branch b of the tree at `at`, which has `of` branches and at most `left` nodes, below `level` nodes of the branch's own tree.
 pub fn follow(
     s: &[u8],
@@ -38,15 +50,15 @@ pub fn follow(
     left: usize,
     b: usize,
     of: usize,
-    m: Map,
+    m: &[i64; 22],
     tree: bool,
     dry: bool,
     level: usize,
     out: &mut [u8],
     pen: Pen,
 ) -> Pen
-    requires { ⌜ Route (now s) at left m b of tree level (pen .to) (roomOf dry (now out)) × (left ≤ 2048) × (level + left ≤ 4096) × (pen .things ≤ pen .to) ⌝ }
-    ensures { λ r. ⌜ Follows (now (s .entry)) at m b of tree level dry pen (now (out .entry)) (now (out .exit)) r ⌝ }
+    requires { ⌜ Route (now s) at left (mapIn (now m)) b of tree level (pen .to) (roomOf dry (now out)) × (left ≤ 2048) × (level + left ≤ 4096) × (pen .things ≤ pen .to) ⌝ }
+    ensures { λ r. ⌜ Follows (now (s .entry)) at (mapIn (now (m .entry))) b of tree level dry pen (now (out .entry)) (now (out .exit)) r ⌝ }
 {
     let code = natural(s, at);
     let next = at + node_len(s, at);
@@ -56,18 +68,23 @@ pub fn follow(
         let child = c.at;
         let i = c.b;
         let n = c.of;
-        return follow(s, child, left - 1, i, n, m, tree, dry, level, out, pen);
+        let now = handed(pen);
+        let end = follow(s, child, left - 1, i, n, m, tree, dry, level, out, now);
+        return handed(end);
     }
     if code == 8 {
-        let w = compose(map_read(s, at + 8), m);
-        return follow(s, next, left - 1, b, of, w, tree, dry, level, out, pen);
+        let w = packed(compose(map_read(s, at + 8), map_in(m)));
+        let now = handed(pen);
+        let end = follow(s, next, left - 1, b, of, &w, tree, dry, level, out, now);
+        return handed(end);
     }
-    let pen = visit(s, at, m, tree, dry, level, out, pen);
+    let now = visit(s, at, m, tree, dry, level, out, pen);
     let down = level_below(code, level);
-    follow_all(s, next, left - 1, many, b, of, m, tree, dry, down, out, pen)
+    follow_all(s, next, left - 1, many, b, of, m, tree, dry, down, out, now)
 }
 
-// Combination b of `many` operands one after another, which have `of`, the leftmost operand's branch changing slowest.
+// Combination b of `many` operands one after another, which have `of`, the leftmost operand's branch changing slowest. The last operand has
+// the branch that is left.
 fn follow_all(
     s: &[u8],
     at: usize,
@@ -75,29 +92,35 @@ fn follow_all(
     many: usize,
     b: usize,
     of: usize,
-    m: Map,
+    m: &[i64; 22],
     tree: bool,
     dry: bool,
     level: usize,
     out: &mut [u8],
     pen: Pen,
 ) -> Pen
-    requires { ⌜ RouteAll (now s) at left many m b of tree level (pen .to) (roomOf dry (now out)) × (left ≤ 2048) × (level + left ≤ 4096) × (many ≤ 64) × (pen .things ≤ pen .to) ⌝ }
-    ensures { λ r. ⌜ FollowsAll (now (s .entry)) at many m b of tree level dry pen (now (out .entry)) (now (out .exit)) r ⌝ }
+    requires { ⌜ RouteAll (now s) at left many (mapIn (now m)) b of tree level (pen .to) (roomOf dry (now out)) × (left ≤ 2048) × (level + left ≤ 4096) × (many ≤ 64) × (pen .things ≤ pen .to) ⌝ }
+    ensures { λ r. ⌜ FollowsAll (now (s .entry)) at many (mapIn (now (m .entry))) b of tree level dry pen (now (out .entry)) (now (out .exit)) r ⌝ }
 {
-    if many < 1 {
-        return pen;
+    let mut sofar = pen;
+    let mut p = at;
+    let mut more = many;
+    let mut i = b;
+    let mut n = of;
+    while more > 1 {
+        let c = split(s, p, left, i, n);
+        let j = c.b;
+        let k = c.of;
+        let now = handed(sofar);
+        sofar = handed(follow(s, p, left, j, k, m, tree, dry, level, out, now));
+        p = c.next;
+        i = c.rest;
+        n = c.among;
+        more -= 1;
     }
-    if many < 2 {
-        return follow(s, at, left, b, of, m, tree, dry, level, out, pen);
+    if more < 1 {
+        return sofar;
     }
-    let c = split(s, at, left, b, of);
-    let branch = c.b;
-    let first = c.of;
-    let pen = follow(s, at, left, branch, first, m, tree, dry, level, out, pen);
-    let next = c.next;
-    let more = many - 1;
-    let rest = c.rest;
-    let n = c.among;
-    follow_all(s, next, left, more, rest, n, m, tree, dry, level, out, pen)
+    let now = handed(sofar);
+    handed(follow(s, p, left, i, n, m, tree, dry, level, out, now))
 }

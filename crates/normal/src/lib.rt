@@ -14,6 +14,7 @@ mod choose;
 mod count;
 mod follow;
 mod node;
+mod packed;
 mod rows;
 mod totals;
 mod turn;

@@ -27,8 +27,8 @@ put-nat-requires-2 c κs =
     let s = c .before .before .before .before .before .before .before in
     omega (arith, room-there _ _ _ _ (s .pre .0) _ (s .pre .1) (s .args .out .now) (s .args .to) (s .pre .2))
 
-identity-requires : tie.Need-identity-requires
-identity-requires c κs = search needs
+packed-identity-requires : tie.Need-packed-identity-requires
+packed-identity-requires c κs = search needs
 
 add-put-nat-2 : tie.Need-add-put-nat-2
 add-put-nat-2 c =
@@ -37,11 +37,11 @@ add-put-nat-2 c =
 
 follow-requires : tie.Need-follow-requires
 follow-requires c κs =
-    let after-identity = c .before in
-    let after-put-nat2 = after-identity .before .before .before in
+    let after-top = c .before .before in
+    let after-put-nat2 = after-top .before .before .before in
     let after-put-nat = after-put-nat2 .before .before .before .before in
     let s = after-put-nat .before .before .before .before in
-    let m = after-identity .identity .ensures in
+    let m = after-top .packed-identity .ensures in
     let l = s .args .out .now in
     let to = s .args .to in
     let n = s .args .n in
@@ -56,23 +56,23 @@ follow-requires c κs =
 
 add-put-nat-3 : tie.Need-add-put-nat-3
 add-put-nat-3 c =
-    let s = c .before .before .before .before .before .before .before .before .before .before .before .before .before .before .before .before in
+    let s = c .before .before .before .before .before .before .before .before .before .before .before .before .before .before .before .before .before in
     omega (arith, room-there _ _ _ _ (s .pre .0) _ (s .pre .1) (s .args .out .now) (s .args .to) (s .pre .2))
 
 put-nat-requires-3 : tie.Need-put-nat-requires-3
 put-nat-requires-3 c κs =
-    let s = c .before .before .before .before .before .before .before .before .before .before .before .before .before .before .before .before in
+    let s = c .before .before .before .before .before .before .before .before .before .before .before .before .before .before .before .before .before in
     omega (arith, room-there _ _ _ _ (s .pre .0) _ (s .pre .1) (s .args .out .now) (s .args .to) (s .pre .2))
 
 follow-requires-2 : tie.Need-follow-requires-2
 follow-requires-2 c κs =
-    let after-put-nat3 = c .before .before .before in
+    let after-put-nat3 = c .before .before .before .before in
     let after-follow = after-put-nat3 .before .before .before .before in
-    let after-identity = after-follow .before .before in
-    let after-put-nat2 = after-identity .before .before .before in
+    let after-top = after-follow .before .before .before in
+    let after-put-nat2 = after-top .before .before .before in
     let after-put-nat = after-put-nat2 .before .before .before .before in
     let s = after-put-nat .before .before .before .before in
-    let m = after-identity .identity .ensures in
+    let m = after-top .packed-identity .ensures in
     let l = s .args .out .now in
     let to = s .args .to in
     let n = s .args .n in
@@ -90,13 +90,13 @@ follow-requires-2 c κs =
 same-length : tie.Need-same-length
 same-length c =
     let after-follow2 = c .before .before in
-    let after-put-nat3 = after-follow2 .before .before .before .before in
+    let after-put-nat3 = after-follow2 .before .before .before .before .before in
     let after-follow = after-put-nat3 .before .before .before .before in
-    let after-identity = after-follow .before .before in
-    let after-put-nat2 = after-identity .before .before .before in
+    let after-top = after-follow .before .before .before in
+    let after-put-nat2 = after-top .before .before .before in
     let after-put-nat = after-put-nat2 .before .before .before .before in
     let s = after-put-nat .before .before .before .before in
-    let m = after-identity .identity .ensures in
+    let m = after-top .packed-identity .ensures in
     let l = s .args .out .now in
     let to = s .args .to in
     let n = s .args .n in
@@ -111,13 +111,13 @@ same-length c =
 returns : tie.Need-returns
 returns c =
     let after-follow2 = c .before .before in
-    let after-put-nat3 = after-follow2 .before .before .before .before in
+    let after-put-nat3 = after-follow2 .before .before .before .before .before in
     let after-follow = after-put-nat3 .before .before .before .before in
-    let after-identity = after-follow .before .before in
-    let after-put-nat2 = after-identity .before .before .before in
+    let after-top = after-follow .before .before .before in
+    let after-put-nat2 = after-top .before .before .before in
     let after-put-nat = after-put-nat2 .before .before .before .before in
     let s = after-put-nat .before .before .before .before in
-    let m = after-identity .identity .ensures in
+    let m = after-top .packed-identity .ensures in
     let l = s .args .out .now in
     let to = s .args .to in
     let n = s .args .n in
@@ -135,7 +135,7 @@ put-branch-spec =
     put-nat-requires
     add-put-nat
     put-nat-requires-2
-    identity-requires
+    packed-identity-requires
     add-put-nat-2
     follow-requires
     add-put-nat-3

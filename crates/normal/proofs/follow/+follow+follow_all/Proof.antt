@@ -11,8 +11,11 @@ use Rattle.affine.proofs.compose.Reads as compose-reads
 use Rattle.affine.proofs.map_read.Reads as map-read-reads
 use Rattle.normal.proofs.choose.choose.Reads as choose-reads
 use Rattle.normal.proofs.choose.split.Reads as split-reads
+use Rattle.normal.proofs.follow.handed.Reads as handed-reads
 use Rattle.normal.proofs.follow.level_below.Reads as level-below-reads
 use Rattle.normal.proofs.node.visit.Reads as visit-reads
+use Rattle.normal.proofs.packed.map_in.Reads as map-in-reads
+use Rattle.normal.proofs.packed.packed.Reads as packed-reads
 use Rattle.tree.proofs.node.children.Reads as children-reads
 use Rattle.tree.proofs.node.natural.Reads as natural-reads
 use Rattle.tree.proofs.node.node_len.Reads as node-len-reads
@@ -20,38 +23,45 @@ use Rattle.normal.proofs.follow.+follow+follow_all.{statement}
 use Rattle.normal.proofs.follow.+follow+follow_all.Tie.{close}
 use Prim.Native.Nat.{ℕ, _+_, _*_, _≤_, _<_}
 use mathlib.Core.Path.{_≡_, refl, sym, _∙_}
+use mathlib.Core.List.{List}
 use native.Mathlib.Omega.{arith}
 use borrow.Author.Needs.{needs}
+use lib.ListN.{length}
 use lib.IntN.{natAbs}
 use Rattle.alpha.specs.Field.{field}
+use Rattle.alpha.specs.Affine.{mapAfter}
 use Rattle.laws.specs.Sheets.{varsOf}
+use Rattle.affine.specs.Value.{mapOf}
 use Rattle.tree.specs.Standing.{Noded}
 use Rattle.tree.proofs.Noding.{code-there}
 use Rattle.tree.proofs.Standings.{standing-noded, standing-some, standing-there}
+use Rattle.normal.specs.declared.Pen.{Pen}
+use Rattle.normal.specs.Packed.{mapIn}
+use Rattle.normal.specs.Followed.{roomOf, RouteAll, FollowsAll}
 use Rattle.normal.proofs.Routes.{route-standing, route-choice, route-chosen, dep-dims, dep-composes, route-below, route-spot, route-after}
 use Rattle.normal.proofs.Routes.{visited-things, route-many}
 use Rattle.normal.proofs.Routes.{route-operand, route-first, followed-things, route-next, case-way, node-way, dep-way}
 use Rattle.normal.proofs.Routes.{none-way, one-way, more-way, route-only}
 
-abbrev μ-follow : Measures 2 follow-kinds.ps ℕ
+abbrev μ-follow : Measures 3 follow-kinds.ps ℕ
 μ-follow κs a = 70 * a .1 .1 .0
 
-abbrev μ-follow-all : Measures 2 follow-all-kinds.ps ℕ
+abbrev μ-follow-all : Measures 3 follow-all-kinds.ps ℕ
 μ-follow-all κs a = 70 * a .1 .1 .0 + (a .1 .1 .1 .0 + 1)
 
-abbrev follow-at : ℕ → In 2 follow-kinds.ps
-follow-at t = and 2 follow-kinds.ps (is 2 follow-kinds.ps μ-follow t) follow.Pre
+abbrev follow-at : ℕ → In 3 follow-kinds.ps
+follow-at t = and 3 follow-kinds.ps (is 3 follow-kinds.ps μ-follow t) follow.Pre
 
-abbrev follow-below : ℕ → In 2 follow-kinds.ps
-follow-below t = and 2 follow-kinds.ps (falls 2 follow-kinds.ps _<_ μ-follow t) follow.Pre
+abbrev follow-below : ℕ → In 3 follow-kinds.ps
+follow-below t = and 3 follow-kinds.ps (falls 3 follow-kinds.ps _<_ μ-follow t) follow.Pre
 
-abbrev follow-all-at : ℕ → In 2 follow-all-kinds.ps
+abbrev follow-all-at : ℕ → In 3 follow-all-kinds.ps
 follow-all-at t =
-    and 2 follow-all-kinds.ps (is 2 follow-all-kinds.ps μ-follow-all t) follow-all.Pre
+    and 3 follow-all-kinds.ps (is 3 follow-all-kinds.ps μ-follow-all t) follow-all.Pre
 
-abbrev follow-all-below : ℕ → In 2 follow-all-kinds.ps
+abbrev follow-all-below : ℕ → In 3 follow-all-kinds.ps
 follow-all-below t =
-    and 2 follow-all-kinds.ps (falls 2 follow-all-kinds.ps _<_ μ-follow-all t) follow-all.Pre
+    and 3 follow-all-kinds.ps (falls 3 follow-all-kinds.ps _<_ μ-follow-all t) follow-all.Pre
 
 abbrev follow-uses : ℕ → follow-lts.Claims
 follow-uses t = (
@@ -63,12 +73,18 @@ follow-uses t = (
   children-reads.Learnt,
   choose-reads.Asked,
   choose-reads.Learnt,
+  handed-reads.Asked,
+  handed-reads.Learnt,
   follow-below t,
   follow.Post,
   map-read-reads.Asked,
   map-read-reads.Learnt,
+  map-in-reads.Asked,
+  map-in-reads.Learnt,
   compose-reads.Asked,
   compose-reads.Learnt,
+  packed-reads.Asked,
+  packed-reads.Learnt,
   visit-reads.Asked,
   visit-reads.Learnt,
   level-below-reads.Asked,
@@ -78,14 +94,7 @@ follow-uses t = (
 )
 
 abbrev follow-all-uses : ℕ → follow-all-lts.Claims
-follow-all-uses t = (
-  follow-below t,
-  follow.Post,
-  split-reads.Asked,
-  split-reads.Learnt,
-  follow-all-below t,
-  follow-all.Post,
-)
+follow-all-uses t = (split-reads.Asked, split-reads.Learnt, handed-reads.Asked, handed-reads.Learnt, follow-below t, follow.Post)
 
 -- the node
 noded : (t : ℕ) (c : follow-lts.Start (follow-uses t) (follow-at t) follow.Post) → Noded (varsOf (c .args .s .now)) (c .args .s .now) (c .args .at)
@@ -127,45 +136,58 @@ follow-choose-requires t c κs =
       omega (arith, s .pre .1 .1),
     )
 
+follow-handed-requires : (t : ℕ) → follow-lts.Need-handed-requires (follow-uses t) (follow-at t) follow.Post
+follow-handed-requires t c κs = search needs
+
 follow-sub-follow : (t : ℕ) → follow-lts.Need-sub-follow (follow-uses t) (follow-at t) follow.Post
 follow-sub-follow t c =
-    let s = c .before .before .before .before .before .before .before in
+    let s = c .before .before .before .before .before .before .before .before in
     omega (arith, some t (s))
 
 follow-follow-requires : (t : ℕ) → follow-lts.Need-follow-requires (follow-uses t) (follow-at t) follow.Post
 follow-follow-requires t c κs =
-    let after-children = c .before .before .before in
+    let after-choose = c .before .before in
+    let after-children = after-choose .before .before in
     let after-node-len = after-children .before in
     let after-natural = after-node-len .before in
     let s = after-natural .before .before .before in
-    let six = sym (after-natural .natural .ensures) ∙ c .before .before .if1 .taken in
+    let six = sym (after-natural .natural .ensures) ∙ after-choose .before .if1 .taken in
     let left = some t s in
-    let is = s .pre .0 in (
+    let is = s .pre .0 in
+    rw (c .before .handed .ensures) (
       omega arith,
       (
         route-chosen _ _ _ _ _ _ _ _ _ _ (s .pre .1 .0) six _ _ (after-node-len .node-len .ensures) (after-children .children .ensures) _
-            (c .before .choose .ensures),
+            (after-choose .choose .ensures),
         omega (arith, s .pre .1 .1),
         omega (arith, s .pre .1 .2),
         s .pre .1 .3,
       ),
     )
 
+follow-handed-requires-2 : (t : ℕ) → follow-lts.Need-handed-requires-2 (follow-uses t) (follow-at t) follow.Post
+follow-handed-requires-2 t c κs = search needs
+
 follow-same-length : (t : ℕ) → follow-lts.Need-same-length (follow-uses t) (follow-at t) follow.Post
 follow-same-length t c = search needs
 
 follow-returns : (t : ℕ) → follow-lts.Need-returns (follow-uses t) (follow-at t) follow.Post
 follow-returns t c =
-    let after-choose = c .before .before .before .before in
+    let after-follow = c .before .before .before in
+    let after-handed = after-follow .before .before in
+    let after-choose = after-handed .before in
     let then1 = after-choose .before in
     let after-children = then1 .before in
     let after-node-len = after-children .before in
     let after-natural = after-node-len .before in
     let s = after-natural .before .before .before in
+    let a = s .args in
     let six = sym (after-natural .natural .ensures) ∙ then1 .if1 .taken in
-    case-way _ _ (s .args .m) (s .args .b) (s .args .of) (s .args .tree) (s .args .level) (s .args .dry) (s .args .pen) _ _ (after-node-len .node-len .ensures) _
+    let followed = rw (after-handed .handed .ensures) at (after-follow .follow .ensures) in
+    rw (c .handed2 .ensures)
+    (case-way _ _ (mapIn (a .m .now)) (a .b) (a .of) (a .tree) (a .level) (a .dry) (a .pen) _ _ (after-node-len .node-len .ensures) _
     (after-children .children .ensures)
-    _ six (s .pre .1 .0 .some) (after-choose .choose .ensures) (c .before .before .follow .ensures)
+    _ six (s .pre .1 .0 .some) (after-choose .choose .ensures) followed)
 
 follow-add-map-read : (t : ℕ) → follow-lts.Need-add-map-read (follow-uses t) (follow-at t) follow.Post
 follow-add-map-read t c =
@@ -175,58 +197,90 @@ follow-add-map-read t c =
 follow-map-read-requires : (t : ℕ) → follow-lts.Need-map-read-requires (follow-uses t) (follow-at t) follow.Post
 follow-map-read-requires t c κs = search needs
 
+follow-map-in-requires : (t : ℕ) → follow-lts.Need-map-in-requires (follow-uses t) (follow-at t) follow.Post
+follow-map-in-requires t c κs = search needs
+
 follow-compose-requires : (t : ℕ) → follow-lts.Need-compose-requires (follow-uses t) (follow-at t) follow.Post
 follow-compose-requires t c κs =
-    let after-natural = c .before .before .before .before .before in
+    let then2 = c .before .before in
+    let after-natural = then2 .before .before .before .before in
     let s = after-natural .before .before .before in
-    let eight = sym (after-natural .natural .ensures) ∙ c .before .if2 .taken in
-    let read = c .map-read .ensures in (
+    let eight = sym (after-natural .natural .ensures) ∙ then2 .if2 .taken in
+    let read = c .before .map-read .ensures in
+    rw (c .map-in .ensures) (
       read .neat,
       s .pre .1 .0 .carried .neat,
       dep-dims _ _ _ _ _ _ _ _ _ _ (s .pre .1 .0) eight _ read,
       dep-composes _ _ _ _ _ _ _ _ _ _ (s .pre .1 .0) eight _ read,
     )
 
+follow-packed-requires : (t : ℕ) → follow-lts.Need-packed-requires (follow-uses t) (follow-at t) follow.Post
+follow-packed-requires t c κs = c .compose .ensures .1
+
+follow-handed-requires-3 : (t : ℕ) → follow-lts.Need-handed-requires-3 (follow-uses t) (follow-at t) follow.Post
+follow-handed-requires-3 t c κs = search needs
+
 follow-sub-follow-2 : (t : ℕ) → follow-lts.Need-sub-follow-2 (follow-uses t) (follow-at t) follow.Post
 follow-sub-follow-2 t c =
-    let s = c .before .before .before .before .before .before .before .before .before in
+    let s = c .before .before .before .before .before .before .before .before .before .before .before .before in
     omega (arith, some t (s))
+
+-- the map of the array that goes down is the map above after the dependence's
+composed : (t : ℕ) (c : follow-lts.After-packed (follow-uses t) (follow-at t) follow.Post) →
+    mapOf (mapIn (c .packed .result))
+    ≡ mapAfter (mapOf (mapIn (c .before .before .before .before .before .before .before .before .before .before .before .args .m .now)))
+    (mapOf (c .before .before .before .map-read .result))
+composed t c = c .packed .ensures .0 ∙ (rw (c .before .before .map-in .ensures) at (c .before .compose .ensures .0))
 
 follow-follow-requires-2 : (t : ℕ) → follow-lts.Need-follow-requires-2 (follow-uses t) (follow-at t) follow.Post
 follow-follow-requires-2 t c κs =
-    let then2 = c .before .before .before in
+    let after-handed = c .before .before in
+    let after-packed = after-handed .before in
+    let after-compose = after-packed .before in
+    let after-map-read = after-compose .before .before in
+    let then2 = after-map-read .before in
     let after-node-len = then2 .before .before .before in
     let after-natural = after-node-len .before in
     let s = after-natural .before .before .before in
     let eight = sym (after-natural .natural .ensures) ∙ then2 .if2 .taken in
-    let read = c .before .before .map-read .ensures in
-    let w = c .before .compose .ensures in
+    let down = after-packed .packed .ensures in
+    let high = down .2 ∙ after-compose .compose .ensures .2 in
     let left = some t s in
-    let is = s .pre .0 in (
+    let is = s .pre .0 in
+    rw (after-handed .handed3 .ensures) (
       omega arith,
       (
-        route-below _ _ _ _ _ _ _ _ _ _ (s .pre .1 .0) eight _ read _ (after-node-len .node-len .ensures) _ (w .0) (w .1) (w .2),
+        route-below _ _ _ _ _ _ _ _ _ _ (s .pre .1 .0) eight _ (after-map-read .map-read .ensures) _ (after-node-len .node-len .ensures) _
+            (composed t after-packed) (down .1) high,
         omega (arith, s .pre .1 .1),
         omega (arith, s .pre .1 .2),
         s .pre .1 .3,
       ),
     )
 
+follow-handed-requires-4 : (t : ℕ) → follow-lts.Need-handed-requires-4 (follow-uses t) (follow-at t) follow.Post
+follow-handed-requires-4 t c κs = search needs
+
 follow-same-length-2 : (t : ℕ) → follow-lts.Need-same-length-2 (follow-uses t) (follow-at t) follow.Post
 follow-same-length-2 t c = search needs
 
 follow-returns-2 : (t : ℕ) → follow-lts.Need-returns-2 (follow-uses t) (follow-at t) follow.Post
 follow-returns-2 t c =
-    let after-compose = c .before .before .before .before in
-    let after-map-read = after-compose .before in
+    let after-follow = c .before .before .before in
+    let after-handed = after-follow .before .before .before in
+    let after-packed = after-handed .before in
+    let after-map-read = after-packed .before .before .before in
     let then2 = after-map-read .before in
     let after-node-len = then2 .before .before .before in
     let after-natural = after-node-len .before in
     let s = after-natural .before .before .before in
+    let a = s .args in
     let eight = sym (after-natural .natural .ensures) ∙ then2 .if2 .taken in
-    dep-way _ _ (s .args .m) (s .args .b) (s .args .of) (s .args .tree) (s .args .level) (s .args .dry) (s .args .pen) _ _ (after-node-len .node-len .ensures)
-    (after-map-read .map-read .result) (after-compose .compose .result) eight (after-map-read .map-read .ensures)
-    (after-compose .compose .ensures .0) (c .before .before .follow2 .ensures)
+    let followed = rw (after-handed .handed3 .ensures) at (after-follow .follow2 .ensures) in
+    rw (c .handed4 .ensures)
+    (dep-way _ _ (mapIn (a .m .now)) (a .b) (a .of) (a .tree) (a .level) (a .dry) (a .pen) _ _ (after-node-len .node-len .ensures)
+    (after-map-read .map-read .result) (mapIn (after-packed .packed .result)) eight (after-map-read .map-read .ensures)
+    (composed t after-packed) followed)
 
 -- any other code
 six : (t : ℕ) (c : follow-lts.Else2 (follow-uses t) (follow-at t) follow.Post) →
@@ -302,95 +356,157 @@ follow-returns-3 t c =
     let after-node-len = after-children .before in
     let after-natural = after-node-len .before in
     let s = after-natural .before .before .before in
+    let a = s .args in
     let code = after-natural .natural .ensures in
     let below = after-level-below .level-below .ensures in
-    node-way _ _ (s .args .m) (s .args .b) (s .args .of) (s .args .tree) (s .args .level) (s .args .dry) (s .args .pen) _ _ (after-node-len .node-len .ensures) _
+    node-way _ _ (mapIn (a .m .now)) (a .b) (a .of) (a .tree) (a .level) (a .dry) (a .pen) _ _ (after-node-len .node-len .ensures) _
     (after-children .children .ensures)
     _ (six t (else2)) (eight t (else2)) (λ nd e. below .0 nd (e ∙ sym code)) (after-visit .visit .ensures) (c .before .before .follow-all .ensures)
 
-follow-all-returns : (t : ℕ) → follow-all-lts.Need-returns (follow-all-uses t) (follow-all-at t) follow-all.Post
-follow-all-returns t c =
-    let s = c .before .before .before in
-    none-way _ _ (s .args .m) (s .args .b) (s .args .of) (s .args .tree) (s .args .level) (s .args .dry) (s .args .pen) _ _ (c .if1 .taken)
+-- the operands from here on go on where those before them ended, and what they come to is what all of them do
+abbrev follow-all-Inv-loop : follow-all-lts.InvT-loop
+follow-all-Inv-loop s at left many b of m tree dry level out₀ sofar₀ p₀ more₀ i₀ n₀ out sofar p more i n =
+    RouteAll s p left more (mapIn m) i n tree level (sofar .to) (roomOf dry out) × (sofar .things ≤ sofar .to)
+    × ((d : List ℕ) (z : Pen) → FollowsAll s p more (mapIn m) i n tree level dry sofar out d z →
+    FollowsAll s at many (mapIn m) b of tree level dry sofar₀ out₀ d z)
+    × (length out ≡ length out₀)
 
-follow-all-follow-requires : (t : ℕ) → follow-all-lts.Need-follow-requires (follow-all-uses t) (follow-all-at t) follow-all.Post
+abbrev follow-all-μ-loop : follow-all-lts.MeasureT-loop
+follow-all-μ-loop s at left many b of m tree dry level out₀ sofar₀ p₀ more₀ i₀ n₀ out sofar p more i n = more
+
+follow-all-loop-holds : (t : ℕ) → follow-all-lts.Need-loop-holds (follow-all-uses t) (follow-all-at t)
+    follow-all.Post follow-all-Inv-loop follow-all-μ-loop
+follow-all-loop-holds t c =
+    let s = c .before .before in
+    (s .pre .1 .0, s .pre .1 .4, (λ d z h. h), refl)
+
+follow-all-split-requires : (t : ℕ) → follow-all-lts.Need-split-requires (follow-all-uses t) (follow-all-at t)
+    follow-all.Post follow-all-Inv-loop follow-all-μ-loop
+follow-all-split-requires t c κs =
+    let at-loop = c .before in
+    let s = at-loop .before .before .before in
+    let some : 1 ≤ at-loop .loop .more = omega (arith, c .loop-test .taken) in
+    (route-operand _ _ _ _ _ _ _ _ _ _ _ some (at-loop .loop .inv .0), s .pre .1 .1)
+
+follow-all-handed-requires : (t : ℕ) → follow-all-lts.Need-handed-requires (follow-all-uses t) (follow-all-at t)
+    follow-all.Post follow-all-Inv-loop follow-all-μ-loop
+follow-all-handed-requires t c κs = search needs
+
+follow-all-follow-requires : (t : ℕ) → follow-all-lts.Need-follow-requires (follow-all-uses t) (follow-all-at t)
+    follow-all.Post follow-all-Inv-loop follow-all-μ-loop
 follow-all-follow-requires t c κs =
-    let then2 = c .before in
-    let s = then2 .before .before .before .before in
-    let is = s .pre .0 in (
+    let after-split = c .before .before in
+    let at-loop = after-split .before .before in
+    let s = at-loop .before .before .before in
+    let inv = at-loop .loop .inv in
+    let some : 1 ≤ at-loop .loop .more = omega (arith, after-split .before .loop-test .taken) in
+    let is = s .pre .0 in
+    rw (c .before .handed .ensures) (
       omega arith,
       (
-        route-only _ _ _ _ _ _ _ _ _ _ _ (then2 .before .if1 .left) (s .pre .1 .0) (then2 .if2 .taken),
+        route-first _ _ _ _ _ _ _ _ _ _ _ some (inv .0) _ (after-split .split .ensures),
         s .pre .1 .1,
         s .pre .1 .2,
-        s .pre .1 .4,
+        inv .1,
       ),
     )
 
-follow-all-same-length : (t : ℕ) → follow-all-lts.Need-same-length (follow-all-uses t) (follow-all-at t) follow-all.Post
+follow-all-handed-requires-2 : (t : ℕ) → follow-all-lts.Need-handed-requires-2 (follow-all-uses t) (follow-all-at t)
+    follow-all.Post follow-all-Inv-loop follow-all-μ-loop
+follow-all-handed-requires-2 t c κs = search needs
+
+follow-all-sub-more : (t : ℕ) → follow-all-lts.Need-sub-more (follow-all-uses t) (follow-all-at t)
+    follow-all.Post follow-all-Inv-loop follow-all-μ-loop
+follow-all-sub-more t c =
+    let in-loop = c .before .before .before .before .before .before .before in
+    omega (arith, in-loop .loop-test .taken)
+
+follow-all-loop-less : (t : ℕ) → follow-all-lts.Need-loop-less (follow-all-uses t) (follow-all-at t)
+    follow-all.Post follow-all-Inv-loop follow-all-μ-loop
+follow-all-loop-less t c =
+    let in-loop = c .before .before .before .before .before .before .before in
+    omega (arith, in-loop .loop-test .taken)
+
+follow-all-loop-again : (t : ℕ) → follow-all-lts.Need-loop-again (follow-all-uses t) (follow-all-at t)
+    follow-all.Post follow-all-Inv-loop follow-all-μ-loop
+follow-all-loop-again t c =
+    let after-follow = c .before .before .before in
+    let after-handed = after-follow .before .before in
+    let after-split = after-handed .before in
+    let in-loop = after-split .before in
+    let at-loop = in-loop .before in
+    let s = at-loop .before .before .before in
+    let a = s .args in
+    let loop = at-loop .loop in
+    let inv = loop .inv in
+    let some : 1 ≤ loop .more = omega (arith, in-loop .loop-test .taken) in
+    let splits = after-split .split .ensures in
+    let followed = rw (after-handed .handed .ensures) at (after-follow .follow .ensures) in
+    rw (c .handed2 .ensures) (
+      route-next _ _ _ _ _ _ _ _ _ _ _ some (inv .0) _ splits _ _ _ _ _ refl followed refl,
+      followed-things _ _ _ _ _ _ _ _ _ _ _ some (inv .0) _ splits _ _ _ _ _ refl followed (inv .1),
+      (λ d z h. inv .2 d z (more-way _ _ (mapIn (a .m .now)) (loop .i) (loop .n) (a .tree) (a .level) (a .dry) (loop .sofar) _ _ _ some splits followed h)),
+      search needs,
+    )
+
+follow-all-same-length : (t : ℕ) → follow-all-lts.Need-same-length (follow-all-uses t) (follow-all-at t)
+    follow-all.Post follow-all-Inv-loop follow-all-μ-loop
 follow-all-same-length t c = search needs
 
-follow-all-returns-2 : (t : ℕ) → follow-all-lts.Need-returns-2 (follow-all-uses t) (follow-all-at t) follow-all.Post
-follow-all-returns-2 t c =
-    let after-follow = c .before .before in
-    let then2 = after-follow .before .before in
-    let s = then2 .before .before .before .before in
-    one-way _ _ (s .args .m) (s .args .b) (s .args .of) (s .args .tree) (s .args .level) (s .args .dry) (s .args .pen) _ _ (then2 .before .if1 .left)
-    (then2 .if2 .taken) (after-follow .follow .ensures)
+follow-all-returns : (t : ℕ) → follow-all-lts.Need-returns (follow-all-uses t) (follow-all-at t)
+    follow-all.Post follow-all-Inv-loop follow-all-μ-loop
+follow-all-returns t c =
+    let at-loop = c .before .before in
+    let s = at-loop .before .before .before in
+    let a = s .args in
+    let loop = at-loop .loop in
+    loop .inv .2 _ _ (none-way _ _ (mapIn (a .m .now)) (loop .i) (loop .n) (a .tree) (a .level) (a .dry) (loop .sofar) _ _ (c .if1 .taken))
 
-follow-all-split-requires : (t : ℕ) → follow-all-lts.Need-split-requires (follow-all-uses t) (follow-all-at t) follow-all.Post
-follow-all-split-requires t c κs =
-    let else1 = c .before in
-    let s = else1 .before .before .before in
-    (route-operand _ _ _ _ _ _ _ _ _ _ _ (else1 .if1 .left) (s .pre .1 .0), s .pre .1 .1)
+follow-all-handed-requires-3 : (t : ℕ) → follow-all-lts.Need-handed-requires-3 (follow-all-uses t) (follow-all-at t)
+    follow-all.Post follow-all-Inv-loop follow-all-μ-loop
+follow-all-handed-requires-3 t c κs = search needs
 
-follow-all-follow-requires-2 : (t : ℕ) → follow-all-lts.Need-follow-requires-2 (follow-all-uses t) (follow-all-at t) follow-all.Post
+follow-all-follow-requires-2 : (t : ℕ) → follow-all-lts.Need-follow-requires-2 (follow-all-uses t) (follow-all-at t)
+    follow-all.Post follow-all-Inv-loop follow-all-μ-loop
 follow-all-follow-requires-2 t c κs =
-    let after-split = c .before in
-    let else1 = after-split .before .before in
-    let s = else1 .before .before .before in
-    let is = s .pre .0 in (
+    let else1 = c .before .before in
+    let at-loop = else1 .before .before in
+    let s = at-loop .before .before .before in
+    let inv = at-loop .loop .inv in
+    let few : at-loop .loop .more < 2 = omega (arith, else1 .before .loop-test .left) in
+    let is = s .pre .0 in
+    rw (c .before .handed3 .ensures) (
       omega arith,
       (
-        route-first _ _ _ _ _ _ _ _ _ _ _ (else1 .if1 .left) (s .pre .1 .0) _ (after-split .split .ensures),
+        route-only _ _ _ _ _ _ _ _ _ _ _ (else1 .if1 .left) (inv .0) few,
         s .pre .1 .1,
         s .pre .1 .2,
-        s .pre .1 .4,
+        inv .1,
       ),
     )
 
-follow-all-follow-all-requires : (t : ℕ) → follow-all-lts.Need-follow-all-requires (follow-all-uses t) (follow-all-at t) follow-all.Post
-follow-all-follow-all-requires t c κs =
-    let after-follow = c .before .before .before in
-    let after-split = after-follow .before .before in
-    let else1 = after-split .before .before in
-    let s = else1 .before .before .before in
-    let h = s .pre .1 .0 in
-    let more = else1 .if1 .left in
-    let splits = after-split .split .ensures in
-    let followed = after-follow .follow2 .ensures in
-    let is = s .pre .0 in (
-      omega arith,
-      (
-        route-next _ _ _ _ _ _ _ _ _ _ _ more h _ splits _ _ _ _ _ refl followed refl,
-        s .pre .1 .1,
-        s .pre .1 .2,
-        omega (arith, s .pre .1 .3),
-        followed-things _ _ _ _ _ _ _ _ _ _ _ more h _ splits _ _ _ _ _ refl followed (s .pre .1 .4),
-      ),
-    )
+follow-all-handed-requires-4 : (t : ℕ) → follow-all-lts.Need-handed-requires-4 (follow-all-uses t) (follow-all-at t)
+    follow-all.Post follow-all-Inv-loop follow-all-μ-loop
+follow-all-handed-requires-4 t c κs = search needs
 
-follow-all-same-length-2 : (t : ℕ) → follow-all-lts.Need-same-length-2 (follow-all-uses t) (follow-all-at t) follow-all.Post
+follow-all-same-length-2 : (t : ℕ) → follow-all-lts.Need-same-length-2 (follow-all-uses t) (follow-all-at t)
+    follow-all.Post follow-all-Inv-loop follow-all-μ-loop
 follow-all-same-length-2 t c = search needs
 
-follow-all-returns-3 : (t : ℕ) → follow-all-lts.Need-returns-3 (follow-all-uses t) (follow-all-at t) follow-all.Post
-follow-all-returns-3 t c =
-    let after-follow = c .before .before .before .before .before .before in
-    let after-split = after-follow .before .before in
-    let else1 = after-split .before .before in
-    let s = else1 .before .before .before in
-    more-way _ _ (s .args .m) (s .args .b) (s .args .of) (s .args .tree) (s .args .level) (s .args .dry) (s .args .pen) _ _ _ (else1 .if1 .left)
-    (after-split .split .ensures) (after-follow .follow2 .ensures) (c .before .before .follow-all .ensures)
+follow-all-returns-2 : (t : ℕ) → follow-all-lts.Need-returns-2 (follow-all-uses t) (follow-all-at t)
+    follow-all.Post follow-all-Inv-loop follow-all-μ-loop
+follow-all-returns-2 t c =
+    let after-follow = c .before .before .before in
+    let after-handed = after-follow .before .before in
+    let else1 = after-handed .before in
+    let at-loop = else1 .before .before in
+    let s = at-loop .before .before .before in
+    let a = s .args in
+    let loop = at-loop .loop in
+    let few : loop .more < 2 = omega (arith, else1 .before .loop-test .left) in
+    let followed = rw (after-handed .handed3 .ensures) at (after-follow .follow2 .ensures) in
+    rw (c .handed4 .ensures)
+    (loop .inv .2 _ _ (one-way _ _ (mapIn (a .m .now)) (loop .i) (loop .n) (a .tree) (a .level) (a .dry) (loop .sofar) _ _ (else1 .if1 .left) few followed))
 
 pub +follow+follow-all-spec : {M : Type 1} → statement M
 +follow+follow-all-spec = close μ-follow μ-follow-all (λ t. follow-lts.spec (follow-uses t) (follow-at t)
@@ -401,15 +517,21 @@ pub +follow+follow-all-spec : {M : Type 1} → statement M
     (follow-children-requires t)
     (follow-sub-choose t)
     (follow-choose-requires t)
+    (follow-handed-requires t)
     (follow-sub-follow t)
     (follow-follow-requires t)
+    (follow-handed-requires-2 t)
     (follow-same-length t)
     (follow-returns t)
     (follow-add-map-read t)
     (follow-map-read-requires t)
+    (follow-map-in-requires t)
     (follow-compose-requires t)
+    (follow-packed-requires t)
+    (follow-handed-requires-3 t)
     (follow-sub-follow-2 t)
     (follow-follow-requires-2 t)
+    (follow-handed-requires-4 t)
     (follow-same-length-2 t)
     (follow-returns-2 t)
     (follow-visit-requires t)
@@ -420,12 +542,20 @@ pub +follow+follow-all-spec : {M : Type 1} → statement M
     (follow-returns-3 t))
     λ t. follow-all-lts.spec (follow-all-uses t) (follow-all-at t)
     follow-all.Post
-    (follow-all-returns t)
-    (follow-all-follow-requires t)
-    (follow-all-same-length t)
-    (follow-all-returns-2 t)
+    follow-all-Inv-loop
+    follow-all-μ-loop
+    (follow-all-loop-holds t)
     (follow-all-split-requires t)
+    (follow-all-handed-requires t)
+    (follow-all-follow-requires t)
+    (follow-all-handed-requires-2 t)
+    (follow-all-sub-more t)
+    (follow-all-loop-less t)
+    (follow-all-loop-again t)
+    (follow-all-same-length t)
+    (follow-all-returns t)
+    (follow-all-handed-requires-3 t)
     (follow-all-follow-requires-2 t)
-    (follow-all-follow-all-requires t)
+    (follow-all-handed-requires-4 t)
     (follow-all-same-length-2 t)
-    (follow-all-returns-3 t)
+    (follow-all-returns-2 t)

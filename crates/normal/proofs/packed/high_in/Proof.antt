@@ -1,0 +1,25 @@
+-- `normal::high_in` meets its contract. Assumes nothing.
+use Rattle.normal.specs.Packed.{number, mapIn}
+use mathlib.Core.Path.{ap, _∙_}
+use lib.IntN.{natAbs}
+use mir.Syntax.{w64}
+use mir.Val.{SFits}
+use mir.Facts.{toZ-ofZ}
+use borrow.Author.Needs.{needs, sfits-of}
+use Rattle.normal.proofs.packed.high_in.Statement.{statement}
+use Rattle.normal.proofs.packed.high_in.Tie as tie
+
+element-copy-out-t4 : tie.Need-element-copy-out-t4
+element-copy-out-t4 c = search needs
+
+to-usize-requires : tie.Need-to-usize-requires
+to-usize-requires c κs = search needs
+
+returns : tie.Need-returns
+unfolding mapIn
+returns c =
+    let fits : SFits w64 (number (c .before .before .args .m .now) 20) = sfits-of (c .before .t4 .given) in
+    c .to-usize .ensures ∙ ap natAbs (toZ-ofZ fits)
+
+pub high-in-spec : {M : Type 1} → statement M
+high-in-spec = tie.close (tie.spec element-copy-out-t4 to-usize-requires returns)
