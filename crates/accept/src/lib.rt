@@ -29,14 +29,14 @@ pub fn form(s: &[u8], tab: &mut [usize; 102]) -> Verdict
     ensures { λ r. ⌜ Forms (now (s .entry)) (now (tab .exit)) r ⌝ }
 {
     let r = sheet::read(s, tab);
-    let Verdict::Accepted(total) = r else {
+    let Verdict::Accepted(count) = r else {
         return r;
     };
     let f = tree::forms(s, tab);
     if let Ruling::Refused(why) = f {
         return Verdict::Refused(why);
     }
-    Verdict::Accepted(total)
+    Verdict::Accepted(count)
 }
 
 // Then GAP and CLASH at each element of a sheet that `form` let pass with `total` elements. Where it is accepted, each element's byte says

@@ -18,7 +18,7 @@ enum-told-2 c = search needs
 
 returns : tie.Need-returns
 returns c =
-    let s = c .before .before .before .before .before .before .before in
+    let s = c .before .before .before .before .before .before in
     check-refuses _ (s .args .out .now) _ _ (c .enum-told2 .given .1) (c .before .before .judge .ensures .admits .answer)
 
 third-place-requires : tie.Need-third-place-requires
@@ -73,7 +73,7 @@ returns-3 c =
     let after-third-place = after-plan-from .before in
     let after-enum-told = after-third-place .before .before .before in
     let after-judge = after-enum-told .before .before in
-    let s = after-judge .before .before .before .before .before in
+    let s = after-judge .before .before .before .before in
     let admitted = after-judge .judge .ensures .admits .admitted _ (after-enum-told .enum-told .given .1) in
     wide-refuses _ _ (admitted .formed) (admitted .sheet-is) _ (after-third-place .third-place .ensures) _ (after-plan-from .plan-from .ensures)
     (s .args .out .now) _ (c .before .plan2 .given .1)
