@@ -32,6 +32,7 @@ use Rattle.affine.specs.Value.{line, mapOf, Neat}
 use Rattle.affine.specs.Size.{FitAfter}
 use Rattle.affine.specs.Reading.{MapRead}
 use Rattle.affine.proofs.Meaning.{height-length, width-cols}
+use Rattle.affine.proofs.Fetched.{map-there}
 use Rattle.affine.proofs.Bounds.{rowReach-more, compose-fits}
 use Rattle.domain.proofs.Walks.{tree-code, code-field, same-below, children-fit}
 use Rattle.domain.proofs.Restrictions.{Each, each-first, each-rest, constraint-is}
@@ -45,7 +46,7 @@ use Rattle.normal.specs.Counted.{ChildrenAt, Picks, OperandAt, SplitsOf,
 use Rattle.normal.specs.Part.{nothing, beside, own, levelBelow, partOf, chosenOf, partsOf}
 use Rattle.normal.specs.Rows.{AllComposable}
 use Rattle.normal.specs.Spot.{Limits, Spot}
-use Rattle.normal.specs.Followed.{roomOf, Route, RouteAll, Wrote, Visits, Follows, FollowsAll}
+use Rattle.normal.specs.Followed.{roomOf, Composes, Lowers, Route, RouteAll, Wrote, Visits, Follows, FollowsAll}
 use Rattle.normal.proofs.Counting.{Factors, factors, only-split}
 use Rattle.normal.proofs.Parts.{part-children, count-operands, pick-kept, wrote-nothing, wrote-then, room-same, things-low, part-things}
 use Rattle.normal.proofs.Spots.{own-out, own-things}
@@ -149,14 +150,11 @@ module _ (bs : List ℕ) where
               fits-room = subst (λ x. to + length (x .out) ≤ room) same (h .fits-room);
             }
 
-    -- ---- a dependence, whose map is g
+    -- ---- a dependence
 
-    module _ (eight : natAbs (field bs p) ≡ 8) (g : Map) (read : MapRead bs (p + 8) g) where
+    module _ (eight : natAbs (field bs p) ≡ 8) where
       below : DepAt (h .tree) (varsOf bs) bs p (h .end)
       below = at-dep (varsOf bs) bs (h .tree) p (h .end) (h .at) (code-field bs p (h .tree) (h .end) 8 (h .at) eight)
-
-      map-is : mapOf g ≡ below .by
-      map-is = read .is (below .by) (p + nodeLen bs p) (below .fields .read)
 
       dep-fits : eqb (below .by .cols) (m .height) && fits (below .child) (headsOf bs) (length (below .by .rows)) ≡ true
       unfolding fits
@@ -182,21 +180,32 @@ module _ (bs : List ℕ) where
       dep-limit = leb-true (mapReach (h .bound) (below .by .rows)) limit
           (&&-left (leb (mapReach (h .bound) (below .by .rows)) limit) (reach (below .child) (mapReach (h .bound) (below .by .rows))) dep-reaches)
 
-      pub dep-dims : g .width ≡ m .height
-      dep-dims = width-cols g map-is
-          ∙ eqb-true (below .by .cols) (m .height)
-          (&&-left (eqb (below .by .cols) (m .height)) (fits (below .child) (headsOf bs) (length (below .by .rows))) dep-fits)
+      -- its map is g
+      module _ (g : Map) (read : MapRead bs (p + 8) g) where
+        map-is : mapOf g ≡ below .by
+        map-is = read .is (below .by) (p + nodeLen bs p) (below .fields .read)
 
-      pub dep-composes : (i : ℕ) → FitAfter m (line g i)
-      dep-composes =
-          compose-fits topReach m (h .carried .neat) (omega arith) g (read .neat) dep-dims
-          (subst (λ f. mapReach (mapReach topReach (mapOf m .rows)) (f .rows) ≤ limit) (sym map-is)
-          (le-trans (mapReach-more (below .by .rows) (h .carried .within)) dep-limit))
+        dep-dims : g .width ≡ m .height
+        dep-dims = width-cols g map-is
+            ∙ eqb-true (below .by .cols) (m .height)
+            (&&-left (eqb (below .by .cols) (m .height)) (fits (below .child) (headsOf bs) (length (below .by .rows))) dep-fits)
 
-      module _ (k : ℕ) (long : k ≡ nodeLen bs p) (w : Map) (is : mapOf w ≡ mapAfter (mapOf m) (mapOf g)) (neat : Neat w)
-          (high : w .height ≡ g .height) where
+        dep-composes : (i : ℕ) → FitAfter m (line g i)
+        dep-composes =
+            compose-fits topReach m (h .carried .neat) (omega arith) g (read .neat) dep-dims
+            (subst (λ f. mapReach (mapReach topReach (mapOf m .rows)) (f .rows) ≤ limit) (sym map-is)
+            (le-trans (mapReach-more (below .by .rows) (h .carried .within)) dep-limit))
+
+      pub route-composes : Composes bs (p + 8) m
+      route-composes = record { there = map-there bs (p + 8) (below .fields .read); neat = h .carried .neat; dims = dep-dims; fit = dep-composes }
+
+      -- w is its map after m
+      module _ (k : ℕ) (long : k ≡ nodeLen bs p) (w : Map) (l : Lowers bs (p + 8) m w) where
+        by : mapOf (l .by) ≡ below .by
+        by = map-is (l .by) (l .read)
+
         by-is : mapOf w ≡ mapAfter (mapOf m) (below .by)
-        by-is = is ∙ ap (mapAfter (mapOf m)) map-is
+        by-is = l .is ∙ ap (mapAfter (mapOf m)) by
 
         pub route-below : Route bs (p + k) (left - 1) w b of t level to room
         route-below = record {
@@ -205,12 +214,12 @@ module _ (bs : List ℕ) where
           bound = mapReach (h .bound) (below .by .rows);
           at = subst (λ i. At (below .child) (varsOf bs) bs (p + i) (h .end)) (sym long) (below .below);
           few = omega (arith, h .few, dep-nodes);
-          fitting = subst (λ n. fits (below .child) (headsOf bs) n ≡ true) (sym (high ∙ height-length g map-is))
+          fitting = subst (λ n. fits (below .child) (headsOf bs) n ≡ true) (sym (l .high ∙ height-length (l .by) by))
               (&&-right (eqb (below .by .cols) (m .height)) (fits (below .child) (headsOf bs) (length (below .by .rows))) dep-fits);
           reaches =
               &&-right (leb (mapReach (h .bound) (below .by .rows)) limit) (reach (below .child) (mapReach (h .bound) (below .by .rows))) dep-reaches;
           carried = record {
-            neat = neat;
+            neat = l .neat;
             within = subst (λ f. mapReach topReach (f .rows) ≤ mapReach (h .bound) (below .by .rows)) (sym by-is)
                 (le-trans (map-reach (mapOf m) (below .by .rows) topReach) (mapReach-more (below .by .rows) (h .carried .within)));
             high = dep-limit;
@@ -502,12 +511,12 @@ module _ (bs : List ℕ) (p : ℕ) (m : Map) (b of : ℕ) (t : Bool) (level : �
           subst (Wrote dry pen out out′ z) same both
 
     -- a dependence: the child's branch, with the maps composed
-    pub dep-way : (g w : Map) {out′ : List ℕ} {z : Pen} → natAbs (field bs p) ≡ 8 → MapRead bs (p + 8) g → mapOf w ≡ mapAfter (mapOf m) (mapOf g) →
+    pub dep-way : (w : Map) {out′ : List ℕ} {z : Pen} → natAbs (field bs p) ≡ 8 → Lowers bs (p + 8) m w →
         Follows bs (p + k) w b of t level dry pen out out′ z → Follows bs p m b of t level dry pen out out′ z
-    dep-way g w {out′} {z} eight read is followed e q h has =
+    dep-way w {out′} {z} eight l followed e q h has =
         let x = at-dep (varsOf bs) bs e p q h (code-field bs p e q 8 h eight) in
-        let map-is = read .is (x .by) (p + nodeLen bs p) (x .fields .read) in
-        let part = ap (λ f. partOf t (x .child) f level b) (is ∙ ap (mapAfter (mapOf m)) map-is) ∙ sym (parted x) in
+        let by = l .read .is (x .by) (p + nodeLen bs p) (x .fields .read) in
+        let part = ap (λ f. partOf t (x .child) f level b) (l .is ∙ ap (mapAfter (mapOf m)) by) ∙ sym (parted x) in
         subst (Wrote dry pen out out′ z) part
         (followed (x .child) q (subst (λ i. At (x .child) (varsOf bs) bs (p + i) q) (sym long) (x .below)) (sym (counts x) ∙ has))
       where

@@ -7,6 +7,7 @@ use mathlib.Core.List.{List}
 use lib.ListN.{length}
 use lib.Seq.{sets}
 use Rattle.alpha.specs.Sheet.{Node, Expr, Exprs}
+use Rattle.alpha.specs.Affine.{mapAfter}
 use Rattle.alpha.specs.Read.{got, node}
 use Rattle.alpha.specs.Shape.{fits, allFit}
 use Rattle.alpha.specs.Reach.{limit, topReach, mapReach, reach, reachAll}
@@ -14,7 +15,9 @@ use Rattle.alpha.specs.Written.{branchCount, nodeCount, nodeCounts}
 use Rattle.laws.specs.At.{At, AllAt}
 use Rattle.laws.specs.Sheets.{headsOf, varsOf}
 use Rattle.affine.specs.declared.Map.{Map}
-use Rattle.affine.specs.Value.{mapOf, Neat}
+use Rattle.affine.specs.Value.{line, mapOf, Neat}
+use Rattle.affine.specs.Size.{FitAfter}
+use Rattle.affine.specs.Reading.{MapRead, MapThere}
 use Rattle.normal.specs.declared.Pen.{Pen}
 use Rattle.normal.specs.Count.{countOf, productOf}
 use Rattle.normal.specs.Part.{Part, own, partOf, partsOf}
@@ -42,6 +45,21 @@ pub record Carried (m : Map) (bound : ℕ) : Type 0 where
   pub neat : Neat m
   pub within : mapReach topReach (mapOf m .rows) ≤ bound
   pub high : bound ≤ limit
+
+-- the fields of a dependence stand at p, and its map can be composed with m
+pub record Composes (bs : List ℕ) (p : ℕ) (m : Map) : Type 0 where
+  pub there : MapThere bs p
+  pub neat : Neat m
+  pub dims : (g : Map) → MapRead bs p g → g .width ≡ m .height
+  pub fit : (g : Map) → MapRead bs p g → (i : ℕ) → FitAfter m (line g i)
+
+-- r is that map after m
+pub record Lowers (bs : List ℕ) (p : ℕ) (m r : Map) : Type 0 where
+  pub by : Map
+  pub read : MapRead bs p by
+  pub is : mapOf r ≡ mapAfter (mapOf m) (mapOf by)
+  pub neat : Neat r
+  pub high : r .height ≡ by .height
 
 -- ---- what is required
 

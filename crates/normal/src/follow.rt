@@ -7,7 +7,7 @@ use super::node::visit;
 use super::packed::map_in;
 use super::packed::packed;
 use affine::compose;
-use affine::map_read;
+use affine::rows_read;
 use tree::node::children;
 use tree::node::natural;
 use tree::node::node_len;
@@ -17,7 +17,7 @@ ghost use Rattle.alpha.specs.Sheet.{Node};
 ghost use Rattle.laws.specs.At.{codeOf};
 ghost use Rattle.normal.specs.Packed.{mapIn};
 ghost use Rattle.normal.specs.Part.{levelBelow};
-ghost use Rattle.normal.specs.Followed.{roomOf, Route, RouteAll, Follows, FollowsAll};
+ghost use Rattle.normal.specs.Followed.{roomOf, Composes, Lowers, Route, RouteAll, Follows, FollowsAll};
 
 // How many nodes of the tree stand above the children of a node with such a code.
 fn level_below(code: usize, level: usize) -> usize
@@ -41,6 +41,16 @@ fn handed(pen: Pen) -> Pen
     let things = pen.things;
     let deep = pen.deep;
     Pen { to, things, deep }
+}
+
+// The map of the dependence whose fields stand at p, after the map so far.
+fn map_below(s: &[u8], p: usize, m: &[i64; 22]) -> [i64; 22]
+    requires { ⌜ Composes (now s) p (mapIn (now m)) ⌝ }
+    ensures { λ r. ⌜ Lowers (now (s .entry)) p (mapIn (now (m .entry))) (mapIn r) ⌝ }
+{
+    let n = natural(s, p);
+    let k = natural(s, p + 8);
+    packed(compose(rows_read(s, p + 16, k, n), map_in(m)))
 }
 
 // Branch b of the tree at `at`, which has `of` branches and at most `left` nodes, below `level` nodes of the branch's own tree.
@@ -73,7 +83,7 @@ pub fn follow(
         return handed(end);
     }
     if code == 8 {
-        let w = packed(compose(map_read(s, at + 8), map_in(m)));
+        let w = map_below(s, at + 8, m);
         let now = handed(pen);
         let end = follow(s, next, left - 1, b, of, &w, tree, dry, level, out, now);
         return handed(end);

@@ -7,15 +7,12 @@ use Rattle.normal.proofs.follow.+follow+follow_all.Lts-follow as follow
 use Rattle.normal.proofs.follow.follow_all.Reads as follow-all
 use Rattle.normal.proofs.follow.follow_all.Kinds as follow-all-kinds
 use Rattle.normal.proofs.follow.+follow+follow_all.Lts-follow_all as follow-all-lts
-use Rattle.affine.proofs.compose.Reads as compose-reads
-use Rattle.affine.proofs.map_read.Reads as map-read-reads
 use Rattle.normal.proofs.choose.choose.Reads as choose-reads
 use Rattle.normal.proofs.choose.split.Reads as split-reads
 use Rattle.normal.proofs.follow.handed.Reads as handed-reads
 use Rattle.normal.proofs.follow.level_below.Reads as level-below-reads
+use Rattle.normal.proofs.follow.map_below.Reads as map-below-reads
 use Rattle.normal.proofs.node.visit.Reads as visit-reads
-use Rattle.normal.proofs.packed.map_in.Reads as map-in-reads
-use Rattle.normal.proofs.packed.packed.Reads as packed-reads
 use Rattle.tree.proofs.node.children.Reads as children-reads
 use Rattle.tree.proofs.node.natural.Reads as natural-reads
 use Rattle.tree.proofs.node.node_len.Reads as node-len-reads
@@ -29,16 +26,14 @@ use borrow.Author.Needs.{needs}
 use lib.ListN.{length}
 use lib.IntN.{natAbs}
 use Rattle.alpha.specs.Field.{field}
-use Rattle.alpha.specs.Affine.{mapAfter}
 use Rattle.laws.specs.Sheets.{varsOf}
-use Rattle.affine.specs.Value.{mapOf}
 use Rattle.tree.specs.Standing.{Noded}
 use Rattle.tree.proofs.Noding.{code-there}
 use Rattle.tree.proofs.Standings.{standing-noded, standing-some, standing-there}
 use Rattle.normal.specs.declared.Pen.{Pen}
 use Rattle.normal.specs.Packed.{mapIn}
 use Rattle.normal.specs.Followed.{roomOf, RouteAll, FollowsAll}
-use Rattle.normal.proofs.Routes.{route-standing, route-choice, route-chosen, dep-dims, dep-composes, route-below, route-spot, route-after}
+use Rattle.normal.proofs.Routes.{route-standing, route-choice, route-chosen, route-composes, route-below, route-spot, route-after}
 use Rattle.normal.proofs.Routes.{visited-things, route-many}
 use Rattle.normal.proofs.Routes.{route-operand, route-first, followed-things, route-next, case-way, node-way, dep-way}
 use Rattle.normal.proofs.Routes.{none-way, one-way, more-way, route-only}
@@ -77,14 +72,8 @@ follow-uses t = (
   handed-reads.Learnt,
   follow-below t,
   follow.Post,
-  map-read-reads.Asked,
-  map-read-reads.Learnt,
-  map-in-reads.Asked,
-  map-in-reads.Learnt,
-  compose-reads.Asked,
-  compose-reads.Learnt,
-  packed-reads.Asked,
-  packed-reads.Learnt,
+  map-below-reads.Asked,
+  map-below-reads.Learnt,
   visit-reads.Asked,
   visit-reads.Learnt,
   level-below-reads.Asked,
@@ -189,69 +178,41 @@ follow-returns t c =
     (after-children .children .ensures)
     _ six (s .pre .1 .0 .some) (after-choose .choose .ensures) followed)
 
-follow-add-map-read : (t : ℕ) → follow-lts.Need-add-map-read (follow-uses t) (follow-at t) follow.Post
-follow-add-map-read t c =
+follow-add-map-below : (t : ℕ) → follow-lts.Need-add-map-below (follow-uses t) (follow-at t) follow.Post
+follow-add-map-below t c =
     let s = c .before .before .before .before .before .before .before in
     omega (arith, code-there _ _ _ (noded t (s)))
 
-follow-map-read-requires : (t : ℕ) → follow-lts.Need-map-read-requires (follow-uses t) (follow-at t) follow.Post
-follow-map-read-requires t c κs = search needs
-
-follow-map-in-requires : (t : ℕ) → follow-lts.Need-map-in-requires (follow-uses t) (follow-at t) follow.Post
-follow-map-in-requires t c κs = search needs
-
-follow-compose-requires : (t : ℕ) → follow-lts.Need-compose-requires (follow-uses t) (follow-at t) follow.Post
-follow-compose-requires t c κs =
-    let then2 = c .before .before in
-    let after-natural = then2 .before .before .before .before in
+follow-map-below-requires : (t : ℕ) → follow-lts.Need-map-below-requires (follow-uses t) (follow-at t) follow.Post
+follow-map-below-requires t c κs =
+    let after-natural = c .before .before .before .before in
     let s = after-natural .before .before .before in
-    let eight = sym (after-natural .natural .ensures) ∙ then2 .if2 .taken in
-    let read = c .before .map-read .ensures in
-    rw (c .map-in .ensures) (
-      read .neat,
-      s .pre .1 .0 .carried .neat,
-      dep-dims _ _ _ _ _ _ _ _ _ _ (s .pre .1 .0) eight _ read,
-      dep-composes _ _ _ _ _ _ _ _ _ _ (s .pre .1 .0) eight _ read,
-    )
-
-follow-packed-requires : (t : ℕ) → follow-lts.Need-packed-requires (follow-uses t) (follow-at t) follow.Post
-follow-packed-requires t c κs = c .compose .ensures .1
+    let eight = sym (after-natural .natural .ensures) ∙ c .if2 .taken in
+    route-composes _ _ _ _ _ _ _ _ _ _ (s .pre .1 .0) eight
 
 follow-handed-requires-3 : (t : ℕ) → follow-lts.Need-handed-requires-3 (follow-uses t) (follow-at t) follow.Post
 follow-handed-requires-3 t c κs = search needs
 
 follow-sub-follow-2 : (t : ℕ) → follow-lts.Need-sub-follow-2 (follow-uses t) (follow-at t) follow.Post
 follow-sub-follow-2 t c =
-    let s = c .before .before .before .before .before .before .before .before .before .before .before .before in
+    let s = c .before .before .before .before .before .before .before .before .before in
     omega (arith, some t (s))
-
--- the map of the array that goes down is the map above after the dependence's
-composed : (t : ℕ) (c : follow-lts.After-packed (follow-uses t) (follow-at t) follow.Post) →
-    mapOf (mapIn (c .packed .result))
-    ≡ mapAfter (mapOf (mapIn (c .before .before .before .before .before .before .before .before .before .before .before .args .m .now)))
-    (mapOf (c .before .before .before .map-read .result))
-composed t c = c .packed .ensures .0 ∙ (rw (c .before .before .map-in .ensures) at (c .before .compose .ensures .0))
 
 follow-follow-requires-2 : (t : ℕ) → follow-lts.Need-follow-requires-2 (follow-uses t) (follow-at t) follow.Post
 follow-follow-requires-2 t c κs =
     let after-handed = c .before .before in
-    let after-packed = after-handed .before in
-    let after-compose = after-packed .before in
-    let after-map-read = after-compose .before .before in
-    let then2 = after-map-read .before in
+    let after-map-below = after-handed .before in
+    let then2 = after-map-below .before in
     let after-node-len = then2 .before .before .before in
     let after-natural = after-node-len .before in
     let s = after-natural .before .before .before in
     let eight = sym (after-natural .natural .ensures) ∙ then2 .if2 .taken in
-    let down = after-packed .packed .ensures in
-    let high = down .2 ∙ after-compose .compose .ensures .2 in
     let left = some t s in
     let is = s .pre .0 in
     rw (after-handed .handed3 .ensures) (
       omega arith,
       (
-        route-below _ _ _ _ _ _ _ _ _ _ (s .pre .1 .0) eight _ (after-map-read .map-read .ensures) _ (after-node-len .node-len .ensures) _
-            (composed t after-packed) (down .1) high,
+        route-below _ _ _ _ _ _ _ _ _ _ (s .pre .1 .0) eight _ (after-node-len .node-len .ensures) _ (after-map-below .map-below .ensures),
         omega (arith, s .pre .1 .1),
         omega (arith, s .pre .1 .2),
         s .pre .1 .3,
@@ -268,9 +229,8 @@ follow-returns-2 : (t : ℕ) → follow-lts.Need-returns-2 (follow-uses t) (foll
 follow-returns-2 t c =
     let after-follow = c .before .before .before in
     let after-handed = after-follow .before .before .before in
-    let after-packed = after-handed .before in
-    let after-map-read = after-packed .before .before .before in
-    let then2 = after-map-read .before in
+    let after-map-below = after-handed .before in
+    let then2 = after-map-below .before in
     let after-node-len = then2 .before .before .before in
     let after-natural = after-node-len .before in
     let s = after-natural .before .before .before in
@@ -279,8 +239,7 @@ follow-returns-2 t c =
     let followed = rw (after-handed .handed3 .ensures) at (after-follow .follow2 .ensures) in
     rw (c .handed4 .ensures)
     (dep-way _ _ (mapIn (a .m .now)) (a .b) (a .of) (a .tree) (a .level) (a .dry) (a .pen) _ _ (after-node-len .node-len .ensures)
-    (after-map-read .map-read .result) (mapIn (after-packed .packed .result)) eight (after-map-read .map-read .ensures)
-    (composed t after-packed) followed)
+    (mapIn (after-map-below .map-below .result)) eight (after-map-below .map-below .ensures) followed)
 
 -- any other code
 six : (t : ℕ) (c : follow-lts.Else2 (follow-uses t) (follow-at t) follow.Post) →
@@ -523,11 +482,8 @@ pub +follow+follow-all-spec : {M : Type 1} → statement M
     (follow-handed-requires-2 t)
     (follow-same-length t)
     (follow-returns t)
-    (follow-add-map-read t)
-    (follow-map-read-requires t)
-    (follow-map-in-requires t)
-    (follow-compose-requires t)
-    (follow-packed-requires t)
+    (follow-add-map-below t)
+    (follow-map-below-requires t)
     (follow-handed-requires-3 t)
     (follow-sub-follow-2 t)
     (follow-follow-requires-2 t)
