@@ -28,7 +28,7 @@ use Rattle.laws.proofs.Shapes.{at-got, at-node, at-kase, at-dep, at-restr, Kase
 use Rattle.laws.proofs.Children.{arity-few, children-count, reach-children}
 use Rattle.laws.proofs.NormalReach.{map-reach}
 use Rattle.affine.specs.declared.Map.{Map}
-use Rattle.affine.specs.Value.{line, mapOf, Neat}
+use Rattle.affine.specs.Value.{line, mapOf}
 use Rattle.affine.specs.Size.{FitAfter}
 use Rattle.affine.specs.Reading.{MapRead}
 use Rattle.affine.proofs.Meaning.{height-length, width-cols}
