@@ -32,7 +32,7 @@ use Rattle.affine.specs.Reading.{MapRead, MapThere}
 use Rattle.affine.proofs.Meaning.{height-length, width-cols}
 use Rattle.affine.proofs.Fetched.{map-there}
 use Rattle.affine.proofs.Bounds.{image-near, map-fits}
-use Rattle.tree.specs.Standing.{Standing, StandingAll}
+use Rattle.tree.specs.Standing.{Standing}
 use Rattle.tree.proofs.Standings.{children-at, children-counted, one-more}
 use Rattle.domain.specs.Walk.{Ends, Walk, WalkAll}
 
@@ -160,9 +160,6 @@ module _ (bs : List ℕ) where
         }
 
   -- ---- so many trees
-
-  pub walks-standing : (p left n : ℕ) (z : List Int) → WalkAll bs p left n z → StandingAll (varsOf bs) bs p left n
-  walks-standing p left n z h = record { trees = h .trees; end = h .end; at = h .at; few = h .few; many = h .many }
 
   module _ (p left n : ℕ) (z : List Int) (some : 1 ≤ n) (h : WalkAll bs p left n z) where
     pub walks-split : MoreAt (h .trees) (varsOf bs) bs p (h .end) (n - 1)

@@ -82,9 +82,3 @@ module _ (out : Elements) (f : Thing) (grows : Grows f) (next : ℤ → Thing) w
   says-first c Overflow n s = ap (λ o. andThen o (λ y. next y c)) s
   says-first c Loop n s = λ k. ap (λ o. andThen o (λ y. next y k)) (s k)
   says-first c (Deep m) n s = λ k l. ap (λ o. andThen o (λ y. next y k)) (s k l)
-
--- ---- a thing that is the same at every depth
-
-pub says-value : (out : Elements) (f : Thing) (c : ℕ) (x : Int) → f c ≡ value (x .v) → Says out f c (Value x)
-unfolding Says
-says-value out f c x e = e

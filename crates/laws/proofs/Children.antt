@@ -5,17 +5,16 @@ use Prim.Native.Nat.{ℕ, zero, suc, _+_, _≤_}
 use native.Mathlib.Omega.{arith}
 use mathlib.Core.Bool.{Bool, true, false, _&&_}
 use mathlib.Core.List.{List, [], _∷_}
-use mathlib.Core.Option.{Option, Option.none, some}
 use lib.ListN.{length, getD}
 use lib.IntN.{natAbs}
 use lib.Dec.{eqb, leb}
 use Rattle.alpha.specs.Field.{field}
-use Rattle.alpha.specs.Sheet.{Sort, Sort.integer, Sort.boolean, Node, Head, Expr, Exprs}
+use Rattle.alpha.specs.Sheet.{Node, Head, Expr, Exprs}
 use Rattle.alpha.specs.Sheet.{Node.nVar, Node.nInt, Node.nBool, Node.nUnary, Node.nBinary, Node.nIf, Node.nCase, Node.nRestr, Node.nDep}
 use Rattle.alpha.specs.Sheet.{Expr.var, Expr.int, Expr.boo, Expr.un, Expr.bin, Expr.ite, Expr.kase, Expr.restr, Expr.dep, Exprs.none, Exprs.more}
 use Rattle.alpha.specs.Read.{got, node, dimension}
 use Rattle.alpha.specs.Shape.{Parsed, tree, ill, then, Parser, branches, withNode, atNode, exprAt, fits, allFit}
-use Rattle.alpha.specs.Typing.{agree, typeOf, typesOf, agreeing}
+use Rattle.alpha.specs.Typing.{typeOf, typesOf}
 use Rattle.alpha.specs.Reach.{limit, mapReach, allReach, reach, reachAll}
 use Rattle.alpha.specs.Written.{branchCount, nodeCount, nodeCounts}
 use Rattle.laws.specs.At.{nodeOf, codeOf, nodeLen, Headed, At, AllAt}
@@ -283,38 +282,6 @@ reach-children (restr d cs a) r = ap (λ x. allReach r cs && x) (&&-none (reach 
 reach-children (dep f a) r = ap (λ x. leb (mapReach r (f .rows)) limit && x) (&&-none (reach a (mapReach r (f .rows))))
 
 -- ---- types
-
-agree-assoc : (a b c : Option Sort) → agree (agree a b) c ≡ agree a (agree b c)
-agree-assoc Option.none b c = refl
-agree-assoc (some integer) (some integer) (some integer) = refl
-agree-assoc (some integer) (some integer) (some boolean) = refl
-agree-assoc (some integer) (some integer) Option.none = refl
-agree-assoc (some integer) (some boolean) (some integer) = refl
-agree-assoc (some integer) (some boolean) (some boolean) = refl
-agree-assoc (some integer) (some boolean) Option.none = refl
-agree-assoc (some integer) Option.none c = refl
-agree-assoc (some boolean) (some integer) (some integer) = refl
-agree-assoc (some boolean) (some integer) (some boolean) = refl
-agree-assoc (some boolean) (some integer) Option.none = refl
-agree-assoc (some boolean) (some boolean) (some integer) = refl
-agree-assoc (some boolean) (some boolean) (some boolean) = refl
-agree-assoc (some boolean) (some boolean) Option.none = refl
-agree-assoc (some boolean) Option.none c = refl
-
-module _ (hs : List Head) where
-  agreeing-agree : (es : Exprs) (a b : Option Sort) → agreeing es hs (agree a b) ≡ agree a (agreeing es hs b)
-  unfolding typeOf
-  agreeing-agree none a b = refl
-  agreeing-agree (more e es) a b = ap (agreeing es hs) (agree-assoc a b (typeOf e hs)) ∙ agreeing-agree es a (agree b (typeOf e hs))
-
-  -- the type that a tree and the others have
-  pub types-more : (e f : Expr) (es : Exprs) → typesOf (more e (more f es)) hs ≡ agree (typeOf e hs) (typesOf (more f es) hs)
-  unfolding typeOf
-  types-more e f es = agreeing-agree es (typeOf e hs) (typeOf f hs)
-
-  pub types-one : (e : Expr) → typesOf (more e none) hs ≡ typeOf e hs
-  unfolding typeOf
-  types-one e = refl
 
 -- the nodes whose children have one type: all that have children, but for an if
 pub type-children : (e : Expr) (hs : List Head) → (codeOf (nodeOf e) ≡ 0 → ⊥) → (codeOf (nodeOf e) ≡ 1 → ⊥) → (codeOf (nodeOf e) ≡ 2 → ⊥) → (codeOf (nodeOf e) ≡ 5 → ⊥) →

@@ -12,22 +12,10 @@ use std::time::Duration;
 
 /// The second program's walks may go deep; the executable has the process's.
 const STACK: usize = 1 << 28;
-/// What a hostile sheet may take: a second, and ten where cases nest in a
-/// branch before the last, since time grows with their depth there. The
-/// machine may have other work: a run past the limit is tried again, and the
-/// least of three counts.
+/// What a hostile sheet may take. The machine may have other work: a run past
+/// the limit is tried again, and the least of three counts.
 const LIMIT: Duration = Duration::from_secs(1);
-const NESTED: Duration = Duration::from_secs(10);
-const NEST: &str = "nested-in-first";
 const TRIES: usize = 3;
-
-fn limit(name: &str) -> Duration {
-    if name == NEST {
-        NESTED
-    } else {
-        LIMIT
-    }
-}
 
 /// The ends of a line, by what they tell.
 const OUTCOMES: [&str; 7] = ["outside", "integer", "true", "false", "DIVZERO", "OVERFLOW", "LOOP"];
@@ -119,20 +107,18 @@ impl Comparison {
             second::hostile().into_iter().map(|c| (c.name, c.stdin)).collect();
         list.push(inputs::longest());
         for (name, input) in &list {
-            let limit = limit(name);
             let mut took = self.compare(name, input, usize::MAX);
             for _ in 1..TRIES {
-                if took >= limit {
+                if took >= LIMIT {
                     took = took.min(child::run(&self.executable, input, usize::MAX).took);
                 }
             }
             println!("program: {name:36} {:6.1} ms", took.as_secs_f64() * 1000.0);
-            if took >= limit {
-                let (took, limit) = (took.as_secs_f64(), limit.as_secs());
+            if took >= LIMIT {
+                let (took, limit) = (took.as_secs_f64(), LIMIT.as_secs());
                 self.fail(name, input, &format!("{took:.2} s, over {limit} s"));
             }
         }
-        assert!(list.iter().any(|(name, _)| name == NEST), "{NEST} is a hostile sheet");
         println!("program: {} hostile sheets", list.len());
     }
 }
