@@ -23,7 +23,7 @@ use Rattle.tree.specs.Ruled.{ruled, formsOf}
 use Rattle.tree.specs.declared.Ruling.{Ruling}
 use Rattle.tree.specs.declared.Ruling.the-variants.{Passes, Refused as Ruled}
 use Rattle.domain.specs.Inside.{Inside}
-use Rattle.accept.specs.Admits.{Forms, Admits, Accepts}
+use Rattle.accept.specs.Admits.{Begins, Admits, Accepts}
 use Rattle.tree.specs.Prepared.{Prepared}
 use Rattle.tree.proofs.Checking.{check-refused, check-formed}
 
@@ -74,7 +74,7 @@ refused-admits bs tab inside r k e a =
     record { answer = ap told e ∙ a; admitted = λ n q. absurd (let z : _≡_ {A = ℕ} 0 1 = cc in omega arith) }
 
 -- a refusal before the elements are looked at
-refused-forms : (bs tab : List ℕ) (r : Verdict) (k : Refusal) → r ≡ Refused k → refused (numberOf k) (placeOf k) ≡ totalOf (check bs) → Forms bs tab r
+refused-forms : (bs tab : List ℕ) (r : Verdict) (k : Refusal) → r ≡ Refused k → refused (numberOf k) (placeOf k) ≡ totalOf (check bs) → Begins bs tab r
 refused-forms bs tab r k e a = record {
   refuses = λ j q. subst (λ (v : Verdict). told v ≡ totalOf (check bs)) (sym e ∙ q) a;
   formed = λ n q. absurd (let z : _≡_ {A = ℕ} 0 1 = cc in omega arith);
@@ -82,16 +82,16 @@ refused-forms bs tab r k e a = record {
 }
 
 -- reading refused
-pub read-forms : (bs tab : List ℕ) (r : Verdict) (k : Refusal) → r ≡ Refused k → told r ≡ readAnswer bs → Forms bs tab r
+pub read-forms : (bs tab : List ℕ) (r : Verdict) (k : Refusal) → r ≡ Refused k → told r ≡ readAnswer bs → Begins bs tab r
 read-forms bs tab r k e a = refused-forms bs tab r k e (read-refuses bs (numberOf k) (placeOf k) (sym (ap told e) ∙ a))
 
 -- SHAPE, TYPE or REACH refused
-pub rules-form : (bs tab₀ tab : List ℕ) (f : Ruling) (k : Refusal) → Prepared bs tab₀ → f ≡ Ruled k → ruled f ≡ formsOf bs → Forms bs tab (Refused k)
+pub rules-form : (bs tab₀ tab : List ℕ) (f : Ruling) (k : Refusal) → Prepared bs tab₀ → f ≡ Ruled k → ruled f ≡ formsOf bs → Begins bs tab (Refused k)
 rules-form bs tab₀ tab f k h e a =
     refused-forms bs tab (Refused k) k refl (forms-refuse bs tab₀ h (numberOf k) (placeOf k) (sym (ap ruled e) ∙ a))
 
 -- none did
-pub all-form : (bs tab : List ℕ) (r : Verdict) (n : ℕ) → Formed bs tab → r ≡ Accepted n → told r ≡ readAnswer bs → Forms bs tab (Accepted n)
+pub all-form : (bs tab : List ℕ) (r : Verdict) (n : ℕ) → Formed bs tab → r ≡ Accepted n → told r ≡ readAnswer bs → Begins bs tab (Accepted n)
 all-form bs tab r n f e a = record {
   refuses = λ k q. absurd (let z : _≡_ {A = ℕ} 0 1 = cc in omega arith);
   formed = λ m q. f;
@@ -119,5 +119,5 @@ pub prepared-after : (bs tab : List ℕ) (r : Verdict) (n : ℕ) → r ≡ Accep
 prepared-after bs tab r n e h = read-prepared bs tab n (subst (Reads bs tab) e h)
 
 -- what was told before the elements were looked at is told of the whole
-pub forms-accept : (bs tab : List ℕ) (r : Verdict) (k : Refusal) → r ≡ Refused k → Forms bs tab r → Accepts bs tab r
+pub forms-accept : (bs tab : List ℕ) (r : Verdict) (k : Refusal) → r ≡ Refused k → Begins bs tab r → Accepts bs tab r
 forms-accept bs tab r k e h = record { inside = []; admits = refused-admits bs tab [] r k e (h .refuses k e) }

@@ -21,8 +21,8 @@ pub record Admitted (bs tab inside : List ℕ) : Type 0 where
   pub formed : Formed bs tab
   pub filled : Inside (sheetOf bs) inside
 
--- what reading, SHAPE, TYPE and REACH answer
-pub record Forms (bs tab : List ℕ) (r : Verdict) : Type 0 where
+-- what the check tells before it looks at the elements: reading, SHAPE, TYPE and REACH
+pub record Begins (bs tab : List ℕ) (r : Verdict) : Type 0 where
   pub refuses : (k : Refusal) → r ≡ Refused k → refused (numberOf k) (placeOf k) ≡ totalOf (check bs)
   pub formed : (n : ℕ) → r ≡ Accepted n → Formed bs tab
   pub read : (n : ℕ) → r ≡ Accepted n → accepted n ≡ readAnswer bs

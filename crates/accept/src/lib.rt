@@ -21,12 +21,12 @@ ghost use Rattle.affine.specs.Value.{pointOf};
 ghost use Rattle.laws.specs.Sheets.{sheetOf};
 ghost use Rattle.sheet.specs.Table.{readAnswer};
 ghost use Rattle.tree.specs.Formed.{Formed};
-ghost use Rattle.accept.specs.Admits.{Forms, Admits, Accepts};
+ghost use Rattle.accept.specs.Admits.{Begins, Admits, Accepts};
 ghost use Rattle.accept.specs.Shown.{IsPart};
 
 // Reads the sheet, then SHAPE, TYPE and REACH: the element total, with the sheet's places in the table, or refusal 1 to 9.
 pub fn form(s: &[u8], tab: &mut [usize; 102]) -> Verdict
-    ensures { λ r. ⌜ Forms (now (s .entry)) (now (tab .exit)) r ⌝ }
+    ensures { λ r. ⌜ Begins (now (s .entry)) (now (tab .exit)) r ⌝ }
 {
     let r = sheet::read(s, tab);
     let Verdict::Accepted(count) = r else {

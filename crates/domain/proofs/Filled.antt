@@ -176,6 +176,17 @@ module _ (bs : List ℕ) (v : ℕ) (z : List Int) where
             decides = ap (λ x. x && meetsAll (ofVariable v (f .others)) point) (sym e ∙ says (r .what) (r .next) (r .read)) ∙ f .decides;
           }
 
+-- where the sheet declares nothing, every point is inside
+pub none-declared : (bs tab : List ℕ) → Formed bs tab → (v : ℕ) → v < varsOf bs → natAbs (field bs (rawOf bs .second)) < 1 → (z : Point) →
+    true ≡ meetsAll (variable (sheetOf bs) v .declared) z
+none-declared bs tab f v lt none z =
+    let s = prepared-sections bs tab (f .placed .prepared) in
+    go (rawOf bs .decls) (sym (ap natAbs (s .declared-count))) ∙ ap (λ l. meetsAll l z) (sym (f .placed .declared-is v lt))
+  where
+    go : (ds : List Declared) → length ds ≡ natAbs (field bs (rawOf bs .second)) → true ≡ meetsAll (ofVariable v ds) z
+    go [] m = refl
+    go (d ∷ ds) m = absurd (omega arith)
+
 -- ---- the bytes
 
 -- a later variable's first element comes no earlier

@@ -17,6 +17,7 @@ ghost use Rattle.alpha.specs.Affine.{meetsAll};
 ghost use Rattle.alpha.specs.Box.{inBox};
 ghost use Rattle.alpha.specs.Read.{got, dimension};
 ghost use Rattle.alpha.specs.Read as Read;
+ghost use Rattle.alpha.specs.Box as Box;
 ghost use Rattle.alpha.specs.Holds.{variable};
 ghost use Rattle.laws.specs.Heads.{declaredLen};
 ghost use Rattle.laws.specs.Sheets.{headsOf, varsOf, sheetOf};
@@ -66,6 +67,19 @@ fn all_declared_meet(s: &[u8], tab: &[usize; 102], v: usize, z: [Int; 4]) -> boo
     true
 }
 
+// Whether element i of the `size` elements of variable v is inside its declared domain. Where the sheet declares nothing, its point is not
+// worked out.
+fn element_inside(s: &[u8], tab: &[usize; 102], v: usize, size: usize, i: usize) -> bool
+    requires { ⌜ Formed (now s) (now tab) × (v < varsOf (now s)) × (size ≡ Box.size (variable (sheetOf (now s)) v .head .box)) × (i < size) ⌝ }
+    ensures { λ r. ⌜ r ≡ meetsAll (variable (sheetOf (now (s .entry))) v .declared) (Box.pointAt (variable (sheetOf (now (s .entry))) v .head .box) i) ⌝ }
+{
+    if natural(s, second_place(tab)) < 1 {
+        return true;
+    }
+    let z = points::point(s, record_place(tab, v), size, i);
+    all_declared_meet(s, tab, v, z)
+}
+
 // Stores the byte of the element numbered n.
 fn keep(inside: &mut [u8; 4096], n: usize, met: bool)
     requires { ⌜ n < 4096 ⌝ }
@@ -85,12 +99,10 @@ fn fill_variable(s: &[u8], tab: &[usize; 102], inside: &mut [u8; 4096], v: usize
 {
     let first = first_element(tab, v);
     let size = first_element(tab, v + 1) - first;
-    let place = record_place(tab, v);
     let mut i = 0;
     while i < size {
-        let z = points::point(s, place, size, i);
         let n = first + i;
-        let met = all_declared_meet(s, tab, v, z);
+        let met = element_inside(s, tab, v, size, i);
         keep(inside, n, met);
         i += 1;
     }

@@ -21,7 +21,7 @@ use Rattle.alpha.specs.Ask.{numberOf}
 use Rattle.laws.specs.At.{At}
 use Rattle.laws.specs.Sheets.{headsOf, varsOf, sheetOf}
 use Rattle.affine.specs.Value.{pointOf, Padded}
-use Rattle.integer.specs.Range.{Says}
+use Rattle.integer.specs.Range as Range
 use Rattle.domain.specs.declared.Standing.the-variants.{Holds}
 use Rattle.domain.specs.Standing.{standing}
 use Rattle.evaluate.specs.declared.Work.{Work}
@@ -109,7 +109,7 @@ EvaluatesAt bs p z memo last r =
 pub record Applied (op : ℕ) (x : Int) (r : Work) : Type 0 where
   pub out : Declared.Outcome
   pub is : r ≡ workOf out
-  pub says : Says out (unary (unaryOf op) (x .v))
+  pub says : Range.Says out (unary (unaryOf op) (x .v))
 
 -- r is what it makes of an operand's answer o: where that is no value, the same
 pub record Raised (op : ℕ) (o r : Work) : Type 0 where

@@ -291,6 +291,6 @@ fn branch(
     let r = expression(s, tab, inside, ends, codes, values, taken, n, z, depth);
     let o = r.out;
     let out = again(o);
-    let next = end_of(s, ends, at, left);
-    Worked { out, next }
+    let end = end_of(s, ends, at, left);
+    Worked { out, next: end }
 }

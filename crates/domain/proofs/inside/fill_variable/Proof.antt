@@ -3,22 +3,20 @@
 use mathlib.Core.Path.{_≡_, ap, _∙_}
 use Prim.Native.Nat.{_+_, _-_, _<_}
 use native.Mathlib.Omega.{arith}
-use Rattle.alpha.specs.Affine.{meetsAll}
 use Rattle.alpha.specs.Box as Box
 use Rattle.alpha.specs.Holds.{variable}
 use Rattle.alpha.specs.Ask.{before}
 use Rattle.laws.specs.Sheets.{sheetOf}
 use Rattle.domain.proofs.Records.{VariableLaid, laid-variable}
-use Rattle.domain.proofs.Bodying.{point-at, point-inside}
 use Rattle.domain.proofs.Filled.{FilledTo, fill-none, fill-one, fill-all}
 use Rattle.domain.proofs.inside.fill_variable.Statement.{statement}
 use Rattle.domain.proofs.inside.fill_variable.Tie as tie
 
 abbrev Inv-loop : tie.InvT-loop
-Inv-loop s tab inside₀ v first size place i₀ inside i = FilledTo (sheetOf s) v i inside
+Inv-loop s tab inside₀ v first size i₀ inside i = FilledTo (sheetOf s) v i inside
 
 abbrev μ-loop : tie.MeasureT-loop
-μ-loop s tab inside₀ v first size place i₀ inside i = size - i
+μ-loop s tab inside₀ v first size i₀ inside i = size - i
 
 -- the variable
 laid : (c : tie.Start Inv-loop μ-loop) → VariableLaid (c .args .s .now) (c .args .tab .now) (c .args .v)
@@ -40,16 +38,15 @@ size-is c =
 -- the element is one of them
 low : (c : tie.In-loop Inv-loop μ-loop) →
     c .before .loop .i
-    < Box.size (variable (sheetOf (c .before .before .before .before .before .before .args .s .now))
-    (c .before .before .before .before .before .before .args .v) .head .box)
+    < Box.size (variable (sheetOf (c .before .before .before .before .before .args .s .now)) (c .before .before .before .before .before .args .v) .head .box)
 low c =
-    let after-first-element2 = c .before .before .before in
+    let after-first-element2 = c .before .before in
     omega (arith, size-is after-first-element2, c .loop-test .taken)
 
 -- and its number has a byte
-number-low : (c : tie.In-loop Inv-loop μ-loop) → c .before .before .before .before .first-element .result + c .before .loop .i < 4096
+number-low : (c : tie.In-loop Inv-loop μ-loop) → c .before .before .before .first-element .result + c .before .loop .i < 4096
 number-low c =
-    let after-first-element = c .before .before .before .before in
+    let after-first-element = c .before .before .before in
     let s = after-first-element .before .before in
     omega (arith, first-is after-first-element, low c, laid s .few)
 
@@ -67,66 +64,49 @@ sub-size c =
     let s = c .before .before .before in
     let l = laid s .last-is in omega (arith, first-is (c .before), c .first-element2 .ensures)
 
-record-place-requires : tie.Need-record-place-requires Inv-loop μ-loop
-record-place-requires c κs =
-    let s = c .before .before .before in
-    laid s .low
-
 loop-holds : tie.Need-loop-holds Inv-loop μ-loop
 loop-holds c =
-    let s = c .before .before .before .before in
+    let s = c .before .before .before in
     fill-none _ _ _ (s .pre .2)
 
-point-requires : tie.Need-point-requires Inv-loop μ-loop
-point-requires c κs =
-    let after-first-element2 = c .before .before .before in
-    let s = after-first-element2 .before .before .before in
-    let l = laid s in
-    let many = size-is after-first-element2 in
-    rw (c .before .before .record-place .ensures) (l .recorded, rw (l .box-is) many, omega (arith, l .few), c .loop-test .taken)
-
 add-n : tie.Need-add-n Inv-loop μ-loop
-add-n c = omega (arith, number-low (c .before))
+add-n c = omega (arith, number-low c)
 
-all-declared-meet-requires : tie.Need-all-declared-meet-requires Inv-loop μ-loop
-all-declared-meet-requires c κs =
-    let after-record-place = c .before .before .before in
-    let s = after-record-place .before .before .before .before in
-    let at = rw (after-record-place .record-place .ensures) at (c .point .ensures) in
-    (s .pre .0, s .pre .1, point-inside _ _ _ _ (laid s) (low (c .before)) _ at)
+element-inside-requires : tie.Need-element-inside-requires Inv-loop μ-loop
+element-inside-requires c κs =
+    let after-first-element2 = c .before .before in
+    let s = after-first-element2 .before .before .before in
+    (s .pre .0, s .pre .1, size-is after-first-element2, c .loop-test .taken)
 
 keep-requires : tie.Need-keep-requires Inv-loop μ-loop
 keep-requires c κs =
-    let in-loop = c .before .before .before in
+    let in-loop = c .before .before in
     number-low in-loop
 
 add-i : tie.Need-add-i Inv-loop μ-loop
 add-i c =
-    let in-loop = c .before .before .before .before in
+    let in-loop = c .before .before .before in
     omega (arith, number-low in-loop)
 
 loop-less : tie.Need-loop-less Inv-loop μ-loop
 loop-less c =
-    let in-loop = c .before .before .before .before in
+    let in-loop = c .before .before .before in
     omega (arith, in-loop .loop-test .taken)
 
 loop-again : tie.Need-loop-again Inv-loop μ-loop
 loop-again c =
-    let after-point = c .before .before .before in
-    let in-loop = after-point .before in
+    let after-element-inside = c .before .before in
+    let in-loop = after-element-inside .before in
     let at-loop = in-loop .before in
-    let after-record-place = at-loop .before in
-    let after-first-element = after-record-place .before .before in
+    let after-first-element = at-loop .before .before in
     let s = after-first-element .before .before in
-    let at = rw (after-record-place .record-place .ensures) at (after-point .point .ensures) in
-    let is = point-at _ _ _ _ (laid s) (low in-loop) _ at in
-    let met = c .before .before .all-declared-meet .ensures ∙ ap (meetsAll (variable (sheetOf (s .args .s .now)) (s .args .v) .declared)) is in
     let number = ap (λ n. n + at-loop .loop .i) (first-is after-first-element) in
+    let met = after-element-inside .element-inside .ensures in
     fill-one _ _ _ _ _ _ _ (laid s .known) (at-loop .loop .inv) number (number-low in-loop) met (c .keep .ensures)
 
 returns : tie.Need-returns Inv-loop μ-loop
 returns c =
-    let after-first-element2 = c .before .before .before in
+    let after-first-element2 = c .before .before in
     fill-all _ _ _ _ (omega (arith, size-is after-first-element2, c .loop-test .left)) (c .before .loop .inv)
 
 pub fill-variable-spec : {M : Type 1} → statement M
@@ -139,11 +119,9 @@ fill-variable-spec =
     add-first-element
     first-element-requires-2
     sub-size
-    record-place-requires
     loop-holds
-    point-requires
     add-n
-    all-declared-meet-requires
+    element-inside-requires
     keep-requires
     add-i
     loop-less
