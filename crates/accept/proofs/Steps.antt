@@ -2,8 +2,12 @@
 use mathlib.Core.Path.{_≡_, refl, sym, ap, subst, _∙_}
 use Prim.Native.Nat.{ℕ, _+_}
 use native.Mathlib.Omega.{arith}
+use mathlib.Core.Bool.{Bool, true}
 use mathlib.Core.List.{List, [], _∷_, map}
-use Rattle.alpha.specs.Answer.{Answer, accepted, refused, next}
+use lib.ListN.{length}
+use lib.Dec.{ltb}
+use borrow.Author.Tests.{ltb-true}
+use Rattle.alpha.specs.Answer.{Answer, accepted, refused, next, LONG}
 use Rattle.alpha.specs.Sheet.{Raw, Sheet}
 use Rattle.alpha.specs.Box.{size}
 use Rattle.alpha.specs.Read.{Got, got, bad, read}
@@ -11,12 +15,14 @@ use Rattle.alpha.specs.Check.{check, afterRead, faults, elements, total}
 use Rattle.alpha.specs.Promise.{totalOf}
 use Rattle.alpha.specs.Verdict.{numberOf, placeOf, told}
 use Rattle.alpha.specs.declared.Refusal.{Refusal}
+use Rattle.alpha.specs.declared.Refusal.the-variants.{Long}
 use Rattle.alpha.specs.declared.Verdict.{Verdict}
 use Rattle.alpha.specs.declared.Verdict.the-variants.{Accepted, Refused}
 use Rattle.laws.specs.Sheets.{rawOf, headsOf, sheetOf}
 use Rattle.laws.proofs.Bodies.{bodies-read}
 use Rattle.sheet.specs.Record as Record
 use Rattle.sheet.specs.Table.{answerOf, readAnswer, Reads}
+use Rattle.sheet.proofs.Sections.{read-long}
 use Rattle.tree.proofs.Preparing.{read-prepared}
 use Rattle.tree.specs.Formed.{Formed}
 use Rattle.tree.specs.Ruled.{ruled, formsOf}
@@ -35,6 +41,10 @@ read-refuses bs n p e = go (read bs) e
     go : (g : Got Raw) → refused n p ≡ answerOf g → refused n p ≡ totalOf (afterRead bs g)
     go (got r q) h = absurd (let z : _≡_ {A = ℕ} 0 1 = cc in omega arith)
     go (bad m q) h = h
+
+-- the sheet is too long, as `sheet::too_long` tells by t: no more of it has to be looked at
+pub long-refuses : (bs : List ℕ) {t : Bool} → t ≡ ltb 65536 (length bs) → t ≡ true → told (Refused Long) ≡ totalOf (check bs)
+long-refuses bs says is = read-refuses bs LONG 0 (sym (read-long bs (ltb-true 65536 (length bs) (sym says ∙ is))))
 
 -- SHAPE, TYPE or REACH refused
 pub forms-refuse : (bs tab : List ℕ) → Prepared bs tab → (n p : ℕ) → refused n p ≡ formsOf bs → refused n p ≡ totalOf (check bs)

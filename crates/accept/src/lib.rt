@@ -7,6 +7,7 @@ use sheet::table::body_place;
 use sheet::table::first_element;
 use sheet::table::record_place;
 use sheet::table::variable_count;
+use sheet::too_long;
 use tree::Ruling;
 use tree::variable::dimension_of;
 use tree::variable::kind_of;
@@ -69,6 +70,9 @@ pub fn judge(s: &[u8], tab: &mut [usize; 102]) -> Verdict
 pub fn check(s: &[u8]) -> Verdict
     ensures { λ r. ⌜ Checks (now (s .entry)) r ⌝ }
 {
+    if too_long(s) {
+        return Verdict::Refused(Refusal::Long);
+    }
     let mut tab = [0usize; 102];
     judge(s, &mut tab)
 }
@@ -110,6 +114,9 @@ fn part_of(s: &[u8], tab: &[usize; 102], variable: u64) -> Part
 pub fn find_body(s: &[u8], variable: u64) -> Part
     ensures { λ p. ⌜ IsPart (now (s .entry)) (bodyPart (now (s .entry)) variable) p ⌝ }
 {
+    if too_long(s) {
+        return nothing(s);
+    }
     let mut tab = [0usize; 102];
     let r = judge(s, &mut tab);
     let Verdict::Accepted(_) = r else {
@@ -170,6 +177,9 @@ fn number_of(s: &[u8], tab: &[usize; 102], variable: u64, point: &[i64]) -> Verd
 pub fn element(s: &[u8], variable: u64, point: &[i64]) -> Verdict
     ensures { λ r. ⌜ Numbers (now (s .entry)) variable (now (point .entry)) r ⌝ }
 {
+    if too_long(s) {
+        return Verdict::Refused(Refusal::Long);
+    }
     let mut tab = [0usize; 102];
     let judged = judge(s, &mut tab);
     let Verdict::Accepted(_) = judged else {

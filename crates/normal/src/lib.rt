@@ -5,6 +5,7 @@ use accept::judge;
 use alpha::Refusal;
 use alpha::Verdict;
 use sheet::table::third_place;
+use sheet::too_long;
 use totals::plan_from;
 use write::write_all;
 ghost use Rattle.alpha.specs.Promise.{Normalises};
@@ -68,6 +69,9 @@ pub enum Plan {
 pub fn normalise(s: &[u8], out: &mut [u8]) -> Verdict
     ensures { λ r. ⌜ Normalises (now (s .entry)) (now (out .entry)) (now (out .exit)) r ⌝ }
 {
+    if too_long(s) {
+        return Verdict::Refused(Refusal::Long);
+    }
     let mut tab = [0usize; 102];
     let r = judge(s, &mut tab);
     let Verdict::Accepted(_) = r else {

@@ -4,6 +4,7 @@ use alpha::Refusal;
 use alpha::Verdict;
 use fill::fill_all;
 use inputs::inputs;
+use sheet::too_long;
 use start::start;
 use tree::Ruling;
 ghost use mathlib.Core.Path.{_≡_};
@@ -17,6 +18,9 @@ mod start;
 pub fn run(s: &[u8], ins: &[i32], codes: &mut [u8], values: &mut [i32]) -> Verdict
     ensures { λ r. ⌜ Runs (now (s .entry)) (now (ins .entry)) (now (codes .entry)) (now (codes .exit)) (now (values .entry)) (now (values .exit)) r ⌝ }
 {
+    if too_long(s) {
+        return Verdict::Refused(Refusal::Long);
+    }
     let mut tab = [0usize; 102];
     let formed = accept::form(s, &mut tab);
     let Verdict::Accepted(count) = formed else {

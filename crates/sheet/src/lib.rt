@@ -13,7 +13,8 @@ use table::note;
 use variable::heads;
 ghost use mathlib.Core.Path.{_≡_};
 ghost use Prim.Native.Nat.{ℕ, _≤_};
-ghost use lib.ListN.{take};
+ghost use lib.ListN.{length, take};
+ghost use lib.Dec.{ltb};
 ghost use Rattle.alpha.specs.Verdict.{told};
 ghost use Rattle.sheet.specs.Place.{placeAfter, passed};
 ghost use Rattle.sheet.specs.Record.{Known, headsAt};
@@ -67,13 +68,20 @@ fn third_section(s: &[u8], at: usize, n: usize) -> Pass
     nodes(s, p, count_at(s, at), n)
 }
 
+// Whether a sheet has more bytes than it may have. Each public call asks first: where so, it needs no table.
+pub fn too_long(s: &[u8]) -> bool
+    ensures { λ r. ⌜ r ≡ ltb 65536 (length (now (s .entry))) ⌝ }
+{
+    s.len() > 65536
+}
+
 // Reads a sheet: the element total, or refusal 1 to 6. The table is filled where the sheet is accepted.
 pub fn read(s: &[u8], tab: &mut [usize; 102]) -> Verdict
     ensures { λ r. ⌜ Reads (now (s .entry)) (now (tab .exit)) r ⌝ }
 {
     // Asked for what it tells of the table's length.
     entries(tab);
-    if s.len() > 65536 {
+    if too_long(s) {
         return Verdict::Refused(Refusal::Long);
     }
     let a = count_field(s, 0, 1, 32);

@@ -8,15 +8,23 @@ use Rattle.alpha.specs.Answer.{accepted}
 use Rattle.alpha.specs.Check.{total}
 use Rattle.alpha.specs.Run.{inputs}
 use Rattle.alpha.specs.Verdict.{told}
+use Rattle.alpha.specs.declared.Refusal.the-variants.{Long}
 use Rattle.laws.specs.Sheets.{sheetOf}
 use Rattle.tree.specs.Ruled.{ruled}
 use Rattle.domain.proofs.Records.{laid-total}
 use Rattle.accept.specs.Admits.{Admitted}
+use Rattle.accept.proofs.Steps.{long-refuses}
 use Rattle.run.proofs.Listing.{inputs-length}
 use Rattle.run.proofs.Beginning.{started-none, accepted-covered, started-ready, started-idle, started-right}
 use Rattle.run.proofs.Running.{unread-runs, inputs-runs, total-is, codes-runs, values-runs, all-runs}
 use Rattle.run.proofs.run.Statement.{statement}
 use Rattle.run.proofs.run.Tie as tie
+
+too-long-requires : tie.Need-too-long-requires
+too-long-requires c κs = search needs
+
+returns : tie.Need-returns
+returns c = unread-runs _ _ _ _ _ {why = Long} refl (long-refuses _ (c .before .too-long .ensures) (c .if1 .taken))
 
 form-requires : tie.Need-form-requires
 form-requires c κs = search needs
@@ -27,8 +35,8 @@ enum-known-formed c = search needs
 enum-told : tie.Need-enum-told
 enum-told c = search needs
 
-returns : tie.Need-returns
-returns c =
+returns-2 : tie.Need-returns-2
+returns-2 c =
     let told-is = c .enum-told .given .1 in
     unread-runs _ _ _ _ _ told-is (ap told told-is ∙ c .before .before .form .ensures .refuses _ told-is)
 
@@ -45,11 +53,11 @@ enum-known-judged c = search needs
 enum-told-2 : tie.Need-enum-told-2
 enum-told-2 c = search needs
 
-returns-2 : tie.Need-returns-2
-returns-2 c = unread-runs _ _ _ _ _ (c .enum-told2 .given .1) (c .before .before .admit .ensures .answer)
+returns-3 : tie.Need-returns-3
+returns-3 c = unread-runs _ _ _ _ _ (c .enum-told2 .given .1) (c .before .before .admit .ensures .answer)
 
 abbrev start : tie.After-judged → tie.Start
-start c = c .before .before .before .before .before .before .before .before .before .before .before .before
+start c = c .before .before .before .before .before .before .before .before .before .before .before .before .before .before
 
 -- the sheet is accepted
 admits : (c : tie.After-judged) →
@@ -69,8 +77,8 @@ inputs-requires c κs = admits (c .before .before) .formed
 enum-known-r : tie.Need-enum-known-r
 enum-known-r c = search needs
 
-returns-3 : tie.Need-returns-3
-returns-3 c =
+returns-4 : tie.Need-returns-4
+returns-4 c =
     let after-inputs = c .before .before .before in
     let j = after-inputs .before .before .before in
     let s = start j in
@@ -85,16 +93,16 @@ taken : (c : tie.After-enum-told3) → let s = start (c .before .before .before 
     ≡ inputs (sheetOf (s .args .s .now)) (s .args .ins .now)
 taken c = sym (ap ruled (c .enum-told3 .given .1)) ∙ c .before .before .inputs .ensures
 
-returns-4 : tie.Need-returns-4
-returns-4 c =
-    let j = c .before .before .before .before .before .before in
-    let s = start j in
-    codes-runs _ _ _ (s .args .values .now) _ (admits j .sheet-is) (taken (c .before)) _ (many j) (c .if1 .taken) _ refl
-
 returns-5 : tie.Need-returns-5
 returns-5 c =
+    let j = c .before .before .before .before .before .before in
+    let s = start j in
+    codes-runs _ _ _ (s .args .values .now) _ (admits j .sheet-is) (taken (c .before)) _ (many j) (c .if2 .taken) _ refl
+
+returns-6 : tie.Need-returns-6
+returns-6 c =
     let j = c .before .before .before .before .before .before .before in
-    values-runs _ _ _ _ _ (admits j .sheet-is) (taken (c .before .before)) _ (many j) (c .before .if1 .left) (c .if2 .taken) _ refl
+    values-runs _ _ _ _ _ (admits j .sheet-is) (taken (c .before .before)) _ (many j) (c .before .if2 .left) (c .if3 .taken) _ refl
 
 start-requires : tie.Need-start-requires
 start-requires c κs =
@@ -106,15 +114,15 @@ start-requires c κs =
 fill-all-requires : tie.Need-fill-all-requires
 fill-all-requires c κs =
     let after-start = c .before .before .before .before .before .before in
-    let else2 = after-start .before .before .before .before .before in
-    let else1 = else2 .before in
-    let j = else1 .before .before .before .before .before .before in
+    let else3 = after-start .before .before .before .before .before in
+    let else2 = else3 .before in
+    let j = else2 .before .before .before .before .before .before in
     let a = admits j in
     let S = after-start .start .ensures in
     let few = laid-total _ _ (a .formed .placed) in
     let n = many j in
     let covered = accepted-covered _ (a .sheet-is) in
-    (a .formed, a .filled, started-ready _ _ _ few S covered, started-idle _ _ _ few S, omega (arith, n, else1 .if1 .left), omega (arith, n, else2 .if2 .left))
+    (a .formed, a .filled, started-ready _ _ _ few S covered, started-idle _ _ _ few S, omega (arith, n, else2 .if2 .left), omega (arith, n, else3 .if3 .left))
 
 same-length : tie.Need-same-length
 same-length c = search needs
@@ -122,40 +130,42 @@ same-length c = search needs
 same-length-2 : tie.Need-same-length-2
 same-length-2 c = search needs
 
-returns-6 : tie.Need-returns-6
-returns-6 c =
+returns-7 : tie.Need-returns-7
+returns-7 c =
     let after-fill-all = c .before .before .before in
     let after-start = after-fill-all .before .before .before .before .before .before .before in
-    let else2 = after-start .before .before .before .before .before in
-    let else1 = else2 .before in
-    let after-enum-told3 = else1 .before in
+    let else3 = after-start .before .before .before .before .before in
+    let else2 = else3 .before in
+    let after-enum-told3 = else2 .before in
     let j = after-enum-told3 .before .before .before .before .before in
     let a = admits j in
     let S = after-start .start .ensures in
     let few = laid-total _ _ (a .formed .placed) in
-    all-runs _ _ _ _ _ (a .sheet-is) (taken after-enum-told3) _ (many j) (else1 .if1 .left) (else2 .if2 .left) _ (started-right _ _ _ few S) _ _
+    all-runs _ _ _ _ _ (a .sheet-is) (taken after-enum-told3) _ (many j) (else2 .if2 .left) (else3 .if3 .left) _ (started-right _ _ _ few S) _ _
     (after-fill-all .fill-all .ensures)
 
 pub run-spec : {M : Type 1} → statement M
 run-spec =
     tie.close
     (tie.spec
+    too-long-requires
+    returns
     form-requires
     enum-known-formed
     enum-told
-    returns
+    returns-2
     admit-requires
     enum-known-judged
     enum-told-2
-    returns-2
+    returns-3
     inputs-requires
     enum-known-r
-    returns-3
-    enum-told-3
     returns-4
+    enum-told-3
     returns-5
+    returns-6
     start-requires
     fill-all-requires
     same-length
     same-length-2
-    returns-6)
+    returns-7)

@@ -1,10 +1,11 @@
 -- `read` meets its contract: one law for each way through the sections. Assumes nothing.
 use borrow.Author.Needs.{needs}
+use borrow.Author.Tests.{ltb-true, ltb-false}
 use native.Mathlib.Omega.{arith}
 use mathlib.Core.Path.{_≡_, refl, sym, ap, _∙_, subst}
 use mathlib.Core.List.{List, []}
-use Prim.Native.Nat.{ℕ, _+_, _≤_}
-use lib.ListN.{take, getD}
+use Prim.Native.Nat.{ℕ, _+_, _≤_, _<_}
+use lib.ListN.{length, take, getD}
 use lib.IntN.{pos, natAbs}
 use Rattle.alpha.specs.Answer.{accepted}
 use Rattle.alpha.specs.Field.{field}
@@ -24,6 +25,18 @@ use Rattle.sheet.proofs.Sections.{reads-refused, reads-stopped, reads-a
 use Rattle.sheet.proofs.read.Statement.{statement}
 use Rattle.sheet.proofs.read.Tie as tie
 
+-- the sheet that is read
+abbrev given : tie.After-too-long → List ℕ
+given c = c .before .before .before .before .args .s .now
+
+-- it is not too long, and reading goes on
+short : (c : tie.Else1) → length (given (c .before)) ≤ 65536
+short c = ltb-false 65536 (length (given (c .before))) (sym (c .before .too-long .ensures) ∙ c .if1 .left)
+
+-- it is too long
+long : (c : tie.Then1) → 65536 < length (given (c .before))
+long c = ltb-true 65536 (length (given (c .before))) (sym (c .before .too-long .ensures) ∙ c .if1 .taken)
+
 -- the places of the code: after the count of variables, the records, the second and the third section
 abbrev opening : tie.After-known-told2 → tie.After-count-at
 opening c = c .before .before .before .before .before
@@ -37,7 +50,7 @@ binding c = c .before .before .before .before
 -- what stands there: the sheet, the number of variables, the place of the first record, the table that was filled, the records,
 -- and the places of the sections and of the end
 abbrev sheet : tie.After-count-at → List ℕ
-sheet c = c .before .before .before .before .before .before .before .before .before .args .s .now
+sheet c = given (c .before .before .before .before .before .before)
 
 abbrev start : tie.After-count-at → ℕ
 start c = c .before .before .a .given .0 .0
@@ -65,12 +78,10 @@ end c = c .before .d .given .0 .0
 
 -- the count of variables was read
 counts : (c : tie.After-known-told) →
-    Passed (within (pos 1) (pos 32)) (c .before .before .before .before .before .before .before .before .args .s .now) 0 (c .before .a .given .0 .0)
+    Passed (within (pos 1) (pos 32)) (given (c .before .before .before .before .before)) 0 (c .before .a .given .0 .0)
 counts c =
     let after-count-field = c .before .before .before in
-    let start = after-count-field .before .before .before .before .before in
-    let s = start .args .s .now in
-    count-came s 0 _ _ (c .before .a .given .1) 1 32 (after-count-field .count-field .ensures)
+    count-came (given (after-count-field .before .before)) 0 _ _ (c .before .a .given .1) 1 32 (after-count-field .count-field .ensures)
 
 some : (c : tie.After-count-at) → (1 ≤ c .count-at .result) × (c .count-at .result ≤ 32)
 some c = let e = c .count-at .ensures in let h = counted 1 32 (counts (c .before)) in (omega arith, omega arith)
@@ -79,7 +90,7 @@ opened : (c : tie.After-count-at) → read (sheet c) ≡ after (heads (c .count-
 opened c =
     let after-count-field = c .before .before .before .before in
     let came = came-to (count 1 32 (sheet c) 0) _ (after-count-field .count-field .ensures) (start c) (c .before .before .a .given .1) in
-    first-goes (sheet c) (start c) (read-sections (sheet c) (search needs)) came
+    first-goes (sheet c) (start c) (read-sections (sheet c) (short (after-count-field .before))) came
     ∙ ap (λ (n : ℕ). after (heads n [] 0 (sheet c) (start c)) (fromSecond (sheet c))) (sym (c .count-at .ensures))
 
 -- the records were read
@@ -127,8 +138,11 @@ read-all c =
 entries-requires : tie.Need-entries-requires
 entries-requires c κs = search needs
 
+too-long-requires : tie.Need-too-long-requires
+too-long-requires c κs = search needs
+
 returns : tie.Need-returns
-returns c = reads-refused refl (read-long _ (search needs))
+returns c = reads-refused refl (read-long _ (long c))
 
 count-field-requires : tie.Need-count-field-requires
 count-field-requires c κs = search needs
@@ -145,10 +159,10 @@ verdict-requires c κs = search needs
 returns-2 : tie.Need-returns-2
 returns-2 c =
     let after-count-field = c .before .before .before in
-    let start = after-count-field .before .before .before .before .before in
-    let s = start .args .s .now in
+    let s = given (after-count-field .before .before) in
     let refused = c .before .enum-told .given .1 in
-    let stops = part-stops s (count 1 32 s 0) _ (read-sections s (search needs)) _ (after-count-field .count-field .ensures) _ refused in
+    let reads = read-sections s (short (after-count-field .before)) in
+    let stops = part-stops s (count 1 32 s 0) _ reads _ (after-count-field .count-field .ensures) _ refused in
     reads-stopped _ _ _ refused (c .verdict .ensures) stops
 
 count-at-requires : tie.Need-count-at-requires
@@ -156,7 +170,7 @@ count-at-requires c κs = counts c .there
 
 heads-requires : tie.Need-heads-requires
 heads-requires c κs =
-    let after-entries = c .before .before .before .before .before .before .before in
+    let after-entries = c .before .before .before .before .before .before .before .before in
     (after-entries .entries .ensures .1, some (c .before) .1)
 
 enum-known-b : tie.Need-enum-known-b
@@ -258,6 +272,7 @@ read-spec =
     tie.close
     (tie.spec
     entries-requires
+    too-long-requires
     returns
     count-field-requires
     enum-known-a
