@@ -5,6 +5,7 @@ pub mod Restrictions
 pub mod Records
 pub mod Leaves
 pub mod Ways
+pub mod Stepping
 pub mod Lowering
 pub mod Carried
 pub mod Choices

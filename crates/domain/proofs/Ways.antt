@@ -2,6 +2,7 @@
 use mathlib.Core.Path.{_≡_, refl, sym, ap, _∙_, subst}
 use Prim.Native.Nat.{ℕ, zero, suc, _+_, _*_, _-_, _≤_, _<_}
 use native.Mathlib.Omega.{arith}
+use native.Mathlib.Decide.{ℕ-discrete}
 use mathlib.Core.Bool.{Bool, true, false, _&&_}
 use mathlib.Core.List.{List}
 use mathlib.Core.Logic.{⊎-elim}
@@ -37,7 +38,7 @@ use Rattle.tree.proofs.Standings.{children-at, children-counted, one-more, stan
 use Rattle.domain.specs.declared.Standing.{Standing}
 use Rattle.domain.specs.declared.Standing.the-variants.{Not, Holds}
 use Rattle.domain.specs.declared.Stood.{Stood}
-use Rattle.domain.specs.Standing.{standing, joined, alone, together, StandsAt, StandTogether, Starts, UnaryAt, Unaries}
+use Rattle.domain.specs.Standing.{standing, joined, alone, together, StandsAt, StandTogether, Starts, Passes, UnaryAt, Unaries}
 use Rattle.domain.specs.Walk.{Walk}
 use Rattle.domain.specs.Constraints.{restrictionMet}
 use Rattle.domain.proofs.Standings.{joined-alone, joined-assoc, alone-joined, operands-stand, branches-stand, restriction-stands}
@@ -75,7 +76,7 @@ constant-stands s hs z (dep g a) n l h f = absurd (omega arith)
 
 -- ---- a node whose children stand together
 
-children-stand : (s : Sheet) (z : Point) (e : Expr) → 3 ≤ codeNumber e → codeNumber e ≤ 6 → together (eqb (codeNumber e) 6) (childrenOf e) s z ≡ standing e s z
+pub children-stand : (s : Sheet) (z : Point) (e : Expr) → 3 ≤ codeNumber e → codeNumber e ≤ 6 → together (eqb (codeNumber e) 6) (childrenOf e) s z ≡ standing e s z
 children-stand s z (var v) l h = absurd (omega arith)
 children-stand s z (int c) l h = absurd (omega arith)
 children-stand s z (boo b) l h = absurd (omega arith)
@@ -155,7 +156,7 @@ module _ (bs : List ℕ) (p k : ℕ) (z : List Int) (long : k ≡ nodeLen bs p) 
       (ends e q at (omega arith), constant-stands (sheetOf bs) (headsOf bs) z e n (omega arith) (omega arith) f)
 
   -- what the node says, and then its children
-  pub children-way : (n code : ℕ) → ((nd : Node) (q : ℕ) → node (varsOf bs) bs p ≡ got nd q → n ≡ arity nd) → code ≡ natAbs (field bs p) → code < 7 →
+  pub children-way : (n code : ℕ) → ((nd : Node) (q : ℕ) → node (varsOf bs) bs p ≡ got nd q → n ≡ arity nd) → code ≡ natAbs (field bs p) → code < 8 →
       (own : Standing) (r : Stood) → Starts bs p z own → StandTogether bs (p + k) n z (eqb code 6) own r → StandsAt bs p z r
   children-way n code many is high own r start t e q d h f =
       let a = t (childrenOf e) q d (children-at (varsOf bs) bs p k n long many e q h) (children-counted (varsOf bs) bs p k n long many e q h)
@@ -214,11 +215,43 @@ module _ (bs : List ℕ) (p k : ℕ) (z : List Int) (long : k ≡ nodeLen bs p) 
         let a = t (x .child) q n (subst (λ i. At (x .child) (varsOf bs) bs (p + i) q) (sym long) (x .below)) g in
         (a .0, a .1 ∙ sym (restriction-stands (sheetOf bs) (pointOf n z) (x .dim) (x .given) (x .child) (sym (met-is e q n h f) ∙ held)) ∙ back e q n h f)
 
+    -- before its child it says what an operator says
+    pub restriction-starts : met ≡ true → Starts bs p z Holds
+    unfolding together
+    restriction-starts held e q n h f =
+        let x = here e q n h f in
+        let Z = pointOf n z in
+        ap (λ i. joined (eqb i 6) Holds (together (eqb i 6) (childrenOf e) (sheetOf bs) Z)) code
+        ∙ ap (λ t. together false (childrenOf t) (sheetOf bs) Z) (x .is)
+        ∙ joined-alone false (standing (x .child) (sheetOf bs) Z)
+        ∙ sym (restriction-stands (sheetOf bs) Z (x .dim) (x .given) (x .child) (sym (met-is e q n h f) ∙ held))
+        ∙ back e q n h f
+
     pub restriction-off-way : (next : ℕ) → met ≡ false → EndsAt (varsOf bs) bs p next →
         StandsAt bs p z (record { how = Not; next = next })
     restriction-off-way next fails skipped e q n h f =
         let x = here e q n h f in
         (skipped e q h, sym (restriction-not (sheetOf bs) (pointOf n z) (x .dim) (x .given) (x .child) (sym (met-is e q n h f) ∙ fails)) ∙ back e q n h f)
+
+-- a restriction ends where its child does
+pub restriction-ends : (bs : List ℕ) (p k next : ℕ) → k ≡ nodeLen bs p → natAbs (field bs p) ≡ 7 → EndsAt (varsOf bs) bs (p + k) next →
+    EndsAt (varsOf bs) bs p next
+restriction-ends bs p k next long code ends e q h =
+    let x = at-restr (varsOf bs) bs e p q h (code-field bs p e q 7 h code) in
+    ends (x .child) q (rw long (x .below))
+
+-- ---- a node with children that is no dependence, before them
+
+-- own is what no operands or no branches come to, and a restriction's constraints are met
+pub own-starts : (bs : List ℕ) (p : ℕ) (z : List Int) (own : Standing) (code : ℕ) → code ≡ natAbs (field bs p) → 3 ≤ code → code < 8 →
+    Passes bs p z true → own ≡ alone (eqb code 6) → Starts bs p z own
+own-starts bs p z own code is low high pass start = go (ℕ-discrete code 7)
+  where
+    go : Dec (code ≡ 7) → Starts bs p z own
+    go (yes seven) =
+        let here = sym is ∙ seven in
+        subst (Starts bs p z) (sym (start ∙ ap (λ i. alone (eqb i 6)) seven)) (restriction-starts bs p (nodeLen bs p) z refl here true (pass .restricted here) refl)
+    go (no other) = node-starts bs p z own code is low (omega (arith, other)) start
 
 -- ---- so many trees
 

@@ -36,9 +36,8 @@ faultOf Clash n = refused CLASH n
 abbrev pub bodyStanding : Sheet → ℕ → Point → Standing
 bodyStanding s v z = ifb (inDomain (variable s v) z) (λ _. standing (variable s v .body) s z) (λ _. Holds)
 
--- i is the number of a point in the box of variable v, no input, which has n points
-pub record BodyPoint (bs : List ℕ) (v n i : ℕ) : Type 0 where
+-- i is the number of a point in the box of variable v, no input
+pub record BodyPoint (bs : List ℕ) (v i : ℕ) : Type 0 where
   pub known : v < varsOf bs
   pub no-input : isInput (variable (sheetOf bs) v) ≡ false
-  pub many : n ≡ size (variable (sheetOf bs) v .head .box)
-  pub low : i < n
+  pub low : i < size (variable (sheetOf bs) v .head .box)

@@ -4,7 +4,7 @@ use mathlib.Core.Bool.{Bool, true, false}
 use mathlib.Core.List.{List}
 use mathlib.Core.Path.{_≡_}
 use Prim.Native.Nat.{ℕ, _+_, _*_, _-_, _≤_, _<_}
-use lib.Dec.{eqb}
+use lib.Dec.{eqb, ltb}
 use lib.ListN.{length}
 use lib.IntN.{natAbs}
 use Rattle.alpha.specs.Field.{field}
@@ -13,7 +13,8 @@ use Rattle.alpha.specs.declared.Int.{Int}
 use Rattle.alpha.specs.Sheet.{Expr, Exprs, Exprs.none, Exprs.more, Sheet, Point}
 use Rattle.alpha.specs.Shape.{fits, allFit}
 use Rattle.alpha.specs.Holds.{holds, clashes}
-use Rattle.alpha.specs.Written.{branchCount}
+use Rattle.alpha.specs.Reach.{reach, reachAll}
+use Rattle.alpha.specs.Written.{branchCount, nodeCount, nodeCounts}
 use Rattle.laws.specs.At.{At, AllAt}
 use Rattle.laws.specs.Children.{childrenOf}
 use Rattle.laws.specs.Sheets.{headsOf, varsOf, sheetOf}
@@ -21,6 +22,7 @@ use Rattle.affine.specs.Value.{pointOf}
 use Rattle.domain.specs.declared.Standing.{Standing}
 use Rattle.domain.specs.declared.Standing.the-variants.{Not, Holds, Clash}
 use Rattle.domain.specs.declared.Stood.{Stood}
+use Rattle.domain.specs.declared.Step.{Step}
 use Rattle.domain.specs.Constraints.{restrictionMet}
 use Rattle.domain.specs.Walk.{Walk}
 
@@ -54,6 +56,11 @@ abbrev pub joined : Bool → Standing → Standing → Standing
 joined true a b = either a b
 joined false a b = both a b
 
+-- whether the children of a node of this code, 3 or more, stand together as the trees do among which it is: branches, or operands
+abbrev pub opens : Bool → ℕ → Bool
+opens true code = eqb code 6
+opens false code = ltb code 6
+
 -- no branches, or no operands
 abbrev pub alone : Bool → Standing
 alone true = Not
@@ -77,6 +84,22 @@ abbrev pub StandTogether : List ℕ → ℕ → ℕ → List Int → Bool → St
 StandTogether bs p count z branches sofar r =
     (es : Exprs) (q n : ℕ) → AllAt es (varsOf bs) bs p q → branchCount es ≡ count → allFit es (headsOf bs) n ≡ Bool.true →
     (r .next ≡ q) × (r .how ≡ joined branches sofar (together branches es (sheetOf bs) (pointOf n z)))
+
+-- r is what e, a tree of dimension n that ends at q, adds at z to how branches, or operands, stand together: how it stands itself, or what
+-- none of them come to, and then the trees that stand in its place from r .next on
+pub record Adds (bs : List ℕ) (q n : ℕ) (z : List Int) (branches : Bool) (e : Expr) (r : Step) : Type 0 where
+  pub below : Exprs
+  pub at : AllAt below (varsOf bs) bs (r .next) q
+  pub many : branchCount below ≡ r .more
+  pub few : nodeCounts below ≤ nodeCount e
+  pub fitting : allFit below (headsOf bs) n ≡ Bool.true
+  pub reaches : (bound : ℕ) → reach e bound ≡ Bool.true → reachAll below bound ≡ Bool.true
+  pub stands : joined branches (r .how) (together branches below (sheetOf bs) (pointOf n z)) ≡ standing e (sheetOf bs) (pointOf n z)
+
+-- r is what the tree at p adds, and moves on
+pub record Steps (bs : List ℕ) (p : ℕ) (z : List Int) (branches : Bool) (r : Step) : Type 0 where
+  pub on : p < r .next
+  pub adds : (e : Expr) (q n : ℕ) → At e (varsOf bs) bs p q → fits e (headsOf bs) n ≡ Bool.true → Adds bs q n z branches e r
 
 -- the node at p, of code up to 6, says `own` at z: joined with its children together it is how the tree stands
 abbrev pub Starts : List ℕ → ℕ → List Int → Standing → Type 0

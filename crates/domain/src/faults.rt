@@ -43,21 +43,14 @@ fn fault(how: Standing, n: usize) -> Ruling
     }
 }
 
-// How the body of variable v stands at the i-th point of its box, which has `size` points. Outside its declared domain it is not asked.
-fn body_stands(
-    s: &[u8],
-    tab: &[usize; 102],
-    inside: &[u8; 4096],
-    v: usize,
-    size: usize,
-    i: usize,
-) -> Standing
-    requires { ⌜ Formed (now s) (now tab) × Inside (sheetOf (now s)) (now inside) × BodyPoint (now s) v size i ⌝ }
+// How the body of variable v stands at the i-th point of its box. Outside its declared domain it is not asked.
+fn body_stands(s: &[u8], tab: &[usize; 102], inside: &[u8; 4096], v: usize, i: usize) -> Standing
+    requires { ⌜ Formed (now s) (now tab) × Inside (sheetOf (now s)) (now inside) × BodyPoint (now s) v i ⌝ }
     ensures { λ r. ⌜ r ≡ bodyStanding (sheetOf (now (s .entry))) v (Box.pointAt (variable (sheetOf (now (s .entry))) v .head .box) i) ⌝ }
 {
     let n = first_element(tab, v) + i;
     if inside[n] == 1 {
-        let z = points::point(s, record_place(tab, v), size, i);
+        let z = points::point(s, record_place(tab, v), i);
         let r = stand(s, tab, inside, body_place(tab, v), 2048, z);
         r.how
     } else {
@@ -74,7 +67,7 @@ fn body_faults(s: &[u8], tab: &[usize; 102], inside: &[u8; 4096], v: usize) -> R
     let size = first_element(tab, v + 1) - first;
     let mut i = 0;
     while i < size {
-        let how = body_stands(s, tab, inside, v, size, i);
+        let how = body_stands(s, tab, inside, v, i);
         if !is_clear(how) {
             return fault(how, first + i);
         }

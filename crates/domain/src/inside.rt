@@ -67,16 +67,15 @@ fn all_declared_meet(s: &[u8], tab: &[usize; 102], v: usize, z: [Int; 4]) -> boo
     true
 }
 
-// Whether element i of the `size` elements of variable v is inside its declared domain. Where the sheet declares nothing, its point is not
-// worked out.
-fn element_inside(s: &[u8], tab: &[usize; 102], v: usize, size: usize, i: usize) -> bool
-    requires { ⌜ Formed (now s) (now tab) × (v < varsOf (now s)) × (size ≡ Box.size (variable (sheetOf (now s)) v .head .box)) × (i < size) ⌝ }
+// Whether element i of variable v is inside its declared domain. Where the sheet declares nothing, its point is not worked out.
+fn element_inside(s: &[u8], tab: &[usize; 102], v: usize, i: usize) -> bool
+    requires { ⌜ Formed (now s) (now tab) × (v < varsOf (now s)) × (i < Box.size (variable (sheetOf (now s)) v .head .box)) ⌝ }
     ensures { λ r. ⌜ r ≡ meetsAll (variable (sheetOf (now (s .entry))) v .declared) (Box.pointAt (variable (sheetOf (now (s .entry))) v .head .box) i) ⌝ }
 {
     if natural(s, second_place(tab)) < 1 {
         return true;
     }
-    let z = points::point(s, record_place(tab, v), size, i);
+    let z = points::point(s, record_place(tab, v), i);
     all_declared_meet(s, tab, v, z)
 }
 
@@ -102,7 +101,7 @@ fn fill_variable(s: &[u8], tab: &[usize; 102], inside: &mut [u8; 4096], v: usize
     let mut i = 0;
     while i < size {
         let n = first + i;
-        let met = element_inside(s, tab, v, size, i);
+        let met = element_inside(s, tab, v, i);
         keep(inside, n, met);
         i += 1;
     }

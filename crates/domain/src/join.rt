@@ -1,6 +1,7 @@
 // How several trees stand together. Assumes nothing.
 use super::Standing;
 ghost use mathlib.Core.Path.{_≡_};
+ghost use Prim.Native.Nat.{ℕ};
 ghost use Rattle.domain.specs.Standing as Meaning;
 
 // Two operands: not where one does not hold, and else a clash where one has it.
@@ -49,4 +50,12 @@ pub fn alone(branches: bool) -> Standing
     } else {
         Standing::Holds
     }
+}
+
+// Whether the children of a node of this code, 3 or more, stand together as the trees do among which it is: operands among operands,
+// branches among branches.
+pub fn opens(branches: bool, code: usize) -> bool
+    ensures { λ r. ⌜ r ≡ Meaning.opens branches code ⌝ }
+{
+    if branches { code == 6 } else { code < 6 }
 }

@@ -34,6 +34,14 @@ pub struct Stood {
     pub next: usize,
 }
 
+// What the first of several trees adds to how they stand together: how it stands itself, the place after what was looked at, and how many
+// trees then stand there in its place.
+pub struct Step {
+    pub how: Standing,
+    pub next: usize,
+    pub more: usize,
+}
+
 // Which elements are inside their declared domain, and then GAP and CLASH over all elements: refusals 10 and 11 with their places.
 pub fn domains(s: &[u8], tab: &[usize; 102], inside: &mut [u8; 4096]) -> Ruling
     requires { ⌜ Formed (now s) (now tab) × (length (now inside) ≡ 4096) ⌝ }

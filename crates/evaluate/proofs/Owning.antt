@@ -62,9 +62,6 @@ module _ (bs tab : List ℕ) (F : Formed bs tab) (e : ℕ) where
     abbrev place : ℕ
     place = e - getD tab (32 + v) 0
 
-    pub size-is : getD tab (32 + (v + 1)) 0 - getD tab (32 + v) 0 ≡ size (variable (sheetOf bs) v .head .box)
-    size-is = omega (arith, owned .last-is, owned .first-is)
-
     pub place-low : place < size (variable (sheetOf bs) v .head .box)
     place-low = omega (arith, owned .last-is, owned .first-is, O .from, O .below-next)
 

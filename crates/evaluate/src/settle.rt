@@ -42,8 +42,7 @@ fn point_of(s: &[u8], tab: &[usize; 102], v: usize, e: usize) -> [Int; 4]
     ensures { λ z. ⌜ ElementIs (now (s .entry)) v e z ⌝ }
 {
     let first = first_element(tab, v);
-    let size = first_element(tab, v + 1) - first;
-    points::point(s, record_place(tab, v), size, e - first)
+    points::point(s, record_place(tab, v), e - first)
 }
 
 // The body of element e, which is in progress.

@@ -92,24 +92,29 @@ fn nth(s: &[u8], p: usize, n: usize) -> Int
     integer::add(integer::number_at(s, p), integer::of_usize(n))
 }
 
-// The point with the number i in the box of the record at `place`, which has `points` points.
-pub fn point(s: &[u8], place: usize, points: usize, i: usize) -> [Int; 4]
-    requires { ⌜ Recorded (now s) place × (points ≡ size (boxOf (now s) place)) × (points ≤ 4096) × (i < points) ⌝ }
+// The point with the number i in the box of the record at `place`, from its last coordinate to its first. x0 is the one found last, and those
+// found before move down one by one: the compiler keeps them in registers.
+pub fn point(s: &[u8], place: usize, i: usize) -> [Int; 4]
+    requires { ⌜ Recorded (now s) place × (size (boxOf (now s) place) ≤ 4096) × (i < size (boxOf (now s) place)) ⌝ }
     ensures { λ z. ⌜ PointAt (now (s .entry)) place i z ⌝ }
 {
-    let mut z = [integer::of(0); 4];
+    let zero = integer::of(0);
     let mut left = dimension(s, place);
-    let mut p = place + 32;
-    let mut k: usize = 0;
-    let mut rest = points;
+    let mut p = place + 32 + 16 * left;
     let mut j = i;
+    let mut x0 = zero;
+    let mut x1 = zero;
+    let mut x2 = zero;
+    let mut x3 = zero;
     while left > 0 {
-        rest = rest / width(s, p);
-        z[k] = nth(s, p, j / rest);
-        j = j % rest;
-        p += 16;
-        k += 1;
+        p -= 16;
+        let w = width(s, p);
+        x3 = x2;
+        x2 = x1;
+        x1 = x0;
+        x0 = nth(s, p, j % w);
+        j = j / w;
         left -= 1;
     }
-    z
+    [x0, x1, x2, x3]
 }

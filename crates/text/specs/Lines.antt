@@ -1,5 +1,4 @@
 -- The lines of a report, with each outcome as the two tables of the run give it: by its code and its value. Assumes nothing.
-use mathlib.Core.Path.{_≡_}
 use Prim.Native.Nat.{ℕ, suc, _+_, _<_}
 use mathlib.Core.List.{List, [], _∷_, _++_}
 use lib.ListN.{getD}
@@ -16,11 +15,10 @@ use Rattle.laws.specs.Sheets.{varsOf, sheetOf}
 
 -- ---- one element
 
--- i is the number of a point in the box of variable v, which has n points
-pub record PointOf (bs : List ℕ) (v n i : ℕ) : Type 0 where
+-- i is the number of a point in the box of variable v
+pub record PointOf (bs : List ℕ) (v i : ℕ) : Type 0 where
   pub known : v < varsOf bs
-  pub many : n ≡ size (variable (sheetOf bs) v .head .box)
-  pub low : i < n
+  pub low : i < size (variable (sheetOf bs) v .head .box)
 
 -- the element of variable v at the i-th point of its box
 abbrev pub elementOf : Sheet → ℕ → ℕ → Element

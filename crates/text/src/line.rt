@@ -51,21 +51,13 @@ pub fn coordinates(z: [Int; 4], n: usize, out: &mut [u8], at: usize) -> usize
     next
 }
 
-// The name of variable v, and the coordinates of the i-th point of its box, which has `points` points: at most 8 bytes and 4 times 7.
-fn element(
-    s: &[u8],
-    tab: &[usize; 102],
-    v: usize,
-    points: usize,
-    i: usize,
-    out: &mut [u8],
-    at: usize,
-) -> usize
-    requires { ⌜ Formed (now s) (now tab) × PointOf (now s) v points i × (at + 36 ≤ length (now out)) ⌝ }
+// The name of variable v, and the coordinates of the i-th point of its box: at most 8 bytes and 4 times 7.
+fn element(s: &[u8], tab: &[usize; 102], v: usize, i: usize, out: &mut [u8], at: usize) -> usize
+    requires { ⌜ Formed (now s) (now tab) × PointOf (now s) v i × (at + 36 ≤ length (now out)) ⌝ }
     ensures { λ r. ⌜ Wrote (now (out .entry)) (now (out .exit)) at r (elementText (sheetOf (now (s .entry))) (elementOf (sheetOf (now (s .entry))) v i)) × (r ≤ at + 36) ⌝ }
 {
     let place = record_place(tab, v);
-    let z = points::point(s, place, points, i);
+    let z = points::point(s, place, i);
     let n = dimension_of(s, tab, v);
     let next = name(s, place, out, at);
     coordinates(z, n, out, next)
@@ -78,19 +70,18 @@ pub fn line(
     codes: &[u8; 4096],
     values: &[i32; 4096],
     v: usize,
-    points: usize,
     i: usize,
     out: &mut [u8],
     at: usize,
 ) -> usize
-    requires { ⌜ Formed (now s) (now tab) × PointOf (now s) v points i × (at + 51 ≤ length (now out)) ⌝ }
+    requires { ⌜ Formed (now s) (now tab) × PointOf (now s) v i × (at + 51 ≤ length (now out)) ⌝ }
     ensures { λ r. ⌜ Wrote (now (out .entry)) (now (out .exit)) at r (lineIn (sheetOf (now (s .entry))) (now (codes .entry)) (now (values .entry)) v i) × (r ≤ at + 51) ⌝ }
 {
     let n = first_element(tab, v) + i;
     let code = codes[n];
     let x = integer::of32(values[n]);
     let sort = sort_of(s, tab, v);
-    let next = element(s, tab, v, points, i, out, at);
+    let next = element(s, tab, v, i, out, at);
     let end = outcome(out, next, sort, code, x);
     byte(out, end, NEWLINE)
 }

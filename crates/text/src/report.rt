@@ -43,7 +43,7 @@ fn variable_lines(
     let mut next = at;
     let mut i = 0;
     while i < size {
-        next = line(s, tab, codes, values, v, size, i, out, next);
+        next = line(s, tab, codes, values, v, i, out, next);
         i += 1;
     }
     next

@@ -17,27 +17,27 @@ use Rattle.tree.specs.Ends.{EndsAt, AllEnd}
 
 -- ---- the trees of two lists
 
-abbrev followed : Exprs → Exprs → Exprs
+abbrev pub followed : Exprs → Exprs → Exprs
 followed none fs = fs
 followed (more e es) fs = more e (followed es fs)
 
-followed-count : (es fs : Exprs) → branchCount (followed es fs) ≡ branchCount es + branchCount fs
+pub followed-count : (es fs : Exprs) → branchCount (followed es fs) ≡ branchCount es + branchCount fs
 followed-count none fs = omega arith
 followed-count (more e es) fs = omega (arith, followed-count es fs)
 
-followed-nodes : (es fs : Exprs) → nodeCounts (followed es fs) ≡ nodeCounts es + nodeCounts fs
+pub followed-nodes : (es fs : Exprs) → nodeCounts (followed es fs) ≡ nodeCounts es + nodeCounts fs
 unfolding nodeCounts
 followed-nodes none fs = omega arith
 followed-nodes (more e es) fs = omega (arith, followed-nodes es fs)
 
-followed-at : (vars : ℕ) (bs : List ℕ) (es fs : Exprs) (p m q : ℕ) → AllAt es vars bs p m → AllAt fs vars bs m q → AllAt (followed es fs) vars bs p q
+pub followed-at : (vars : ℕ) (bs : List ℕ) (es fs : Exprs) (p m q : ℕ) → AllAt es vars bs p m → AllAt fs vars bs m q → AllAt (followed es fs) vars bs p q
 unfolding At
 followed-at vars bs none fs p m q h k = rw h k
 followed-at vars bs (more e es) fs p m q h k =
     record { middle = h .middle; before = h .before; after = followed-at vars bs es fs (h .middle) m q (h .after) k }
 
 -- each tree has a node
-count-nodes : (es : Exprs) → branchCount es ≤ nodeCounts es
+pub count-nodes : (es : Exprs) → branchCount es ≤ nodeCounts es
 unfolding nodeCounts
 count-nodes none = omega arith
 count-nodes (more e es) = omega (arith, count-nodes es, children-count e)

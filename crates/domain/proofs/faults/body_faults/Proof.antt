@@ -59,7 +59,7 @@ body-stands-requires : tie.Need-body-stands-requires Inv-loop μ-loop
 body-stands-requires c κs =
     let s = c .before .before .before .before .before in
     let p = s .pre in
-    (p .0, p .1, record { known = p .2; no-input = p .3; many = size-is (c .before .before); low = c .loop-test .taken })
+    (p .0, p .1, record { known = p .2; no-input = p .3; low = omega (arith, size-is (c .before .before), c .loop-test .taken) })
 
 is-clear-requires : tie.Need-is-clear-requires Inv-loop μ-loop
 is-clear-requires c κs = search needs

@@ -1,11 +1,7 @@
 -- `domain::body_stands` meets its contract: where the element's byte says that it is inside, the body is walked at the point.
 -- Assumes nothing.
 use mathlib.Core.Path.{_∙_}
-use Prim.Native.Nat.{_<_}
 use native.Mathlib.Omega.{arith}
-use Rattle.alpha.specs.Box.{size}
-use Rattle.alpha.specs.Holds.{variable}
-use Rattle.laws.specs.Sheets.{sheetOf}
 use Rattle.domain.proofs.Records.{VariableLaid, laid-variable}
 use Rattle.domain.proofs.Bodying.{number-low, byte-asks, byte-skips, body-walk, body-way}
 use Rattle.domain.proofs.faults.body_stands.Statement.{statement}
@@ -15,18 +11,14 @@ use Rattle.domain.proofs.faults.body_stands.Tie as tie
 laid : (c : tie.Start) → VariableLaid (c .args .s .now) (c .args .tab .now) (c .args .v)
 laid c = laid-variable _ _ (c .pre .0 .placed) _ (c .pre .2 .known)
 
--- the point is one of its box
-low : (c : tie.Start) → c .args .i < size (variable (sheetOf (c .args .s .now)) (c .args .v) .head .box)
-low c = omega (arith, c .pre .2 .many, c .pre .2 .low)
-
 first-element-requires : tie.Need-first-element-requires
 first-element-requires c κs = omega (arith, laid (c .before) .low)
 
 add-n : tie.Need-add-n
-add-n c = let s = c .before .before in omega (arith, number-low _ _ _ _ (laid s) (low s), c .first-element .ensures)
+add-n c = let s = c .before .before in omega (arith, number-low _ _ _ _ (laid s) (s .pre .2 .low), c .first-element .ensures)
 
 element-copy-out-if1 : tie.Need-element-copy-out-if1
-element-copy-out-if1 c = let s = c .before .before in omega (arith, number-low _ _ _ _ (laid s) (low s), c .first-element .ensures)
+element-copy-out-if1 c = let s = c .before .before in omega (arith, number-low _ _ _ _ (laid s) (s .pre .2 .low), c .first-element .ensures)
 
 record-place-requires : tie.Need-record-place-requires
 record-place-requires c κs =
@@ -37,7 +29,7 @@ point-requires : tie.Need-point-requires
 point-requires c κs =
     let s = c .before .before .before .before .before in
     let l = laid s in
-    rw (c .record-place .ensures) (l .recorded, rw (l .box-is) (s .pre .2 .many), omega (arith, l .few, s .pre .2 .many), s .pre .2 .low)
+    rw (c .record-place .ensures) (l .recorded, rw (l .box-is) (omega (arith, l .few)), rw (l .box-is) (s .pre .2 .low))
 
 body-place-requires : tie.Need-body-place-requires
 body-place-requires c κs =
@@ -50,7 +42,7 @@ stand-requires c κs =
     let at = rw (c .before .before .record-place .ensures) at (c .before .point .ensures) in (
       s .pre .0 .placed,
       s .pre .1,
-      body-walk _ _ _ _ (laid s) (low s) (s .pre .0) (s .pre .2 .known) (s .pre .2 .no-input) _ at _ (c .body-place .ensures),
+      body-walk _ _ _ _ (laid s) (s .pre .2 .low) (s .pre .0) (s .pre .2 .known) (s .pre .2 .no-input) _ at _ (c .body-place .ensures),
       omega arith,
     )
 
@@ -62,13 +54,13 @@ returns c =
     let s = after-first-element .before .before in
     let at = rw (after-record-place .record-place .ensures) at (c .before .before .point .ensures) in
     let one = rw (after-first-element .first-element .ensures) at (then1 .if1 .taken) in
-    body-way _ _ _ _ (laid s) (low s) (s .pre .0) (s .pre .2 .known) (s .pre .2 .no-input) _ at _ (c .before .body-place .ensures) _ (c .stand .ensures)
-    ∙ byte-asks _ _ _ _ (laid s) (low s) _ (s .pre .1) one
+    body-way _ _ _ _ (laid s) (s .pre .2 .low) (s .pre .0) (s .pre .2 .known) (s .pre .2 .no-input) _ at _ (c .before .body-place .ensures) _ (c .stand .ensures)
+    ∙ byte-asks _ _ _ _ (laid s) (s .pre .2 .low) _ (s .pre .1) one
 
 returns-2 : tie.Need-returns-2
 returns-2 c =
     let s = c .before .before .before .before in
-    byte-skips _ _ _ _ (laid s) (low s) _ (s .pre .1) (rw (c .before .before .first-element .ensures) at (c .if1 .left))
+    byte-skips _ _ _ _ (laid s) (s .pre .2 .low) _ (s .pre .1) (rw (c .before .before .first-element .ensures) at (c .if1 .left))
 
 pub body-stands-spec : {M : Type 1} → statement M
 body-stands-spec =

@@ -1,11 +1,9 @@
 -- `domain::element_inside` meets its contract: where nothing is declared every point is inside. Assumes nothing.
 use mathlib.Core.Path.{_≡_, ap, _∙_}
-use Prim.Native.Nat.{_<_}
 use native.Mathlib.Omega.{arith}
 use lib.IntN.{natAbs}
 use borrow.Author.Needs.{needs}
 use Rattle.alpha.specs.Affine.{meetsAll}
-use Rattle.alpha.specs.Box as Box
 use Rattle.alpha.specs.Field.{field}
 use Rattle.alpha.specs.Holds.{variable}
 use Rattle.laws.specs.Sheets.{rawOf, sheetOf}
@@ -19,10 +17,6 @@ use Rattle.domain.proofs.inside.element_inside.Tie as tie
 -- the variable
 laid : (c : tie.Start) → VariableLaid (c .args .s .now) (c .args .tab .now) (c .args .v)
 laid c = laid-variable _ _ (c .pre .0 .placed) _ (c .pre .1)
-
--- the element is one of its own
-low : (c : tie.Start) → c .args .i < Box.size (variable (sheetOf (c .args .s .now)) (c .args .v) .head .box)
-low c = omega (arith, c .pre .2, c .pre .3)
 
 second-place-requires : tie.Need-second-place-requires
 second-place-requires c κs = search needs
@@ -49,20 +43,20 @@ point-requires : tie.Need-point-requires
 point-requires c κs =
     let s = c .before .before .before .before .before in
     let l = laid s in
-    rw (c .record-place .ensures) (l .recorded, rw (l .box-is) (s .pre .2), omega (arith, l .few, s .pre .2), s .pre .3)
+    rw (c .record-place .ensures) (l .recorded, rw (l .box-is) (omega (arith, l .few)), rw (l .box-is) (s .pre .2))
 
 all-declared-meet-requires : tie.Need-all-declared-meet-requires
 all-declared-meet-requires c κs =
     let s = c .before .before .before .before .before .before in
     let at = rw (c .before .record-place .ensures) at (c .point .ensures) in
-    (s .pre .0, s .pre .1, point-inside _ _ _ _ (laid s) (low s) _ at)
+    (s .pre .0, s .pre .1, point-inside _ _ _ _ (laid s) (s .pre .2) _ at)
 
 returns-2 : tie.Need-returns-2
 returns-2 c =
     let after-point = c .before in
     let s = after-point .before .before .before .before .before .before in
     let at = rw (after-point .before .record-place .ensures) at (after-point .point .ensures) in
-    let is = point-at _ _ _ _ (laid s) (low s) _ at in
+    let is = point-at _ _ _ _ (laid s) (s .pre .2) _ at in
     c .all-declared-meet .ensures ∙ ap (meetsAll (variable (sheetOf (s .args .s .now)) (s .args .v) .declared)) is
 
 pub element-inside-spec : {M : Type 1} → statement M

@@ -3,7 +3,7 @@
 use borrow.Author.Needs.{needs}
 use native.Mathlib.Omega.{arith}
 use Rattle.tree.proofs.Noding.{code-there}
-use Rattle.domain.proofs.Ways.{tip-starts, node-starts}
+use Rattle.domain.proofs.Ways.{tip-starts, own-starts}
 use Rattle.domain.proofs.stand.own_stands.Statement.{statement}
 use Rattle.domain.proofs.stand.own_stands.Tie as tie
 
@@ -26,7 +26,7 @@ returns-2 c =
     let after-natural = c .before .before in
     let s = after-natural .before .before in
     let code = after-natural .natural .ensures in
-    node-starts _ _ (s .args .z) _ _ code (omega (arith, c .before .if1 .left)) (omega (arith, s .pre .3)) (c .alone .ensures)
+    own-starts _ _ (s .args .z) _ _ code (omega (arith, c .before .if1 .left)) (omega (arith, s .pre .3)) (s .pre .4) (c .alone .ensures)
 
 pub own-stands-spec : {M : Type 1} → statement M
 own-stands-spec =

@@ -2,7 +2,7 @@
 use Prim.Native.Nat.{_<_}
 use native.Mathlib.Omega.{arith}
 use Rattle.domain.proofs.Records.{laid-variable}
-use Rattle.evaluate.proofs.Owning.{owned-low, size-is, place-low, owned-element}
+use Rattle.evaluate.proofs.Owning.{owned-low, place-low, owned-element}
 use Rattle.evaluate.proofs.settle.point_of.Statement.{statement}
 use Rattle.evaluate.proofs.settle.point_of.Tie as tie
 
@@ -12,41 +12,25 @@ low c = owned-low _ _ (c .pre .0) _ _ (c .pre .1)
 first-element-requires : tie.Need-first-element-requires
 first-element-requires c κs = omega (arith, low (c .before))
 
-add-first-element : tie.Need-add-first-element
-add-first-element c = omega (arith, low (c .before .before))
-
-first-element-requires-2 : tie.Need-first-element-requires-2
-first-element-requires-2 c κs = omega (arith, low (c .before .before))
-
-sub-size : tie.Need-sub-size
-sub-size c =
-    let s = c .before .before .before in
-    let owns = s .pre .1 in
-    omega (arith, owns .from, owns .below-next, c .before .first-element .ensures, c .first-element2 .ensures)
-
 record-place-requires : tie.Need-record-place-requires
-record-place-requires c κs = low (c .before .before .before)
+record-place-requires c κs = low (c .before .before)
 
 sub-point : tie.Need-sub-point
 sub-point c =
-    let s = c .before .before .before .before in
-    omega (arith, s .pre .1 .from, c .before .before .first-element .ensures)
+    let s = c .before .before .before in
+    omega (arith, s .pre .1 .from, c .before .first-element .ensures)
 
 point-requires : tie.Need-point-requires
 point-requires c κs =
-    let s = c .before .before .before .before in
+    let s = c .before .before .before in
     let owns = s .pre .1 in
     let f = s .pre .0 in
     let l = laid-variable _ _ (f .placed) _ (owns .known) in
-    let first = c .before .before .first-element .ensures in
-    let next = c .before .first-element2 .ensures in
-    let size = size-is _ _ f _ _ owns in
-    let below = place-low _ _ f _ _ owns in
-    rw (c .record-place .ensures, first, next) (l .recorded, rw (l .box-is) size, omega (arith, l .few, size), omega (arith, below, size))
+    rw (c .record-place .ensures, c .before .first-element .ensures) (l .recorded, rw (l .box-is) (omega (arith, l .few)), rw (l .box-is) (place-low _ _ f _ _ owns))
 
 returns : tie.Need-returns
 returns c =
-    let at-first-element = c .before .before .before in
+    let at-first-element = c .before .before in
     let s = at-first-element .before .before in
     let place = rw (c .before .record-place .ensures, at-first-element .first-element .ensures) at (c .point .ensures) in
     owned-element _ _ (s .pre .0) _ _ (s .pre .1) _ place
@@ -56,9 +40,6 @@ point-of-spec =
     tie.close
     (tie.spec
     first-element-requires
-    add-first-element
-    first-element-requires-2
-    sub-size
     record-place-requires
     sub-point
     point-requires

@@ -1,9 +1,8 @@
 -- `text::element` meets its contract: the name where the record stands, and the point of the box. Assumes nothing.
 use mathlib.Core.Path.{_≡_, ap}
-use Prim.Native.Nat.{_<_}
 use native.Mathlib.Omega.{arith}
 use lib.ListN.{length}
-use Rattle.alpha.specs.Box.{size, pointAt}
+use Rattle.alpha.specs.Box.{pointAt}
 use Rattle.alpha.specs.Holds.{variable}
 use Rattle.alpha.specs.Program.{spaced}
 use Rattle.laws.specs.Sheets.{sheetOf}
@@ -15,10 +14,6 @@ use borrow.Author.Needs.{needs}
 use Rattle.text.proofs.line.element.Statement.{statement}
 use Rattle.text.proofs.line.element.Tie as tie
 
--- the point is one of the variable's
-low : (c : tie.Start) → c .args .i < size (variable (sheetOf (c .args .s .now)) (c .args .v) .head .box)
-low c = omega (arith, c .pre .1 .many, c .pre .1 .low)
-
 -- the coordinates are those of that point
 point-is : (c : tie.After-dimension-of) →
     spaced (pointOf (c .dimension-of .result) (c .before .point .result))
@@ -29,7 +24,7 @@ point-is c =
     let after-record-place = after-point .before in
     let s = after-record-place .before .before .before in
     let at = rw (after-record-place .record-place .ensures) at (after-point .point .ensures) in
-    laid-point _ _ (s .pre .0) _ (s .pre .1 .known) (s .args .i) (low s) _ _ (c .dimension-of .ensures .0) at
+    laid-point _ _ (s .pre .0) _ (s .pre .1 .known) (s .args .i) (s .pre .1 .low) _ _ (c .dimension-of .ensures .0) at
 
 record-place-requires : tie.Need-record-place-requires
 record-place-requires c κs = laid _ _ (c .before .before .pre .0) _ (c .before .before .pre .1 .known) .low
@@ -38,8 +33,7 @@ point-requires : tie.Need-point-requires
 point-requires c κs =
     let s = c .before .before .before in
     let l = laid _ _ (s .pre .0) _ (s .pre .1 .known) in
-    let many = s .pre .1 .many in
-    rw (c .record-place .ensures) (l .recorded, rw (l .box-is) many, omega (arith, l .few), s .pre .1 .low)
+    rw (c .record-place .ensures) (l .recorded, rw (l .box-is) (omega (arith, l .few)), rw (l .box-is) (s .pre .1 .low))
 
 dimension-of-requires : tie.Need-dimension-of-requires
 dimension-of-requires c κs = search needs
@@ -61,7 +55,7 @@ coordinates-requires c κs =
     let after-record-place = after-dimension-of .before .before in
     let s = after-record-place .before .before .before in
     let is = ap length (point-is after-dimension-of) in
-    let few = laid-length _ _ (s .pre .0) _ (s .pre .1 .known) (s .args .i) (low s) in
+    let few = laid-length _ _ (s .pre .0) _ (s .pre .1 .known) (s .args .i) (s .pre .1 .low) in
     let name = name-length (s .args .s .now) (after-record-place .record-place .result) in
     (after-dimension-of .dimension-of .ensures .1, omega (arith, is, few, name, after-name .name .ensures .ends, s .pre .2))
 
@@ -76,7 +70,7 @@ returns c =
     let after-record-place = after-dimension-of .before .before in
     let s = after-record-place .before .before .before in
     let is = point-is after-dimension-of in
-    let few = laid-length _ _ (s .pre .0) _ (s .pre .1 .known) (s .args .i) (low s) in
+    let few = laid-length _ _ (s .pre .0) _ (s .pre .1 .known) (s .args .i) (s .pre .1 .low) in
     let name = name-length (s .args .s .now) (after-record-place .record-place .result) in
     let named = rw (after-record-place .record-place .ensures) at (after-name .name .ensures) in
     let first = wrote-is (laid-name _ _ (s .pre .0) _ (s .pre .1 .known)) named in

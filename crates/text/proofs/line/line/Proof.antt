@@ -7,7 +7,6 @@ use lib.IntN.{pos}
 use mir.Facts.{toZ-ofZ}
 use borrow.Author.Needs.{sfits-of}
 use Rattle.alpha.specs.Sheet.{Variable}
-use Rattle.alpha.specs.Box.{size}
 use Rattle.alpha.specs.Read.{sortOf}
 use Rattle.alpha.specs.Holds.{variable}
 use Rattle.alpha.specs.Ask.{before}
@@ -27,8 +26,7 @@ use Rattle.text.proofs.line.line.Tie as tie
 number-low : (c : tie.After-first-element) → c .first-element .result + c .before .before .before .args .i < 4096
 number-low c =
     let s = c .before .before .before in
-    let low : s .args .i < size (variable (sheetOf (s .args .s .now)) (s .args .v) .head .box) = omega (arith, s .pre .1 .many, s .pre .1 .low) in
-    rw (c .first-element .ensures) (laid-number _ _ (s .pre .0) _ (s .pre .1 .known) (s .args .i) low)
+    rw (c .first-element .ensures) (laid-number _ _ (s .pre .0) _ (s .pre .1 .known) (s .args .i) (s .pre .1 .low))
 
 -- its number is that of the definition
 number-is : (c : tie.After-first-element) →
