@@ -17,7 +17,7 @@ use Rattle.alpha.specs.Sheet.{Node.nVar, Node.nInt, Node.nBool}
 use Rattle.alpha.specs.Sheet.{Expr.var, Expr.int, Expr.boo, Expr.un, Expr.bin, Expr.ite, Expr.kase, Expr.restr, Expr.dep}
 use Rattle.alpha.specs.Affine.{meetsAll, image}
 use Rattle.alpha.specs.Read.{got, node, dimension}
-use Rattle.alpha.specs.Shape.{fits, allFit}
+use Rattle.alpha.specs.Shape.{fits}
 use Rattle.alpha.specs.Holds.{holds, clashes}
 use Rattle.laws.specs.At.{codeNumber, lengthOf, nodeLen, At}
 use Rattle.laws.specs.Children.{childrenOf, arity}
@@ -26,7 +26,7 @@ use Rattle.laws.specs.Sheets.{headsOf, varsOf, sheetOf}
 use Rattle.laws.proofs.Tests.{&&-left, &&-right}
 use Rattle.laws.proofs.Readers.{counted-is}
 use Rattle.laws.proofs.Nodes.{node-next}
-use Rattle.laws.proofs.Shapes.{DepAt, RestrAt, at-var, at-un, at-dep, at-restr, allAt-none, MoreAt}
+use Rattle.laws.proofs.Shapes.{DepAt, RestrAt, at-var, at-un, at-dep, at-restr, allAt-none}
 use Rattle.affine.specs.declared.Map.{Map}
 use Rattle.affine.specs.Value.{pointOf, mapOf}
 use Rattle.affine.specs.Reading.{MapRead}
@@ -34,14 +34,14 @@ use Rattle.affine.proofs.Meaning.{height-length, width-cols}
 use Rattle.affine.proofs.Several.{lt-or-le}
 use Rattle.tree.specs.Standing.{Standing as Stands}
 use Rattle.tree.specs.Ends.{EndsAt}
-use Rattle.tree.proofs.Standings.{children-at, children-counted, one-more, standing-noded, standing-children, first-standing}
+use Rattle.tree.proofs.Standings.{children-at, children-counted, standing-noded, standing-children, first-standing}
 use Rattle.domain.specs.declared.Standing.{Standing}
 use Rattle.domain.specs.declared.Standing.the-variants.{Not, Holds}
 use Rattle.domain.specs.declared.Stood.{Stood}
 use Rattle.domain.specs.Standing.{standing, joined, alone, together, StandsAt, StandTogether, Starts, Passes, UnaryAt, Unaries}
 use Rattle.domain.specs.Walk.{Walk}
 use Rattle.domain.specs.Constraints.{restrictionMet}
-use Rattle.domain.proofs.Standings.{joined-alone, joined-assoc, alone-joined, operands-stand, branches-stand, restriction-stands}
+use Rattle.domain.proofs.Standings.{joined-alone, alone-joined, operands-stand, branches-stand, restriction-stands}
 use Rattle.domain.proofs.Standings.{restriction-not, dependence-stands}
 use Rattle.domain.proofs.Walks.{tree-code, code-field, children-fit, walk-children, walk-first}
 use Rattle.domain.proofs.Restrictions.{restriction-says}
@@ -250,7 +250,9 @@ own-starts bs p z own code is low high pass start = go (ℕ-discrete code 7)
     go : Dec (code ≡ 7) → Starts bs p z own
     go (yes seven) =
         let here = sym is ∙ seven in
-        subst (Starts bs p z) (sym (start ∙ ap (λ i. alone (eqb i 6)) seven)) (restriction-starts bs p (nodeLen bs p) z refl here true (pass .restricted here) refl)
+        let own-holds = start ∙ ap (λ i. alone (eqb i 6)) seven in
+        let starts = restriction-starts bs p (nodeLen bs p) z refl here true (pass .restricted here) refl in
+        subst (Starts bs p z) (sym own-holds) starts
     go (no other) = node-starts bs p z own code is low (omega (arith, other)) start
 
 -- ---- so many trees
@@ -261,25 +263,6 @@ module _ (bs : List ℕ) (p count : ℕ) (z : List Int) (branches : Bool) (sofar
   none-way l es q n h m f =
       let x = allAt-none (varsOf bs) bs es p q h (omega arith) in
       (x .end, sym (joined-alone branches sofar) ∙ ap (λ t. joined branches sofar (together branches t (sheetOf bs) (pointOf n z))) (sym (x .is)))
-
-  -- the first, and then the others from where it ends
-  pub more-way : 1 ≤ count → (first r : Stood) → StandsAt bs p z first →
-      StandTogether bs (first .next) (count - 1) z branches (joined branches sofar (first .how)) r →
-      StandTogether bs p count z branches sofar r
-  unfolding together
-  more-way some first r t rest es q n h m f =
-      let x = one-more (varsOf bs) bs es p q count some h m in
-      let g = parts x in
-      let a = t (x .first) (x .middle) n (x .before) (&&-left (fits (x .first) (headsOf bs) n) (allFit (x .rest) (headsOf bs) n) g) in
-      let b = rest (x .rest) q n (rw (a .0) (x .after)) (x .many) (&&-right (fits (x .first) (headsOf bs) n) (allFit (x .rest) (headsOf bs) n) g) in (
-        b .0,
-        b .1 ∙ joined-assoc branches sofar (first .how) (together branches (x .rest) (sheetOf bs) (pointOf n z))
-            ∙ ap (λ w. joined branches sofar (joined branches w (together branches (x .rest) (sheetOf bs) (pointOf n z)))) (a .1)
-            ∙ ap (λ l. joined branches sofar (together branches l (sheetOf bs) (pointOf n z))) (sym (x .is)),
-      )
-    where
-      parts : (x : MoreAt es (varsOf bs) bs p q (count - 1)) → fits (x .first) (headsOf bs) n && allFit (x .rest) (headsOf bs) n ≡ true
-      parts x = unfold fits in rw (x .is) at f
 
 -- ---- unary operators
 
@@ -296,11 +279,11 @@ module _ (bs : List ℕ) (p : ℕ) (code : natAbs (field bs p) ≡ 3) where
 
   -- and stands as it does
   unary-way : (z : List Int) (r : Stood) → StandsAt bs (p + 16) z r → StandsAt bs p z r
-  unary-way z r t =
-      let none = none-way bs (r .next) 0 z false (joined false Holds (r .how)) (omega arith) in
-      let one = more-way bs (p + 16) 1 z false Holds (omega arith) r r t none in
-      let start = node-starts bs p z Holds 3 (sym code) (omega arith) (omega arith) refl in
-      children-way bs p 16 z unary-long 1 3 unary-one (sym code) (omega arith) Holds r start one
+  unfolding fits holds clashes
+  unary-way z r t e q n h f =
+      let x = at-un (varsOf bs) bs e p q h (code-field bs p e q 3 h code) in
+      let a = t (x .child) q n (x .below) (rw (x .is) at f) in
+      (a .0, a .1 ∙ ap (λ u. standing u (sheetOf bs) (pointOf n z)) (sym (x .is)))
 
   unary-walk : (left : ℕ) (z : List Int) → Walk bs p left z → Walk bs (p + 16) (left - 1) z
   unary-walk left z w =

@@ -1,7 +1,7 @@
 -- The number of a point, coordinate by coordinate. Assumes nothing.
 use mathlib.Core.Path.{_≡_, refl, sym, ap, _∙_}
 use Prim.Native.Nat.{ℕ, zero, suc, _+_, _*_, _-_, _≤_, _<_}
-use native.Mathlib.Nat.{add-mul, mul-assoc, add-assoc, mul-one, add-zero, mul-le-mul-left, mul-le-mul-right}
+use native.Mathlib.Nat.{add-mul, mul-assoc, add-assoc, mul-one, mul-le-mul-left, mul-le-mul-right}
 use native.Mathlib.Numerals.{sub-one}
 use native.Mathlib.Omega.{arith}
 use mathlib.Core.Bool.{Bool, true, false}
@@ -17,7 +17,7 @@ use Rattle.affine.proofs.Several.{several-same, below-four}
 use Rattle.sheet.specs.Record.{boxAt, Ranges}
 use Rattle.laws.proofs.Order.{within-among}
 use Rattle.laws.proofs.Boxes.{size-pos}
-use Rattle.points.specs.Number.{rangeAt, digitIn, numberFrom, numberIn, pointFrom}
+use Rattle.points.specs.Number.{rangeAt, digitIn, numberFrom, numberIn}
 use Rattle.points.specs.declared.Found.{Found}
 use Rattle.points.specs.declared.Found.the-variants.{At, Off}
 
@@ -46,13 +46,6 @@ numberFrom-none box z = go (inBox box z)
 
 pub numberFrom-end : (e : ℕ) → numberFrom e [] [] ≡ At e
 numberFrom-end e = ap At (omega arith)
-
-pub pointFrom-cons : (k n : ℕ) (z : List Int) → pointFrom k (suc n) z ≡ at z k ∷ pointFrom (k + 1) n z
-pointFrom-cons k n z =
-    rw (add-zero k, several-same n (λ i. at z (k + suc i)) (λ i. at z (k + 1 + i)) (λ i h. ap (at z) (omega arith))) refl
-
-pub pointFrom-zero : (n : ℕ) (z : List Int) → pointFrom 0 n z ≡ pointOf n z
-pointFrom-zero n z = several-same n (λ i. at z (0 + i)) (at z) (λ i h. ap (at z) (omega arith))
 
 -- ---- ranges one after another
 

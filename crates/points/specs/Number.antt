@@ -8,7 +8,7 @@ use Rattle.alpha.specs.Field.{field}
 use Rattle.alpha.specs.Sheet.{Range, Point}
 use Rattle.alpha.specs.Box.{within, size, inBox, index, pointAt}
 use Rattle.alpha.specs.declared.Int.{Int}
-use Rattle.affine.specs.Value.{several, at, pointOf, Padded}
+use Rattle.affine.specs.Value.{pointOf, Padded}
 use Rattle.sheet.specs.Record.{boxAt, dimensionAt}
 use Rattle.points.specs.declared.Found.{Found}
 use Rattle.points.specs.declared.Found.the-variants.{At, Off}
@@ -31,10 +31,6 @@ numberFrom e box z = ifb (inBox box z) (λ _. At (e * size box + index box z)) (
 
 abbrev pub numberIn : List Range → Point → Found
 numberIn box z = ifb (inBox box z) (λ _. At (index box z)) (λ _. Off)
-
--- n coordinates from the k-th on
-abbrev pub pointFrom : ℕ → ℕ → List Int → Point
-pointFrom k n z = several n (λ i. at z (k + i))
 
 -- z is the point with the number i in the box of the record at p, with zeros beyond
 pub record PointAt (bs : List ℕ) (p i : ℕ) (z : List Int) : Type 0 where

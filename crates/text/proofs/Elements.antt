@@ -1,6 +1,7 @@
 -- The text of a name and of coordinates: a law for each way through a loop, and how long it is. Assumes nothing.
-use mathlib.Core.Path.{_≡_, ap}
+use mathlib.Core.Path.{_≡_, refl, ap}
 use Prim.Native.Nat.{ℕ, zero, suc, _+_, _*_, _-_, _≤_, _<_}
+use native.Mathlib.Nat.{add-zero}
 use native.Mathlib.Omega.{arith}
 use mathlib.Core.Bool.{Bool, true, false}
 use mathlib.Core.List.{List, [], _∷_, _++_}
@@ -13,11 +14,10 @@ use Rattle.alpha.specs.Field.{byte, eight}
 use Rattle.alpha.specs.Sheet.{Point}
 use Rattle.alpha.specs.declared.Int.{Int}
 use Rattle.alpha.specs.Program.{intText, trimmed, spaced}
-use Rattle.affine.specs.Value.{at}
+use Rattle.affine.specs.Value.{several, at, pointOf}
+use Rattle.affine.proofs.Several.{several-same}
 use Rattle.sheet.specs.Name.{bytesAt}
 use Rattle.sheet.proofs.Names.{bytes-none, bytes-more}
-use Rattle.points.specs.Number.{pointFrom}
-use Rattle.points.proofs.Steps.{pointFrom-cons}
 use Rattle.text.proofs.Numbers.{intText-length}
 
 -- ---- a name
@@ -44,6 +44,17 @@ pub name-length : (bs : List ℕ) (p : ℕ) → length (trimmed (eight bs p)) �
 name-length bs p = trimmed-length (eight bs p)
 
 -- ---- coordinates
+
+-- n coordinates from the k-th on
+abbrev pub pointFrom : ℕ → ℕ → List Int → Point
+pointFrom k n z = several n (λ i. at z (k + i))
+
+pointFrom-cons : (k n : ℕ) (z : List Int) → pointFrom k (suc n) z ≡ at z k ∷ pointFrom (k + 1) n z
+pointFrom-cons k n z =
+    rw (add-zero k, several-same n (λ i. at z (k + suc i)) (λ i. at z (k + 1 + i)) (λ i h. ap (at z) (omega arith))) refl
+
+pub pointFrom-zero : (n : ℕ) (z : List Int) → pointFrom 0 n z ≡ pointOf n z
+pointFrom-zero n z = several-same n (λ i. at z (0 + i)) (at z) (λ i h. ap (at z) (omega arith))
 
 -- the k-th coordinate after a space, and then the others
 pub spaced-more : (k n : ℕ) (z : List Int) → 0 < n →

@@ -6,10 +6,8 @@ use native.Mathlib.Omega.{arith}
 use borrow.Author.Needs.{needs}
 use Rattle.alpha.specs.Program.{intText, spaced}
 use Rattle.affine.specs.Value.{pointOf, at as coordinate}
-use Rattle.points.specs.Number.{pointFrom}
-use Rattle.points.proofs.Steps.{pointFrom-zero}
 use Rattle.text.proofs.Writing.{Going, going-start, going-wrote, going-end, going-room}
-use Rattle.text.proofs.Elements.{spaced-more}
+use Rattle.text.proofs.Elements.{pointFrom, pointFrom-zero, spaced-more}
 use Rattle.text.proofs.line.coordinates.Reads as reads
 use Rattle.text.proofs.line.coordinates.Lts as lts
 use Rattle.text.proofs.line.coordinates.Statement.{statement}
