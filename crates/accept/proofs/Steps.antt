@@ -42,7 +42,7 @@ read-refuses bs n p e = go (read bs) e
     go (got r q) h = absurd (let z : _≡_ {A = ℕ} 0 1 = cc in omega arith)
     go (bad m q) h = h
 
--- the sheet is too long, as `sheet::too_long` tells by t: no more of it has to be looked at
+-- the sheet is too long, which `sheet::too_long` says by its answer t: the check refuses it with LONG
 pub long-refuses : (bs : List ℕ) {t : Bool} → t ≡ ltb 65536 (length bs) → t ≡ true → told (Refused Long) ≡ totalOf (check bs)
 long-refuses bs says is = read-refuses bs LONG 0 (sym (read-long bs (ltb-true 65536 (length bs) (sym says ∙ is))))
 

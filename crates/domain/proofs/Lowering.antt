@@ -69,7 +69,7 @@ module _ (bs : List ℕ) (p left : ℕ) (z : List Int) (w : Walk bs p left z) wh
     -- what it does not let through does not hold
     pub stopped-stands : (r : Bool) → Passes bs p z r → r ≡ false → StandsAt bs p z (record { how = Not; next = w .end })
     stopped-stands r passes off =
-        let seven : Code 7 = walk-seven bs p left z w (omega arith) (λ e. true-not-false (passes .mapped (λ c. omega arith)) off) in
+        let seven : Code 7 = walk-seven bs p left z w (omega arith) (λ e. true-not-false (passes .unrestricted (λ c. omega arith)) off) in
         restriction-off-way bs p (nodeLen bs p) z refl seven r (passes .restricted seven) (w .end) off
         (λ e q h. at-unique (varsOf bs) bs p (w .tree) e (w .end) q (w .at) h .end-is)
 

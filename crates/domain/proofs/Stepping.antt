@@ -15,12 +15,12 @@ use Rattle.alpha.specs.Read.{got, node}
 use Rattle.alpha.specs.Shape.{fits, allFit}
 use Rattle.alpha.specs.Reach.{reach, reachAll}
 use Rattle.alpha.specs.Written.{nodeCounts}
-use Rattle.laws.specs.At.{nodeOf, nodeLen, At}
-use Rattle.laws.specs.Children.{childrenOf, arity, reachHere, reachBelow}
+use Rattle.laws.specs.At.{nodeLen, At}
+use Rattle.laws.specs.Children.{childrenOf, arity}
 use Rattle.laws.specs.Sheets.{headsOf, varsOf, sheetOf}
 use Rattle.laws.proofs.Tests.{&&-left, &&-right, &&-true}
 use Rattle.laws.proofs.Shapes.{MoreAt}
-use Rattle.laws.proofs.Children.{children-count, reach-children}
+use Rattle.laws.proofs.Children.{children-count}
 use Rattle.affine.specs.Value.{pointOf}
 use Rattle.tree.proofs.Standings.{followed, followed-count, followed-nodes, followed-at, count-nodes, children-at, children-counted, one-more}
 use Rattle.domain.specs.declared.Stood.{Stood}
@@ -29,7 +29,7 @@ use Rattle.domain.specs.declared.Standing.{Standing}
 use Rattle.domain.specs.Walk.{WalkAll}
 use Rattle.domain.specs.Standing.{standing, joined, alone, opens, together, StandsAt, StandTogether, Adds, Steps}
 use Rattle.domain.proofs.Standings.{joined-alone, joined-assoc, alone-joined}
-use Rattle.domain.proofs.Walks.{tree-code, same-below, children-fit, walks-split, count-all, fit-all, fit-first, reach-all}
+use Rattle.domain.proofs.Walks.{tree-code, children-fit, children-reach, walks-split, count-all, fit-all, fit-first, reach-all}
 use Rattle.domain.proofs.Ways.{children-stand}
 
 -- ---- the trees of two lists
@@ -90,11 +90,6 @@ module _ (bs : List ℕ) (p k c code : ℕ) (z : List Int) (branches : Bool) (lo
   no-map : natAbs (field bs p) ≡ 8 → ⊥
   no-map e = absurd (omega (arith, is, e, opens-kind branches code opened .0))
 
-  below-reaches : (e : Expr) (q bound : ℕ) → At e (varsOf bs) bs p q → reach e bound ≡ true → reachAll (childrenOf e) bound ≡ true
-  below-reaches e q bound h r =
-      rw (same-below e 0 bound (λ x. no-map (tree-code bs p e q h ∙ x)) .1) at
-      (&&-right (reachHere (nodeOf e) bound) (reachAll (childrenOf e) (reachBelow (nodeOf e) bound)) (sym (reach-children e bound) ∙ r))
-
   below-stands : (e : Expr) (q : ℕ) (y : Point) → At e (varsOf bs) bs p q → together branches (childrenOf e) (sheetOf bs) y ≡ standing e (sheetOf bs) y
   below-stands e q y h =
       let kind = opens-kind branches code opened in
@@ -113,7 +108,7 @@ module _ (bs : List ℕ) (p k c code : ℕ) (z : List Int) (branches : Bool) (lo
         many = children-counted (varsOf bs) bs p k c long many e q h;
         few = omega (arith, children-count e);
         fitting = children-fit bs p e q n h no-map f;
-        reaches = λ bound r. below-reaches e q bound h r;
+        reaches = λ bound r. children-reach bs p e q bound h no-map r;
         stands = alone-joined branches (together branches (childrenOf e) (sheetOf bs) (pointOf n z)) ∙ below-stands e q (pointOf n z) h;
       }
 

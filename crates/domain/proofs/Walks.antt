@@ -63,6 +63,13 @@ module _ (bs : List ℕ) where
       rw (same-below e n 0 (λ x. c (tree-code p e q h ∙ x)) .0) at
       (&&-right (fitsHere (nodeOf e) (headsOf bs) n) (allFit (childrenOf e) (headsOf bs) (wanted (nodeOf e) n)) (sym (fits-children (headsOf bs) n e) ∙ f))
 
+  -- and the same reach is given to them
+  pub children-reach : (p : ℕ) (e : Expr) (q r : ℕ) → At e (varsOf bs) bs p q → (natAbs (field bs p) ≡ 8 → ⊥) → reach e r ≡ true →
+      reachAll (childrenOf e) r ≡ true
+  children-reach p e q r h c f =
+      rw (same-below e 0 r (λ x. c (tree-code p e q h ∙ x)) .1) at
+      (&&-right (reachHere (nodeOf e) r) (reachAll (childrenOf e) (reachBelow (nodeOf e) r)) (sym (reach-children e r) ∙ f))
+
   module _ (p left : ℕ) (z : List Int) (h : Walk bs p left z) where
     pub walk-standing : Standing (varsOf bs) bs p left
     walk-standing = record { tree = h .tree; end = h .end; at = h .at; few = h .few }
@@ -78,7 +85,6 @@ module _ (bs : List ℕ) where
       unfoldable pub walk-children : (natAbs (field bs p) ≡ 8 → ⊥) → WalkAll bs (p + k) (left - 1) n z
       walk-children c =
           let e = h .tree in
-          let same = same-below e (h .dims) (h .bound) (λ x. c (tree-code p e (h .end) (h .at) ∙ x)) in
           record {
             trees = childrenOf e;
             end = h .end;
@@ -88,9 +94,7 @@ module _ (bs : List ℕ) where
             few = omega (arith, h .few, children-count e);
             many = children-counted (varsOf bs) bs p k n long many e (h .end) (h .at);
             fitting = children-fit p e (h .end) (h .dims) (h .at) c (h .fitting);
-            reaches = rw (same .1) at
-                (&&-right (reachHere (nodeOf e) (h .bound)) (reachAll (childrenOf e) (reachBelow (nodeOf e) (h .bound)))
-                (sym (reach-children e (h .bound)) ∙ h .reaches));
+            reaches = children-reach p e (h .end) (h .bound) (h .at) c (h .reaches);
             point = h .point;
           }
 

@@ -1,4 +1,5 @@
--- The ways through the walk that says how a tree stands: for each, what the code answers from what it has found. Assumes nothing.
+-- The ways through the walk that says how a tree stands: for each, what the code answers from what it has found; and unary operators one
+-- below another. Assumes nothing.
 use mathlib.Core.Path.{_≡_, refl, sym, ap, _∙_, subst}
 use Prim.Native.Nat.{ℕ, zero, suc, _+_, _*_, _-_, _≤_, _<_}
 use native.Mathlib.Omega.{arith}
@@ -76,7 +77,8 @@ constant-stands s hs z (dep g a) n l h f = absurd (omega arith)
 
 -- ---- a node whose children stand together
 
-pub children-stand : (s : Sheet) (z : Point) (e : Expr) → 3 ≤ codeNumber e → codeNumber e ≤ 6 → together (eqb (codeNumber e) 6) (childrenOf e) s z ≡ standing e s z
+pub children-stand : (s : Sheet) (z : Point) (e : Expr) → 3 ≤ codeNumber e → codeNumber e ≤ 6 →
+    together (eqb (codeNumber e) 6) (childrenOf e) s z ≡ standing e s z
 children-stand s z (var v) l h = absurd (omega arith)
 children-stand s z (int c) l h = absurd (omega arith)
 children-stand s z (boo b) l h = absurd (omega arith)
@@ -114,7 +116,7 @@ module _ (bs : List ℕ) (p : ℕ) (z : List Int) (own : Standing) where
   tip-starts low t = by-code (λ e q n h f c. tip-alone (sheetOf bs) (pointOf n z) own e (omega arith) ∙ t e q n h f .1)
 
   -- an operator, an if and a case say what no operands or no branches come to
-  pub node-starts : (code : ℕ) → code ≡ natAbs (field bs p) → 3 ≤ code → code < 7 → own ≡ alone (eqb code 6) → Starts bs p z own
+  node-starts : (code : ℕ) → code ≡ natAbs (field bs p) → 3 ≤ code → code < 7 → own ≡ alone (eqb code 6) → Starts bs p z own
   node-starts code is low high start = by-code (λ e q n h f c.
       ap (λ x. joined (eqb (codeNumber e) 6) x (together (eqb (codeNumber e) 6) (childrenOf e) (sheetOf bs) (pointOf n z)))
       (start ∙ ap (λ i. alone (eqb i 6)) (is ∙ c))
@@ -216,7 +218,7 @@ module _ (bs : List ℕ) (p k : ℕ) (z : List Int) (long : k ≡ nodeLen bs p) 
         (a .0, a .1 ∙ sym (restriction-stands (sheetOf bs) (pointOf n z) (x .dim) (x .given) (x .child) (sym (met-is e q n h f) ∙ held)) ∙ back e q n h f)
 
     -- before its child it says what an operator says
-    pub restriction-starts : met ≡ true → Starts bs p z Holds
+    restriction-starts : met ≡ true → Starts bs p z Holds
     unfolding together
     restriction-starts held e q n h f =
         let x = here e q n h f in
@@ -268,7 +270,7 @@ module _ (bs : List ℕ) (p count : ℕ) (z : List Int) (branches : Bool) (sofar
 
 module _ (bs : List ℕ) (p : ℕ) (code : natAbs (field bs p) ≡ 3) where
   -- one has 16 bytes
-  pub unary-long : 16 ≡ nodeLen bs p
+  unary-long : 16 ≡ nodeLen bs p
   unfolding nodeLen
   unary-long = rw code refl
 

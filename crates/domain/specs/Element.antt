@@ -1,5 +1,4 @@
 -- The elements of a variable, how its body stands at one, and what GAP and CLASH say of that. Assumes nothing.
-use mathlib.Core.Path.{_≡_}
 use Prim.Native.Nat.{ℕ, _<_}
 use mathlib.Core.Bool.{Bool, true, false}
 use mathlib.Core.List.{List, map}
@@ -7,7 +6,7 @@ use Rattle.alpha.specs.Pick.{ifb}
 use Rattle.alpha.specs.Answer.{Answer, accepted, refused, GAP, CLASH}
 use Rattle.alpha.specs.Sheet.{Sheet, Point}
 use Rattle.alpha.specs.Box.{size}
-use Rattle.alpha.specs.Holds.{variable, isInput, inDomain}
+use Rattle.alpha.specs.Holds.{variable, inDomain}
 use Rattle.alpha.specs.Check.{Element, points}
 use Rattle.laws.specs.Sheets.{varsOf, sheetOf}
 use Rattle.domain.specs.declared.Standing.{Standing}
@@ -36,8 +35,7 @@ faultOf Clash n = refused CLASH n
 abbrev pub bodyStanding : Sheet → ℕ → Point → Standing
 bodyStanding s v z = ifb (inDomain (variable s v) z) (λ _. standing (variable s v .body) s z) (λ _. Holds)
 
--- i is the number of a point in the box of variable v, no input
-pub record BodyPoint (bs : List ℕ) (v i : ℕ) : Type 0 where
+-- i is the number of a point in the box of variable v
+pub record PointOf (bs : List ℕ) (v i : ℕ) : Type 0 where
   pub known : v < varsOf bs
-  pub no-input : isInput (variable (sheetOf bs) v) ≡ false
   pub low : i < size (variable (sheetOf bs) v .head .box)

@@ -56,7 +56,7 @@ abbrev pub joined : Bool → Standing → Standing → Standing
 joined true a b = either a b
 joined false a b = both a b
 
--- whether the children of a node of this code, 3 or more, stand together as the trees do among which it is: branches, or operands
+-- whether a node of this code, 3 or more, gives way to its children: a case among branches, an operator or an if among operands
 abbrev pub opens : Bool → ℕ → Bool
 opens true code = eqb code 6
 opens false code = ltb code 6
@@ -85,8 +85,8 @@ StandTogether bs p count z branches sofar r =
     (es : Exprs) (q n : ℕ) → AllAt es (varsOf bs) bs p q → branchCount es ≡ count → allFit es (headsOf bs) n ≡ Bool.true →
     (r .next ≡ q) × (r .how ≡ joined branches sofar (together branches es (sheetOf bs) (pointOf n z)))
 
--- r is what e, a tree of dimension n that ends at q, adds at z to how branches, or operands, stand together: how it stands itself, or what
--- none of them come to, and then the trees that stand in its place from r .next on
+-- r is what e, a tree of dimension n that ends at q, adds at z to how branches, or operands, stand together: either how it stands itself, and
+-- no trees; or what no branches, or no operands, come to, and its children, which stand from r .next on
 pub record Adds (bs : List ℕ) (q n : ℕ) (z : List Int) (branches : Bool) (e : Expr) (r : Step) : Type 0 where
   pub below : Exprs
   pub at : AllAt below (varsOf bs) bs (r .next) q
@@ -96,12 +96,13 @@ pub record Adds (bs : List ℕ) (q n : ℕ) (z : List Int) (branches : Bool) (e 
   pub reaches : (bound : ℕ) → reach e bound ≡ Bool.true → reachAll below bound ≡ Bool.true
   pub stands : joined branches (r .how) (together branches below (sheetOf bs) (pointOf n z)) ≡ standing e (sheetOf bs) (pointOf n z)
 
--- r is what the tree at p adds, and moves on
+-- r is what the tree at p adds, and r .next lies past p
 pub record Steps (bs : List ℕ) (p : ℕ) (z : List Int) (branches : Bool) (r : Step) : Type 0 where
   pub on : p < r .next
   pub adds : (e : Expr) (q n : ℕ) → At e (varsOf bs) bs p q → fits e (headsOf bs) n ≡ Bool.true → Adds bs q n z branches e r
 
--- the node at p, of code up to 6, says `own` at z: joined with its children together it is how the tree stands
+-- the node at p, no dependence, and a restriction only where its constraints are met, says `own` at z: joined with its children together it
+-- is how the tree stands
 abbrev pub Starts : List ℕ → ℕ → List Int → Standing → Type 0
 Starts bs p z own =
     (e : Expr) (q n : ℕ) → At e (varsOf bs) bs p q → fits e (headsOf bs) n ≡ Bool.true →
@@ -121,7 +122,7 @@ pub record Unaries (bs : List ℕ) (p k : ℕ) : Type 0 where
   pub way : (z : List Int) (t : Stood) → StandsAt bs (p + 16 * k) z t → StandsAt bs p z t
   pub each : (i : ℕ) → i < k → UnaryAt bs (p + 16 * i)
 
--- r says whether the restriction or dependence at p lets its child's standing through at z: a restriction where its constraints hold
+-- r says whether the node at p lets its children's standing through at z: a restriction where its constraints hold, any other node always
 pub record Passes (bs : List ℕ) (p : ℕ) (z : List Int) (r : Bool) : Type 0 where
   pub restricted : natAbs (field bs p) ≡ 7 → r ≡ restrictionMet bs p z
-  pub mapped : (natAbs (field bs p) ≡ 7 → ⊥) → r ≡ Bool.true
+  pub unrestricted : (natAbs (field bs p) ≡ 7 → ⊥) → r ≡ Bool.true

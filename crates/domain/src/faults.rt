@@ -20,7 +20,7 @@ ghost use Rattle.laws.specs.Sheets.{varsOf, sheetOf};
 ghost use Rattle.tree.specs.Ruled.{ruled};
 ghost use Rattle.tree.specs.Formed.{Formed};
 ghost use Rattle.domain.specs.Inside.{Inside};
-ghost use Rattle.domain.specs.Element.{isClear, faultOf, bodyStanding, elementsOf, BodyPoint};
+ghost use Rattle.domain.specs.Element.{isClear, faultOf, bodyStanding, elementsOf, PointOf};
 
 fn is_clear(how: Standing) -> bool
     ensures { λ r. ⌜ r ≡ isClear how ⌝ }
@@ -45,7 +45,7 @@ fn fault(how: Standing, n: usize) -> Ruling
 
 // How the body of variable v stands at the i-th point of its box. Outside its declared domain it is not asked.
 fn body_stands(s: &[u8], tab: &[usize; 102], inside: &[u8; 4096], v: usize, i: usize) -> Standing
-    requires { ⌜ Formed (now s) (now tab) × Inside (sheetOf (now s)) (now inside) × BodyPoint (now s) v i ⌝ }
+    requires { ⌜ Formed (now s) (now tab) × Inside (sheetOf (now s)) (now inside) × PointOf (now s) v i × (isInput (variable (sheetOf (now s)) v) ≡ false) ⌝ }
     ensures { λ r. ⌜ r ≡ bodyStanding (sheetOf (now (s .entry))) v (Box.pointAt (variable (sheetOf (now (s .entry))) v .head .box) i) ⌝ }
 {
     let n = first_element(tab, v) + i;

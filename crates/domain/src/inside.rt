@@ -24,6 +24,7 @@ ghost use Rattle.laws.specs.Sheets.{headsOf, varsOf, sheetOf};
 ghost use Rattle.affine.specs.Value.{pointOf};
 ghost use Rattle.tree.specs.Prepared.{Prepared};
 ghost use Rattle.tree.specs.Formed.{DeclaredRead, Formed};
+ghost use Rattle.domain.specs.Element.{PointOf};
 ghost use Rattle.domain.specs.Inside.{Inside, bit};
 ghost use Rattle.domain.specs.Filling.{declaredMeets, DeclaredTestable, FilledBelow};
 
@@ -69,7 +70,7 @@ fn all_declared_meet(s: &[u8], tab: &[usize; 102], v: usize, z: [Int; 4]) -> boo
 
 // Whether element i of variable v is inside its declared domain. Where the sheet declares nothing, its point is not worked out.
 fn element_inside(s: &[u8], tab: &[usize; 102], v: usize, i: usize) -> bool
-    requires { ⌜ Formed (now s) (now tab) × (v < varsOf (now s)) × (i < Box.size (variable (sheetOf (now s)) v .head .box)) ⌝ }
+    requires { ⌜ Formed (now s) (now tab) × PointOf (now s) v i ⌝ }
     ensures { λ r. ⌜ r ≡ meetsAll (variable (sheetOf (now (s .entry))) v .declared) (Box.pointAt (variable (sheetOf (now (s .entry))) v .head .box) i) ⌝ }
 {
     if natural(s, second_place(tab)) < 1 {

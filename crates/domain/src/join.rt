@@ -52,8 +52,7 @@ pub fn alone(branches: bool) -> Standing
     }
 }
 
-// Whether the children of a node of this code, 3 or more, stand together as the trees do among which it is: operands among operands,
-// branches among branches.
+// Whether a node of this code, 3 or more, gives way to its children: a case among branches, an operator or an if among operands.
 pub fn opens(branches: bool, code: usize) -> bool
     ensures { λ r. ⌜ r ≡ Meaning.opens branches code ⌝ }
 {

@@ -34,8 +34,8 @@ pub struct Stood {
     pub next: usize,
 }
 
-// What the first of several trees adds to how they stand together: how it stands itself, the place after what was looked at, and how many
-// trees then stand there in its place.
+// What the first of several trees adds to how they stand together: how it stands itself, or, where its children take its place, what none of
+// them come to; the place after what was looked at; and how many trees stand there in its place.
 pub struct Step {
     pub how: Standing,
     pub next: usize,

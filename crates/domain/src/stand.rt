@@ -1,4 +1,5 @@
-// How a tree stands at a point: what its node says, and then its children one after another. Assumes nothing.
+// How a tree stands at a point: what its node says, and then its children one after another; operators among operands and cases among branches
+// in the same loop. Assumes nothing.
 use super::Standing;
 use super::Step;
 use super::Stood;
@@ -46,7 +47,7 @@ fn own_stands(s: &[u8], tab: &[usize; 102], inside: &[u8; 4096], at: usize, z: [
 }
 
 // How the tree at `at`, of at most `left` nodes, stands at z. A restriction whose constraints are met there is as an operator with one
-// operand, and another is passed over.
+// operand; one whose constraints are not met is passed over.
 pub fn stand(
     s: &[u8],
     tab: &[usize; 102],
@@ -78,7 +79,7 @@ pub fn stand(
     stand_all(s, tab, inside, first, left - 1, z, count, branches, own)
 }
 
-// The same of the child of a dependence: a variable or a constant is told here, which spares a call where most are. It is called from one
+// The same of the child of a dependence: a variable or a constant, as most are, is told here, which spares a call. It is called from one
 // place only: the compiler then makes it part of its caller.
 fn child(
     s: &[u8],

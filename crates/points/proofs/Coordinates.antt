@@ -1,7 +1,7 @@
 -- The point of a number, coordinate by coordinate from the last to the first: what the loop of `point` keeps. Assumes nothing.
 use mathlib.Core.Path.{_≡_, refl, sym, ap, _∙_}
 use Prim.Native.Nat.{ℕ, zero, suc, _+_, _*_, _-_, _/_, _%_, _≤_, _<_}
-use native.Mathlib.Nat.{add-mul, mul-assoc, add-assoc, mul-le-mul-right, mod-lt, div-le-self, div-add-mod'}
+use native.Mathlib.Nat.{mul-le-mul-right, mod-lt, div-le-self, div-add-mod'}
 use native.Mathlib.Omega.{arith}
 use mathlib.Core.List.{List, [], _∷_}
 use lib.Arith.{digits-lt, digits-div, digits-mod}
@@ -10,23 +10,18 @@ use Rattle.alpha.specs.Field.{field}
 use Rattle.alpha.specs.Sheet.{Range}
 use Rattle.alpha.specs.Box.{side, size, pointAt}
 use Rattle.alpha.specs.declared.Int.{Int}
-use Rattle.affine.specs.Value.{at, pointOf, Padded}
-use Rattle.affine.proofs.Several.{below-four}
-use Rattle.sheet.specs.Record.{boxAt, Ranges}
+use Rattle.affine.specs.Value.{pointOf, Padded}
+use Rattle.sheet.specs.Record.{boxAt}
 use Rattle.points.specs.Number.{rangeAt}
+use Rattle.points.proofs.Steps.{horner, moved-down}
 
--- ---- one coordinate more, before those of the point numbered m in a box of others
+-- ---- one coordinate more: the point numbered m of the others, d of their boxes further on
 
-module _ (r : Range) (others : List Range) (m d : ℕ) (low : m < size others) where
-  -- the point with d boxes of the others before it
-  pub pointAt-digits : pointAt (r ∷ others) (d * size others + m) ≡ (r .lo +ℤ pos d) ∷ pointAt others m
-  pointAt-digits = rw (digits-div d low, digits-mod d low) refl
+pointAt-digits : (r : Range) (others : List Range) (m d : ℕ) → m < size others →
+    pointAt (r ∷ others) (d * size others + m) ≡ (r .lo +ℤ pos d) ∷ pointAt others m
+pointAt-digits r others m d low = rw (digits-div d low, digits-mod d low) refl
 
 -- ---- four numbers, of which the first come down by one place
-
-moved-down : (k : ℕ) (a b c d e : Int) → k < 4 → pointOf (suc k) (a ∷ b ∷ c ∷ d ∷ []) ≡ a .v ∷ pointOf k (b ∷ c ∷ d ∷ e ∷ [])
-moved-down k a b c d e h =
-    below-four (λ n. pointOf (suc n) (a ∷ b ∷ c ∷ d ∷ []) ≡ a .v ∷ pointOf n (b ∷ c ∷ d ∷ e ∷ [])) refl refl refl refl k h
 
 padded-down : (k : ℕ) (a b c d e : Int) → Padded k (b ∷ c ∷ d ∷ e ∷ []) → Padded (k + 1) (a ∷ b ∷ c ∷ d ∷ [])
 padded-down k a b c d e h zero l = absurd (omega arith)
@@ -35,25 +30,12 @@ padded-down k a b c d e h (suc (suc zero)) l = h 1 (omega arith)
 padded-down k a b c d e h (suc (suc (suc zero))) l = h 2 (omega arith)
 padded-down k a b c d e h (suc (suc (suc (suc j)))) l = refl
 
-pub zeros-padded : (x : Int) → x .v ≡ pos 0 → Padded 0 (x ∷ x ∷ x ∷ x ∷ [])
+zeros-padded : (x : Int) → x .v ≡ pos 0 → Padded 0 (x ∷ x ∷ x ∷ x ∷ [])
 zeros-padded x e zero h = e
 zeros-padded x e (suc zero) h = e
 zeros-padded x e (suc (suc zero)) h = e
 zeros-padded x e (suc (suc (suc zero))) h = e
 zeros-padded x e (suc (suc (suc (suc j)))) h = refl
-
--- ---- ranges of a record
-
-pub ranges-last : (bs : List ℕ) (p n k : ℕ) → k < n → Ranges bs p n → Ranges bs (p + 16 * k) 1
-ranges-last bs p n k l h =
-    record {
-      there = omega (arith, h .there);
-      low = λ i j. rw (place i j) (h .low k l);
-      high = λ i j. rw (place i j) (h .high k l);
-    }
-  where
-    place : (i : ℕ) → i < 1 → p + 16 * k + 16 * i ≡ p + 16 * k
-    place i j = omega arith
 
 -- ---- what the loop keeps: of the box's ranges the last k from p on are done, z is their point numbered m, and i is j such boxes and m
 pub record Making (bs : List ℕ) (start i n : ℕ) (left p j : ℕ) (z : List Int) : Type 0 where
@@ -85,7 +67,7 @@ making-none bs start i n x e four = record {
 }
 
 module _ {bs : List ℕ} {start i n left p j : ℕ} {x0 x1 x2 x3 : Int} where
-  -- one range more, whose number is what j leaves by its width
+  -- one range more, whose number is what the division of j by its width leaves
   pub making-more : 0 < left → (x : Int) → Making bs start i n left p j (x0 ∷ x1 ∷ x2 ∷ x3 ∷ []) →
       x .v ≡ field bs (p - 16) +ℤ pos (j % side (rangeAt bs (p - 16))) →
       Making bs start i n (left - 1) (p - 16) (j / side (rangeAt bs (p - 16))) (x ∷ x0 ∷ x1 ∷ x2 ∷ [])
@@ -114,10 +96,7 @@ module _ {bs : List ℕ} {start i n left p j : ℕ} {x0 x1 x2 x3 : Int} where
     where
       -- j boxes are j / w rows of w boxes and j % w boxes
       regrouped : (s w m : ℕ) → j * s + m ≡ (j / w) * (w * s) + ((j % w) * s + m)
-      regrouped s w m =
-          ap (λ q. q * s + m) (sym (div-add-mod' j w))
-          ∙ ap (λ q. q + m) (add-mul (j / w * w) (j % w) s ∙ ap (λ q. q + j % w * s) (mul-assoc (j / w) w s))
-          ∙ add-assoc (j / w * (w * s)) (j % w * s) m
+      regrouped s w m = ap (λ q. q * s + m) (sym (div-add-mod' j w)) ∙ sym (horner (j / w) w (j % w) s m)
 
   -- after: all are done, and the number is less than one box
   pub making-end : left ≡ 0 → i < size (boxAt bs start n) → Making bs start i n left p j (x0 ∷ x1 ∷ x2 ∷ x3 ∷ []) →

@@ -22,7 +22,7 @@ use Rattle.points.specs.declared.Found.{Found}
 use Rattle.points.specs.declared.Found.the-variants.{At, Off}
 
 -- e rows of w boxes of n points, d boxes more and i points more, counted in boxes first
-horner : (e w d n i : ℕ) → e * (w * n) + (d * n + i) ≡ (e * w + d) * n + i
+pub horner : (e w d n i : ℕ) → e * (w * n) + (d * n + i) ≡ (e * w + d) * n + i
 horner e w d n i = rw (← mul-assoc e w n, ← add-assoc (e * w * n) (d * n) i, ← add-mul (e * w) d n) refl
 
 module _ (e : ℕ) (r : Range) (rs : List Range) (x : ℤ) (z : Point) where
@@ -49,15 +49,21 @@ numberFrom-end e = ap At (omega arith)
 
 -- ---- ranges one after another
 
-pub ranges-head : (bs : List ℕ) (p n : ℕ) → Ranges bs p (suc n) → Ranges bs p 1
-ranges-head bs p n h =
+pub ranges-at : (bs : List ℕ) (p n k : ℕ) → k < n → Ranges bs p n → Ranges bs (p + 16 * k) 1
+ranges-at bs p n k l h =
     record {
       there = omega (arith, h .there);
-      low = λ i l. h .low i (omega arith);
-      high = λ i l. h .high i (omega arith);
+      low = λ i j. rw (place i j) (h .low k l);
+      high = λ i j. rw (place i j) (h .high k l);
     }
+  where
+    place : (i : ℕ) → i < 1 → p + 16 * k + 16 * i ≡ p + 16 * k
+    place i j = omega arith
 
-pub ranges-tail : (bs : List ℕ) (p n : ℕ) → Ranges bs p (suc n) → Ranges bs (p + 16) n
+ranges-head : (bs : List ℕ) (p n : ℕ) → Ranges bs p (suc n) → Ranges bs p 1
+ranges-head bs p n h = let here : p + 16 * 0 ≡ p = omega arith in rw here at (ranges-at bs p (suc n) 0 (omega arith) h)
+
+ranges-tail : (bs : List ℕ) (p n : ℕ) → Ranges bs p (suc n) → Ranges bs (p + 16) n
 ranges-tail bs p n h =
     record {
       there = omega (arith, h .there);
@@ -80,10 +86,10 @@ pub first-four : (n : ℕ) (z : List Int) → n ≤ 4 → pointOf n (firstFour z
 first-four n z h =
     several-same n (at (firstFour z)) (at z) (λ i l. below-four (λ j. at (firstFour z) j ≡ at z j) refl refl refl refl i (omega arith))
 
--- a point of the first of four numbers: one coordinate, and then those that moved up by one
-moved-up : (n : ℕ) (a b c d : Int) → n < 4 → a .v ∷ pointOf n (b ∷ c ∷ d ∷ d ∷ []) ≡ pointOf (suc n) (a ∷ b ∷ c ∷ d ∷ [])
-moved-up n a b c d h =
-    below-four (λ m. a .v ∷ pointOf m (b ∷ c ∷ d ∷ d ∷ []) ≡ pointOf (suc m) (a ∷ b ∷ c ∷ d ∷ [])) refl refl refl refl n h
+-- a point of the first of four numbers: one coordinate, and then those after it, whatever comes last
+pub moved-down : (k : ℕ) (a b c d e : Int) → k < 4 → pointOf (suc k) (a ∷ b ∷ c ∷ d ∷ []) ≡ a .v ∷ pointOf k (b ∷ c ∷ d ∷ e ∷ [])
+moved-down k a b c d e h =
+    below-four (λ n. pointOf (suc n) (a ∷ b ∷ c ∷ d ∷ []) ≡ a .v ∷ pointOf n (b ∷ c ∷ d ∷ e ∷ [])) refl refl refl refl k h
 
 -- ---- a turn of the loop: one coordinate more
 
@@ -151,7 +157,7 @@ module _ {bs : List ℕ} {asked : Found} {x0 x1 x2 x3 : Int} {p e : ℕ} where
       record {
         number =
             sym (step-in bs p e n (x0 .v) (pointOf n (x1 ∷ x2 ∷ x3 ∷ x3 ∷ [])) i d)
-            ∙ ap (numberFrom e (boxAt bs p (suc n))) (moved-up n x0 x1 x2 x3 (omega (arith, h .few)))
+            ∙ ap (numberFrom e (boxAt bs p (suc n))) (sym (moved-down n x0 x1 x2 x3 x3 (omega (arith, h .few))))
             ∙ h .number;
         low = omega (arith, mul-le-mul-right rest i-low, mul-assoc (e + 1) w rest, h .low);
         ranges = ranges-tail bs p n (h .ranges);

@@ -1,4 +1,5 @@
--- The number of a point in a box, or that it is not in the box; and what the code's answer says of that. Assumes nothing.
+-- The number of a point in a box, or that it is not in the box, and the point of a number; and what the code's answers say of them.
+-- Assumes nothing.
 use Prim.Native.Nat.{ℕ, _+_, _*_}
 use mathlib.Core.Path.{_≡_}
 use mathlib.Core.List.{List}

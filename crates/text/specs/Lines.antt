@@ -1,24 +1,18 @@
 -- The lines of a report, with each outcome as the two tables of the run give it: by its code and its value. Assumes nothing.
-use Prim.Native.Nat.{ℕ, suc, _+_, _<_}
+use Prim.Native.Nat.{ℕ, suc, _+_}
 use mathlib.Core.List.{List, [], _∷_, _++_}
 use lib.ListN.{getD}
 use lib.IntN.{ℤ, pos}
 use Rattle.alpha.specs.Sheet.{Sheet}
-use Rattle.alpha.specs.Box.{size, pointAt}
+use Rattle.alpha.specs.Box.{pointAt}
 use Rattle.alpha.specs.Holds.{variable}
 use Rattle.alpha.specs.Check.{Element, elements, total}
 use Rattle.alpha.specs.Ask.{before}
 use Rattle.alpha.specs.Outcome.{Outcome}
 use Rattle.alpha.specs.Program.{acceptedWord, natText, trimmed, spaced, outcomeText, newline}
 use Rattle.laws.specs.Coded.{decoded}
-use Rattle.laws.specs.Sheets.{varsOf, sheetOf}
 
 -- ---- one element
-
--- i is the number of a point in the box of variable v
-pub record PointOf (bs : List ℕ) (v i : ℕ) : Type 0 where
-  pub known : v < varsOf bs
-  pub low : i < size (variable (sheetOf bs) v .head .box)
 
 -- the element of variable v at the i-th point of its box
 abbrev pub elementOf : Sheet → ℕ → ℕ → Element

@@ -17,7 +17,8 @@ ghost use Rattle.laws.specs.Sheets.{sheetOf};
 ghost use Rattle.affine.specs.Value.{pointOf};
 ghost use Rattle.tree.specs.Formed.{Formed};
 ghost use Rattle.text.specs.Wrote.{Wrote};
-ghost use Rattle.text.specs.Lines.{PointOf, elementOf, elementText, lineIn};
+ghost use Rattle.domain.specs.Element.{PointOf};
+ghost use Rattle.text.specs.Lines.{elementOf, elementText, lineIn};
 
 // The name at `place` without the zero bytes at its end.
 pub fn name(s: &[u8], place: usize, out: &mut [u8], at: usize) -> usize

@@ -7,7 +7,8 @@ use native.Mathlib.Omega.{arith}
 use native.Mathlib.Nat.{mod-le}
 use borrow.Author.Needs.{needs}
 use Rattle.sheet.specs.Record.{dimensionAt, Ranges}
-use Rattle.points.proofs.Coordinates.{Making, making-none, making-more, making-end, ranges-last}
+use Rattle.points.proofs.Coordinates.{Making, making-none, making-more, making-end}
+use Rattle.points.proofs.Steps.{ranges-at}
 use Rattle.points.proofs.point.Statement.{statement}
 use Rattle.points.proofs.point.Tie as tie
 
@@ -52,7 +53,7 @@ range c =
     let inv = c .before .loop .inv in
     let some = c .loop-test .taken in
     let here : s .args .place + 32 + 16 * (c .before .loop .left - 1) ≡ c .before .loop .p - 16 = omega (arith, inv .place, some) in
-    rw here at (ranges-last _ (s .args .place + 32) _ (c .before .loop .left - 1) (omega (arith, inv .count, some)) (s .pre .0 .ranges))
+    rw here at (ranges-at _ (s .args .place + 32) _ (c .before .loop .left - 1) (omega (arith, inv .count, some)) (s .pre .0 .ranges))
 
 width-requires : tie.Need-width-requires Inv-loop μ-loop
 width-requires c κs = range c

@@ -55,20 +55,20 @@ sub-size c =
 loop-holds : tie.Need-loop-holds Inv-loop μ-loop
 loop-holds c = body-start _ _
 
-body-stands-requires : tie.Need-body-stands-requires Inv-loop μ-loop
-body-stands-requires c κs =
-    let s = c .before .before .before .before .before in
-    let p = s .pre in
-    (p .0, p .1, record { known = p .2; no-input = p .3; low = omega (arith, size-is (c .before .before), c .loop-test .taken) })
-
-is-clear-requires : tie.Need-is-clear-requires Inv-loop μ-loop
-is-clear-requires c κs = search needs
-
 -- the element is one of the variable's
 low : (c : tie.In-loop Inv-loop μ-loop) →
     c .before .loop .i < Box.size
     (variable (sheetOf (c .before .before .before .before .before .args .s .now)) (c .before .before .before .before .before .args .v) .head .box)
 low c = omega (arith, size-is (c .before .before), c .loop-test .taken)
+
+body-stands-requires : tie.Need-body-stands-requires Inv-loop μ-loop
+body-stands-requires c κs =
+    let s = c .before .before .before .before .before in
+    let p = s .pre in
+    (p .0, p .1, record { known = p .2; low = low c }, p .3)
+
+is-clear-requires : tie.Need-is-clear-requires Inv-loop μ-loop
+is-clear-requires c κs = search needs
 
 add-fault : tie.Need-add-fault Inv-loop μ-loop
 add-fault c =

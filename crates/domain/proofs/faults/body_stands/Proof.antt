@@ -42,7 +42,7 @@ stand-requires c κs =
     let at = rw (c .before .before .record-place .ensures) at (c .before .point .ensures) in (
       s .pre .0 .placed,
       s .pre .1,
-      body-walk _ _ _ _ (laid s) (s .pre .2 .low) (s .pre .0) (s .pre .2 .known) (s .pre .2 .no-input) _ at _ (c .body-place .ensures),
+      body-walk _ _ _ _ (laid s) (s .pre .2 .low) (s .pre .0) (s .pre .2 .known) (s .pre .3) _ at _ (c .body-place .ensures),
       omega arith,
     )
 
@@ -54,8 +54,9 @@ returns c =
     let s = after-first-element .before .before in
     let at = rw (after-record-place .record-place .ensures) at (c .before .before .point .ensures) in
     let one = rw (after-first-element .first-element .ensures) at (then1 .if1 .taken) in
-    body-way _ _ _ _ (laid s) (s .pre .2 .low) (s .pre .0) (s .pre .2 .known) (s .pre .2 .no-input) _ at _ (c .before .body-place .ensures) _ (c .stand .ensures)
-    ∙ byte-asks _ _ _ _ (laid s) (s .pre .2 .low) _ (s .pre .1) one
+    let low = s .pre .2 .low in
+    body-way _ _ _ _ (laid s) low (s .pre .0) (s .pre .2 .known) (s .pre .3) _ at _ (c .before .body-place .ensures) _ (c .stand .ensures)
+    ∙ byte-asks _ _ _ _ (laid s) low _ (s .pre .1) one
 
 returns-2 : tie.Need-returns-2
 returns-2 c =

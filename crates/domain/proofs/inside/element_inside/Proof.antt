@@ -16,7 +16,7 @@ use Rattle.domain.proofs.inside.element_inside.Tie as tie
 
 -- the variable
 laid : (c : tie.Start) → VariableLaid (c .args .s .now) (c .args .tab .now) (c .args .v)
-laid c = laid-variable _ _ (c .pre .0 .placed) _ (c .pre .1)
+laid c = laid-variable _ _ (c .pre .0 .placed) _ (c .pre .1 .known)
 
 second-place-requires : tie.Need-second-place-requires
 second-place-requires c κs = search needs
@@ -34,7 +34,7 @@ returns c =
     let after-second = after-natural .before in
     let s = after-second .before .before in
     let count = after-natural .natural .ensures ∙ ap (λ p. natAbs (field (s .args .s .now) p)) (second-is after-second) in
-    none-declared _ _ (s .pre .0) _ (s .pre .1) (omega (arith, count, c .if1 .taken)) _
+    none-declared _ _ (s .pre .0) _ (s .pre .1 .known) (omega (arith, count, c .if1 .taken)) _
 
 record-place-requires : tie.Need-record-place-requires
 record-place-requires c κs = laid (c .before .before .before .before) .low
@@ -43,20 +43,20 @@ point-requires : tie.Need-point-requires
 point-requires c κs =
     let s = c .before .before .before .before .before in
     let l = laid s in
-    rw (c .record-place .ensures) (l .recorded, rw (l .box-is) (omega (arith, l .few)), rw (l .box-is) (s .pre .2))
+    rw (c .record-place .ensures) (l .recorded, rw (l .box-is) (omega (arith, l .few)), rw (l .box-is) (s .pre .1 .low))
 
 all-declared-meet-requires : tie.Need-all-declared-meet-requires
 all-declared-meet-requires c κs =
     let s = c .before .before .before .before .before .before in
     let at = rw (c .before .record-place .ensures) at (c .point .ensures) in
-    (s .pre .0, s .pre .1, point-inside _ _ _ _ (laid s) (s .pre .2) _ at)
+    (s .pre .0, s .pre .1 .known, point-inside _ _ _ _ (laid s) (s .pre .1 .low) _ at)
 
 returns-2 : tie.Need-returns-2
 returns-2 c =
     let after-point = c .before in
     let s = after-point .before .before .before .before .before .before in
     let at = rw (after-point .before .record-place .ensures) at (after-point .point .ensures) in
-    let is = point-at _ _ _ _ (laid s) (s .pre .2) _ at in
+    let is = point-at _ _ _ _ (laid s) (s .pre .1 .low) _ at in
     c .all-declared-meet .ensures ∙ ap (meetsAll (variable (sheetOf (s .args .s .now)) (s .args .v) .declared)) is
 
 pub element-inside-spec : {M : Type 1} → statement M

@@ -76,7 +76,7 @@ element-inside-requires : tie.Need-element-inside-requires Inv-loop μ-loop
 element-inside-requires c κs =
     let after-first-element2 = c .before .before in
     let s = after-first-element2 .before .before .before in
-    (s .pre .0, s .pre .1, omega (arith, size-is after-first-element2, c .loop-test .taken))
+    (s .pre .0, record { known = s .pre .1; low = low c })
 
 keep-requires : tie.Need-keep-requires Inv-loop μ-loop
 keep-requires c κs =

@@ -15,10 +15,10 @@ restriction-meets-requires c κs =
 returns : tie.Need-returns
 returns c =
     let seven = sym (c .before .before .natural .ensures) ∙ c .before .if1 .taken in
-    record { restricted = λ _. c .restriction-meets .ensures; mapped = λ other. absurd (other seven) }
+    record { restricted = λ _. c .restriction-meets .ensures; unrestricted = λ other. absurd (other seven) }
 
 returns-2 : tie.Need-returns-2
-returns-2 c = record { restricted = λ seven. absurd (c .if1 .left (c .before .natural .ensures ∙ seven)); mapped = λ _. refl }
+returns-2 c = record { restricted = λ seven. absurd (c .if1 .left (c .before .natural .ensures ∙ seven)); unrestricted = λ _. refl }
 
 pub passes-spec : {M : Type 1} → statement M
 passes-spec = tie.close (tie.spec natural-requires restriction-meets-requires returns returns-2)

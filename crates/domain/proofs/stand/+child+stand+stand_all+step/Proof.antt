@@ -304,9 +304,9 @@ lets-through t c =
     ⊎-elim
     (λ met. record {
       restricted = λ e. sym (not-false _ (met .2 .left)) ∙ met .1 .ensures;
-      mapped = λ other. absurd (other (sym code ∙ met .0 .taken));
+      unrestricted = λ other. absurd (other (sym code ∙ met .0 .taken));
     })
-    (λ other. record { restricted = λ e. absurd (other .left (code ∙ e)); mapped = λ n. refl })
+    (λ other. record { restricted = λ e. absurd (other .left (code ∙ e)); unrestricted = λ n. refl })
     (c .if2 .came)
 
 stand-children-requires : (t : ℕ) → stand-lts.Need-children-requires (stand-uses t) (stand-at t) stand.Post

@@ -26,7 +26,8 @@ point-requires c κs =
     let owns = s .pre .1 in
     let f = s .pre .0 in
     let l = laid-variable _ _ (f .placed) _ (owns .known) in
-    rw (c .record-place .ensures, c .before .first-element .ensures) (l .recorded, rw (l .box-is) (omega (arith, l .few)), rw (l .box-is) (place-low _ _ f _ _ owns))
+    let low = place-low _ _ f _ _ owns in
+    rw (c .record-place .ensures, c .before .first-element .ensures) (l .recorded, rw (l .box-is) (omega (arith, l .few)), rw (l .box-is) low)
 
 returns : tie.Need-returns
 returns c =

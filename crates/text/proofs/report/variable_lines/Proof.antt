@@ -76,7 +76,7 @@ line-requires c κs =
     let l = at-loop .loop in
     let many = size-is after-first-element2 in (
       s .pre .0,
-      record { known = s .pre .1; low = omega (arith, many, in-loop .loop-test .taken) },
+      record { known = s .pre .1; low = low-in in-loop },
       omega (arith, l .inv .0 .sized, l .inv .1, many, in-loop .loop-test .taken, s .pre .2),
     )
 
