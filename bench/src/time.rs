@@ -2,9 +2,12 @@
 
 use std::time::Instant;
 
-/// How long a batch takes at least, in seconds.
-const BATCH: f64 = 0.004;
+/// How long a batch takes at least, in seconds: short, so that both sides meet
+/// the same moments of a machine that others share.
+const BATCH: f64 = 0.001;
+/// How many turns are taken at least, and for how many seconds.
 const TURNS: usize = 7;
+const SPAN: f64 = 0.4;
 
 /// The seconds of the library's call and of the second program's.
 #[derive(Clone, Copy)]
@@ -37,9 +40,12 @@ fn times(work: &mut dyn FnMut()) -> usize {
 pub fn both(ours: &mut dyn FnMut(), theirs: &mut dyn FnMut()) -> Both {
     let (m, n) = (times(ours), times(theirs));
     let mut least = Both { ours: f64::MAX, theirs: f64::MAX };
-    for _ in 0..TURNS {
+    let start = Instant::now();
+    let mut turns = 0;
+    while turns < TURNS || start.elapsed().as_secs_f64() < SPAN {
         least.ours = least.ours.min(batch(m, ours));
         least.theirs = least.theirs.min(batch(n, theirs));
+        turns += 1;
     }
     least
 }
