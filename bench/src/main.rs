@@ -12,8 +12,15 @@ use sheets::{small, tower, typical, Asked};
 use std::fmt::Write as _;
 use time::{both, Both};
 
-/// Rows of hostile sheets shorter than this many seconds are only counted.
+/// Rows of hostile sheets shorter than this many seconds have a table in
+/// microseconds.
 const SHORT: f64 = 0.0002;
+
+/// A unit of time: its name, and how many are in a second.
+type Unit = (&'static str, f64);
+
+const MILLI: Unit = ("ms", 1e3);
+const MICRO: Unit = ("µs", 1e6);
 
 const CALLS: [&str; 3] = ["check", "run", "normalise"];
 
@@ -47,43 +54,48 @@ impl Report {
         let _ = writeln!(self.text, "{line}");
     }
 
-    fn head(&mut self, first: &str) {
+    fn head(&mut self, first: &str, (unit, _): Unit) {
         self.line("");
-        self.line(&format!("| {first} | ours, ms | second, ms | ratio |"));
+        self.line(&format!("| {first} | ours, {unit} | second, {unit} | ratio |"));
         self.line("|---|---:|---:|---:|");
     }
 
-    fn row(&mut self, name: &str, t: Both) {
-        let (ours, theirs) = (t.ours * 1000.0, t.theirs * 1000.0);
+    fn row(&mut self, name: &str, t: Both, (_, many): Unit) {
+        let (ours, theirs) = (t.ours * many, t.theirs * many);
         self.line(&format!("| {name} | {ours:.4} | {theirs:.4} | {:.2} |", t.ratio()));
     }
 
     fn calls(&mut self, named: &[Asked]) {
-        self.head("call");
+        self.head("call", MILLI);
         for asked in named {
             for call in CALLS {
-                self.row(&format!("{call}: {}", asked.name), measure(call, asked));
+                self.row(&format!("{call}: {}", asked.name), measure(call, asked), MILLI);
             }
         }
     }
 
     fn hostile(&mut self) {
-        self.head("call: hostile sheet");
+        self.head("call: hostile sheet", MILLI);
         let mut short = Vec::new();
         for c in second::hostile() {
             let asked = Asked { name: c.name, sheet: c.sheet, inputs: c.inputs };
             for call in CALLS {
-                let t = measure(call, &asked);
+                let (name, t) = (format!("{call}: {}", asked.name), measure(call, &asked));
                 if t.longer() < SHORT {
-                    short.push(t.ratio());
+                    short.push((name, t));
                 } else {
-                    self.row(&format!("{call}: {}", asked.name), t);
+                    self.row(&name, t, MILLI);
                 }
             }
         }
-        short.sort_by(f64::total_cmp);
-        let (count, faster) = (short.len(), short.iter().filter(|r| **r <= 1.0).count());
-        let (middle, most) = (short[count / 2], short[count - 1]);
+        self.head("call: hostile sheet, shorter", MICRO);
+        for (name, t) in &short {
+            self.row(name, *t, MICRO);
+        }
+        let mut ratios: Vec<f64> = short.iter().map(|(_, t)| t.ratio()).collect();
+        ratios.sort_by(f64::total_cmp);
+        let (count, faster) = (ratios.len(), ratios.iter().filter(|r| **r <= 1.0).count());
+        let (middle, most) = (ratios[count / 2], ratios[count - 1]);
         self.line("");
         self.line(&format!(
             "{count} rows of hostile sheets below {} ms on both sides: ratio {middle:.2} in the \
@@ -94,12 +106,12 @@ impl Report {
 
     /// The run over a family, by the number that grows.
     fn growth(&mut self, by: &'static str, family: Vec<(usize, Asked)>) -> Curve {
-        self.head(&format!("run, by {by}"));
+        self.head(&format!("run, by {by}"), MILLI);
         let mut points = Vec::new();
         for (size, asked) in family {
             assert!(second::check(&asked.sheet).is_ok(), "{}", asked.name);
             let t = measure("run", &asked);
-            self.row(&asked.name, t);
+            self.row(&asked.name, t, MILLI);
             points.push((size as f64, t));
         }
         Curve { by, points }
