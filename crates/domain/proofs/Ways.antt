@@ -35,7 +35,7 @@ use Rattle.affine.proofs.Meaning.{height-length, width-cols}
 use Rattle.affine.proofs.Several.{lt-or-le}
 use Rattle.tree.specs.Standing.{Standing as Stands}
 use Rattle.tree.specs.Ends.{EndsAt}
-use Rattle.tree.proofs.Standings.{children-at, children-counted, standing-noded, standing-children, first-standing}
+use Rattle.tree.proofs.Standings.{children-at, children-counted, standing-noded, standing-there, standing-children, first-standing}
 use Rattle.domain.specs.declared.Standing.{Standing}
 use Rattle.domain.specs.declared.Standing.the-variants.{Not, Holds}
 use Rattle.domain.specs.declared.Stood.{Stood}
@@ -44,7 +44,7 @@ use Rattle.domain.specs.Walk.{Walk}
 use Rattle.domain.specs.Constraints.{restrictionMet}
 use Rattle.domain.proofs.Standings.{joined-alone, alone-joined, operands-stand, branches-stand, restriction-stands}
 use Rattle.domain.proofs.Standings.{restriction-not, dependence-stands}
-use Rattle.domain.proofs.Walks.{tree-code, code-field, children-fit, walk-children, walk-first}
+use Rattle.domain.proofs.Walks.{tree-code, code-field, children-fit, walk-standing, walk-children, walk-first}
 use Rattle.domain.proofs.Restrictions.{restriction-says}
 
 -- ---- leaves
@@ -133,6 +133,12 @@ tip-long bs p h = short (natAbs (field bs p)) (natAbs (field bs (p + 8))) (natAb
     short (suc zero) a b l = refl
     short (suc (suc zero)) a b l = refl
     short (suc (suc (suc c))) a b l = absurd (omega arith)
+
+-- and they are there
+pub tip-there : (bs : List ℕ) (p left : ℕ) (z : List Int) → Walk bs p left z → natAbs (field bs p) < 3 → p + 16 ≤ length bs
+tip-there bs p left z w low =
+    let there = standing-there (varsOf bs) bs p left (walk-standing bs p left z w) in
+    omega (arith, there, tip-long bs p low)
 
 module _ (bs : List ℕ) (p k : ℕ) (z : List Int) (long : k ≡ nodeLen bs p) where
   ends : (e : Expr) (q : ℕ) → At e (varsOf bs) bs p q → natAbs (field bs p) ≤ 2 → p + k ≡ q

@@ -85,8 +85,9 @@ StandTogether bs p count z branches sofar r =
     (es : Exprs) (q n : ℕ) → AllAt es (varsOf bs) bs p q → branchCount es ≡ count → allFit es (headsOf bs) n ≡ Bool.true →
     (r .next ≡ q) × (r .how ≡ joined branches sofar (together branches es (sheetOf bs) (pointOf n z)))
 
--- r is what e, a tree of dimension n that ends at q, adds at z to how branches, or operands, stand together: either how it stands itself, and
--- no trees; or what no branches, or no operands, come to, and its children, which stand from r .next on
+-- r is what e, a tree of dimension n that ends at q, adds at z to how branches, or operands, stand together: r .how, joined with the r .more
+-- trees that stand from r .next to q, is how e stands; and they may be walked where e may. For a tree that is walked there are none of them;
+-- for a node that gives way they are its children
 pub record Adds (bs : List ℕ) (q n : ℕ) (z : List Int) (branches : Bool) (e : Expr) (r : Step) : Type 0 where
   pub below : Exprs
   pub at : AllAt below (varsOf bs) bs (r .next) q

@@ -51,7 +51,7 @@ use Rattle.domain.specs.Walk.{WalkAll}
 use Rattle.domain.specs.Standing.{StandsAt, StandTogether, Passes}
 use Rattle.domain.proofs.Walks.{tree-code, walk-standing, walk-children, map-stands, image-fits, walk-image, walk-first}
 use Rattle.domain.proofs.Restrictions.{restriction-testable, restriction-walk}
-use Rattle.domain.proofs.Ways.{tip-long, children-way, image-way, restriction-off-way, restriction-ends, none-way}
+use Rattle.domain.proofs.Ways.{tip-there, children-way, image-way, restriction-off-way, restriction-ends, none-way}
 use Rattle.domain.proofs.Stepping.{walked-steps, opened-steps, walk-step, walks-few, step-way}
 
 abbrev μ-child : Measures 3 child-kinds.ps ℕ
@@ -166,8 +166,7 @@ child-add-end : (t : ℕ) → child-lts.Need-add-end (child-uses t) (child-at t)
 child-add-end t c =
     let s = c .before .before .before .before in
     let code = c .before .before .natural .ensures in
-    let long = tip-long (s .args .s .now) (s .args .at) (omega (arith, c .before .if1 .taken)) in
-    omega (arith, standing-there _ _ _ _ (walk-standing _ _ _ _ (s .pre .1 .2)))
+    omega (arith, tip-there _ _ _ _ (s .pre .1 .2) (omega (arith, c .before .if1 .taken)))
 
 child-returns : (t : ℕ) → child-lts.Need-returns (child-uses t) (child-at t) child.Post
 child-returns t c = c .tip-stands .ensures
@@ -427,8 +426,7 @@ step-add-next : (t : ℕ) → step-lts.Need-add-next (step-uses t) (step-at t) s
 step-add-next t c =
     let s = c .before .before .before .before in
     let code = c .before .before .natural .ensures in
-    let long = tip-long (s .args .s .now) (s .args .at) (omega (arith, c .before .if1 .taken)) in
-    omega (arith, standing-there _ _ _ _ (walk-standing _ _ _ _ (s .pre .1 .2)))
+    omega (arith, tip-there _ _ _ _ (s .pre .1 .2) (omega (arith, c .before .if1 .taken)))
 
 step-returns : (t : ℕ) → step-lts.Need-returns (step-uses t) (step-at t) step.Post
 step-returns t c = walked-steps _ _ _ _ _ (omega arith) (c .tip-stands .ensures)
