@@ -1,7 +1,7 @@
 -- The ways through the evaluator of expressions, one for each kind of node: what is worked out of the tree at a place, from what was
 -- worked out of its operands. Assumes nothing.
 use mathlib.Core.Path.{_≡_, refl, sym, ap, _∙_, subst}
-use Prim.Native.Nat.{ℕ, zero, suc, _+_, _*_, _-_, _≤_, _<_}
+use Prim.Native.Nat.{ℕ, zero, suc, _+_, _-_, _≤_, _<_}
 use native.Mathlib.Omega.{arith}
 use mathlib.Core.Bool.{true, _&&_}
 use mathlib.Core.List.{List}
@@ -11,7 +11,8 @@ use lib.IntN.{ℤ, natAbs}
 use lib.Dec.{eqb}
 use borrow.Author.Tests.{eqb-true}
 use Rattle.alpha.specs.declared.Int.{Int}
-use Rattle.alpha.specs.declared.Outcome as Outcomes
+use Rattle.alpha.specs.declared.Outcome as Declared
+use Rattle.alpha.specs.declared.Outcome.the-variants as Outcomes
 use Rattle.alpha.specs.Field.{field}
 use Rattle.alpha.specs.Sheet.{Expr, Exprs, Sheet, Point, Unary, Binary}
 use Rattle.alpha.specs.Sheet.{Expr.un, Expr.bin, Expr.ite, Expr.kase, Expr.restr, Expr.dep}
@@ -31,15 +32,14 @@ use Rattle.affine.specs.Value.{pointOf, mapOf}
 use Rattle.affine.specs.Reading.{MapRead}
 use Rattle.affine.proofs.Meaning.{height-length, width-cols}
 use Rattle.tree.specs.Ends.{EndsAt}
-use Rattle.domain.specs.Standing.{Unaries}
 use Rattle.domain.specs.Holding.{firstHolding, Taken, Chooses}
 use Rattle.domain.proofs.Walks.{code-field}
 use Rattle.domain.proofs.Choices.{outcomeOf, first-outcome}
 use Rattle.evaluate.specs.declared.Work.{Work}
-use Rattle.evaluate.specs.declared.Work.the-variants.{Outside, Value, DivZero, Overflow, Loop, Deep}
+use Rattle.evaluate.specs.declared.Work.the-variants.{Done}
 use Rattle.evaluate.specs.declared.Worked.{Worked}
-use Rattle.evaluate.specs.Memo.{Thing, Memo, codeOf}
-use Rattle.evaluate.specs.Working.{workOf, expression, Done, ConstantRead, Evaluated, EvaluatesAt, Raised, RaisedAll}
+use Rattle.evaluate.specs.Memo.{Thing, Memo}
+use Rattle.evaluate.specs.Working.{expression, WorksOut, ConstantRead, Evaluated, EvaluatesAt}
 use Rattle.evaluate.proofs.Doing.{expression-grows, done-same, done-known, done-value, done-first, done-next}
 
 -- ---- what an expression's outcome is, by its operands'
@@ -81,7 +81,7 @@ imaged-is s f a z ins k = refl
 -- ---- no value where a value's case is ruled out
 
 abbrev None : Work → Type 0
-None r = (x : Int) → r ≡ Value x → ⊥
+None r = (x : Int) → r ≡ Done (Outcomes.Value x) → ⊥
 
 module _ (bs : List ℕ) (p : ℕ) (z : List Int) where
   abbrev sheet : Sheet
@@ -146,7 +146,7 @@ module _ (bs : List ℕ) (p : ℕ) (z : List Int) where
         λ ins k. constant-is e q (pointOf n z) h ins k ∙ ap value (sym (c .says)) in
         record {
           done =
-              rw (c .is) (done-same sheet memo memo (λ ins. expression sheet ins e (pointOf n z)) (λ ins k. value (c .value .v)) (Value (c .value)) is
+              rw (c .is) (done-same sheet memo memo (λ ins. expression sheet ins e (pointOf n z)) (λ ins k. value (c .value .v)) (Done (Outcomes.Value (c .value))) is
               d);
           ends = λ x g. c .next ∙ sym (constant-ends e q h);
         }
@@ -162,7 +162,7 @@ module _ (bs : List ℕ) (p : ℕ) (z : List Int) where
     fit-one e q n h f = rw (here-one e q h .is) at f
 
     module _ (memo last : Memo) (a : Worked) (A : EvaluatesAt bs (p + 16) z memo last a) where
-      one-back : None (a .out) → EvaluatesAt bs p z memo last a
+      pub one-back : None (a .out) → EvaluatesAt bs p z memo last a
       one-back lacks e q n h f =
           let x = here-one e q h in
           let y = pointOf n z in
@@ -175,9 +175,9 @@ module _ (bs : List ℕ) (p : ℕ) (z : List Int) where
             ends = λ v g. absurd (lacks v g);
           })
 
-      one-way : (v : Int) (op : ℕ) (o : Outcomes.Outcome) → a .out ≡ Value v → op ≡ natAbs (field bs (p + 8)) →
+      pub one-way : (v : Int) (op : ℕ) (o : Declared.Outcome) → a .out ≡ Done (Outcomes.Value v) → op ≡ natAbs (field bs (p + 8)) →
           Range.Says o (unary (unaryOf op) (v .v)) →
-          EvaluatesAt bs p z memo last (record { out = workOf o; next = a .next })
+          EvaluatesAt bs p z memo last (record { out = Done o; next = a .next })
       one-way v op o is number says e q n h f =
           let x = here-one e q h in
           let y = pointOf n z in
@@ -187,35 +187,11 @@ module _ (bs : List ℕ) (p : ℕ) (z : List Int) where
           let first = rw is at (E .done) in
           let d =
           done-next sheet (λ ins. expression sheet ins (x .child) y) (λ ins. expression-grows sheet ins (x .child) y) (λ w ins k. unary (x .op) w)
-          memo last last v (workOf o) first (done-known sheet last o (unary (x .op) (v .v)) said) in
+          memo last last v (Done o) first (done-known sheet last o (unary (x .op) (v .v)) said) in
           evaluated-tree e (un (x .op) (x .child)) q y memo last _ (x .is) (record {
-            done = done-same sheet memo last _ _ (workOf o) (λ ins k. one-is sheet ins y k (x .op) (x .child)) d;
+            done = done-same sheet memo last _ _ (Done o) (λ ins k. one-is sheet ins y k (x .op) (x .child)) d;
             ends = λ w g. E .ends v is;
           })
-
-      -- what the operator makes of its operand's answer
-      pub raised-way : (op : ℕ) → op ≡ natAbs (field bs (p + 8)) → (r : Work) → Raised op (a .out) r →
-          EvaluatesAt bs p z memo last (record { out = r; next = a .next })
-      raised-way op number r h = go (a .out) refl
-        where
-          with-out : (o : Work) → r ≡ o → EvaluatesAt bs p z memo last (record { out = o; next = a .next }) →
-              EvaluatesAt bs p z memo last (record { out = r; next = a .next })
-          with-out o e = subst (λ w. EvaluatesAt bs p z memo last (record { out = w; next = a .next })) (sym e)
-
-          back : (o : Work) → a .out ≡ o → (codeOf o ≡ 1 → ⊥) → EvaluatesAt bs p z memo last (record { out = r; next = a .next })
-          back o e none =
-              let lacks : None (a .out) = λ x is. none (ap codeOf (sym e ∙ is)) in
-              with-out (a .out) (h .other lacks) (one-back lacks)
-
-          go : (o : Work) → a .out ≡ o → EvaluatesAt bs p z memo last (record { out = r; next = a .next })
-          go (Value x) e =
-              let y = h .value x e in
-              with-out (workOf (y .out)) (y .is) (one-way x op (y .out) e number (y .says))
-          go Outside e = back Outside e (λ q. omega arith)
-          go DivZero e = back DivZero e (λ q. omega arith)
-          go Overflow e = back Overflow e (λ q. omega arith)
-          go Loop e = back Loop e (λ q. omega arith)
-          go (Deep d) e = back (Deep d) e (λ q. omega arith)
 
   -- ---- a binary operator
 
@@ -247,7 +223,7 @@ module _ (bs : List ℕ) (p : ℕ) (z : List Int) where
             ends = λ v g. absurd (lacks v g);
           })
 
-      module _ (v : Int) (is : a .out ≡ Value v) (last : Memo) (b : Worked) (B : EvaluatesAt bs (a .next) z mid last b) where
+      module _ (v : Int) (is : a .out ≡ Done (Outcomes.Value v)) (last : Memo) (b : Worked) (B : EvaluatesAt bs (a .next) z mid last b) where
         right-done : (e : Expr) (q n : ℕ) (h : At e (varsOf bs) bs p q) → fits e (headsOf bs) n ≡ true →
             Evaluated bs (here-two e q h .right) q (pointOf n z) mid last b
         right-done e q n h f =
@@ -257,9 +233,9 @@ module _ (bs : List ℕ) (p : ℕ) (z : List Int) where
 
         -- the tree, from what follows the left operand's value
         both-done : (e : Expr) (q n : ℕ) (h : At e (varsOf bs) bs p q) (f : fits e (headsOf bs) n ≡ true) (r : Worked) →
-            Done sheet mid last (λ ins k. andThen (expression sheet ins (here-two e q h .right) (pointOf n z) k)
+            WorksOut sheet mid last (λ ins k. andThen (expression sheet ins (here-two e q h .right) (pointOf n z) k)
             (λ w. binary (here-two e q h .op) (v .v) w)) (r .out) →
-            ((w : Int) → r .out ≡ Value w → r .next ≡ q) → Evaluated bs e q (pointOf n z) memo last r
+            ((w : Int) → r .out ≡ Done (Outcomes.Value w) → r .next ≡ q) → Evaluated bs e q (pointOf n z) memo last r
         both-done e q n h f r d ends =
             let x = here-two e q h in
             let y = pointOf n z in
@@ -281,18 +257,18 @@ module _ (bs : List ℕ) (p : ℕ) (z : List Int) where
             (right-done e q n h f .done))
             (λ w g. absurd (lacks w g))
 
-        pub two-way : (w : Int) (op : ℕ) (o : Outcomes.Outcome) → b .out ≡ Value w → op ≡ natAbs (field bs (p + 8)) →
+        pub two-way : (w : Int) (op : ℕ) (o : Declared.Outcome) → b .out ≡ Done (Outcomes.Value w) → op ≡ natAbs (field bs (p + 8)) →
             Range.Says o (binary (binaryOf op) (v .v) (w .v)) →
-            EvaluatesAt bs p z memo last (record { out = workOf o; next = b .next })
+            EvaluatesAt bs p z memo last (record { out = Done o; next = b .next })
         two-way w op o has number says e q n h f =
             let x = here-two e q h in
             let y = pointOf n z in
             let same : x .op ≡ binaryOf op = x .chosen .is ∙ ap binaryOf (sym number) in
             let said : Range.Says o (binary (x .op) (v .v) (w .v)) = rw same says in
             let second = rw has at (right-done e q n h f .done) in
-            both-done e q n h f (record { out = workOf o; next = b .next })
+            both-done e q n h f (record { out = Done o; next = b .next })
             (done-next sheet (λ ins. expression sheet ins (x .right) y) (λ ins. expression-grows sheet ins (x .right) y)
-            (λ u ins k. binary (x .op) (v .v) u) mid last last w (workOf o) second
+            (λ u ins k. binary (x .op) (v .v) u) mid last last w (Done o) second
             (done-known sheet last o (binary (x .op) (v .v) (w .v)) said))
             (λ u g. right-done e q n h f .ends w has)
 
@@ -337,7 +313,7 @@ module _ (bs : List ℕ) (p : ℕ) (z : List Int) where
             ends = λ v g. absurd (lacks v g);
           })
 
-      module _ (t : Int) (tested : a .out ≡ Value t) (two : Memo) (b : Worked) (B : EvaluatesAt bs (a .next) z one two b) where
+      module _ (t : Int) (tested : a .out ≡ Done (Outcomes.Value t)) (two : Memo) (b : Worked) (B : EvaluatesAt bs (a .next) z one two b) where
         first-done : (e : Expr) (q n : ℕ) (h : At e (varsOf bs) bs p q) → fits e (headsOf bs) n ≡ true →
             Evaluated bs (here-three e q h .left) (here-three e q h .last) (pointOf n z) one two b
         first-done e q n h f =
@@ -349,8 +325,8 @@ module _ (bs : List ℕ) (p : ℕ) (z : List Int) where
 
         -- the tree, from what follows the test's value
         tested-done : (e : Expr) (q n : ℕ) (h : At e (varsOf bs) bs p q) (f : fits e (headsOf bs) n ≡ true) (last : Memo) (r : Worked) →
-            Done sheet one last (arms (here-three e q h .left) (here-three e q h .right) (pointOf n z) (t .v)) (r .out) →
-            ((w : Int) → r .out ≡ Value w → r .next ≡ q) → Evaluated bs e q (pointOf n z) memo last r
+            WorksOut sheet one last (arms (here-three e q h .left) (here-three e q h .right) (pointOf n z) (t .v)) (r .out) →
+            ((w : Int) → r .out ≡ Done (Outcomes.Value w) → r .next ≡ q) → Evaluated bs e q (pointOf n z) memo last r
         tested-done e q n h f last r d ends =
             let x = here-three e q h in
             let y = pointOf n z in
@@ -372,7 +348,7 @@ module _ (bs : List ℕ) (p : ℕ) (z : List Int) where
             two (b .out) lacks (first-done e q n h f .done))
             (λ w g. absurd (lacks w g))
 
-        module _ (u : Int) (has : b .out ≡ Value u) (last : Memo) (c : Worked) (C : EvaluatesAt bs (b .next) z two last c) where
+        module _ (u : Int) (has : b .out ≡ Done (Outcomes.Value u)) (last : Memo) (c : Worked) (C : EvaluatesAt bs (b .next) z two last c) where
           second-done : (e : Expr) (q n : ℕ) (h : At e (varsOf bs) bs p q) → fits e (headsOf bs) n ≡ true →
               Evaluated bs (here-three e q h .right) q (pointOf n z) two last c
           second-done e q n h f =
@@ -383,8 +359,8 @@ module _ (bs : List ℕ) (p : ℕ) (z : List Int) where
 
           -- the tree, from what follows the first arm's value
           armed-done : (e : Expr) (q n : ℕ) (h : At e (varsOf bs) bs p q) (f : fits e (headsOf bs) n ≡ true) (r : Worked) →
-              Done sheet two last (arm (here-three e q h .right) (pointOf n z) (t .v) (u .v)) (r .out) →
-              ((w : Int) → r .out ≡ Value w → r .next ≡ q) → Evaluated bs e q (pointOf n z) memo last r
+              WorksOut sheet two last (arm (here-three e q h .right) (pointOf n z) (t .v) (u .v)) (r .out) →
+              ((w : Int) → r .out ≡ Done (Outcomes.Value w) → r .next ≡ q) → Evaluated bs e q (pointOf n z) memo last r
           armed-done e q n h f r d ends =
               let x = here-three e q h in
               let y = pointOf n z in
@@ -403,15 +379,15 @@ module _ (bs : List ℕ) (p : ℕ) (z : List Int) where
               (second-done e q n h f .done))
               (λ w g. absurd (lacks w g))
 
-          pub three-way : (w : Int) (o : Outcomes.Outcome) → c .out ≡ Value w → Range.Says o (choose (isTrue (t .v)) (u .v) (w .v)) →
-              EvaluatesAt bs p z memo last (record { out = workOf o; next = c .next })
+          pub three-way : (w : Int) (o : Declared.Outcome) → c .out ≡ Done (Outcomes.Value w) → Range.Says o (choose (isTrue (t .v)) (u .v) (w .v)) →
+              EvaluatesAt bs p z memo last (record { out = Done o; next = c .next })
           three-way w o got says e q n h f =
               let x = here-three e q h in
               let y = pointOf n z in
               let second = rw got at (second-done e q n h f .done) in
-              armed-done e q n h f (record { out = workOf o; next = c .next })
+              armed-done e q n h f (record { out = Done o; next = c .next })
               (done-next sheet (λ ins. expression sheet ins (x .right) y) (λ ins. expression-grows sheet ins (x .right) y)
-              (λ v ins k. choose (isTrue (t .v)) (u .v) v) two last last w (workOf o) second
+              (λ v ins k. choose (isTrue (t .v)) (u .v) v) two last last w (Done o) second
               (done-known sheet last o (choose (isTrue (t .v)) (u .v) (w .v)) says))
               (λ v g. second-done e q n h f .ends w got)
 
@@ -474,28 +450,3 @@ module _ (bs : List ℕ) (p : ℕ) (z : List Int) where
     where
       parts : (x : DepAt e (varsOf bs) bs p q) → eqb (x .by .cols) n && fits (x .child) (headsOf bs) (length (x .by .rows)) ≡ true
       parts x = unfold fits in rw (x .is) at f
-
--- ---- unary operators one below another
-
-module _ (bs : List ℕ) (p many : ℕ) (U : Unaries bs p many) (o : Work) where
-  -- r is what those from operator k on make of the answer o of the tree below them
-  abbrev pub Up : ℕ → Work → Type 0
-  Up k r =
-      (z : List Int) (memo last : Memo) (next : ℕ) → EvaluatesAt bs (p + 16 * many) z memo last (record { out = o; next = next }) →
-      EvaluatesAt bs (p + 16 * k) z memo last (record { out = r; next = next })
-
-  pub up-on : (k : ℕ) → 0 < k → k ≤ many → (w : Work) → Up k w → (op : ℕ) → op ≡ natAbs (field bs (p + 16 * (k - 1) + 8)) →
-      (r : Work) → Raised op w r → Up (k - 1) r
-  up-on k more few w up op number r h z memo last next E =
-      let here = p + 16 * (k - 1) in
-      let code = U .each (k - 1) (omega arith) .code in
-      let place : p + 16 * k ≡ here + 16 = omega arith in
-      let below = subst (λ q. EvaluatesAt bs q z memo last (record { out = w; next = next })) place (up z memo last next E) in
-      raised-way bs here z code memo last (record { out = w; next = next }) below op number r h
-
-  -- all of them
-  pub up-all : (k : ℕ) → k ≤ 0 → (w : Work) → Up k w → (r : Work) → r ≡ w → RaisedAll bs p many o r
-  up-all k none w up r is z memo last next E =
-      let place : p + 16 * k ≡ p = omega arith in
-      let top = subst (λ q. EvaluatesAt bs q z memo last (record { out = w; next = next })) place (up z memo last next E) in
-      subst (λ x. EvaluatesAt bs p z memo last (record { out = x; next = next })) (sym is) top
