@@ -2,7 +2,7 @@
 -- a dependence at the image. And it is one thing whichever tree at the place it is said of, since there is one, of one dimension.
 -- Assumes nothing.
 use mathlib.Core.Path.{_≡_, refl, sym, ap, _∙_}
-use Prim.Native.Nat.{ℕ, _+_, _*_, _-_, _≤_}
+use Prim.Native.Nat.{ℕ, _+_, _-_, _≤_}
 use native.Mathlib.Omega.{arith}
 use mathlib.Core.Bool.{Bool, true, false, _&&_}
 use mathlib.Core.List.{List}
@@ -31,7 +31,7 @@ use Rattle.affine.proofs.Meaning.{height-length, width-cols}
 use Rattle.domain.specs.declared.Standing.{Standing}
 use Rattle.domain.specs.declared.Standing.the-variants.{Not, Holds, Clash}
 use Rattle.domain.specs.Walk.{Ends, Walk, WalkAll}
-use Rattle.domain.specs.Standing.{standing, both, together, StandsAt, Unaries}
+use Rattle.domain.specs.Standing.{standing, both, together}
 use Rattle.domain.specs.Held.{Held, HeldAll}
 use Rattle.domain.specs.Holding.{isHeld}
 use Rattle.domain.proofs.Walks.{tree-code, code-field, walk-children, walk-image, walks-split, walk-first, walk-rest}
@@ -115,22 +115,6 @@ module _ (bs : List ℕ) where
         let same = at-unique (varsOf bs) bs p (w .tree) e (w .end) q (w .at) a .tree-is in
         let wide = fits-once (varsOf bs) bs (headsOf bs) (w .dims) n e p q a (rw same at (w .fitting)) f in
         rw (same, wide) at (h .clear)
-
-  -- how it stands, whichever tree there is asked
-  pub walk-stands : (p left : ℕ) (z : List Int) (w : Walk bs p left z) →
-      StandsAt bs p z (record { how = standing (w .tree) (sheetOf bs) (pointOf (w .dims) z); next = w .end })
-  walk-stands p left z w e q n a f =
-      let u = at-unique (varsOf bs) bs p (w .tree) e (w .end) q (w .at) a in
-      let wide = fits-once (varsOf bs) bs (headsOf bs) (w .dims) n e p q a (rw (u .tree-is) at (w .fitting)) f in
-      (u .end-is, rw (u .tree-is, wide) refl)
-
-  -- below unary operators
-  pub held-unaries : (p left : ℕ) (z : List Int) (k : ℕ) → Unaries bs p k → Held bs p left z → Held bs (p + 16 * k) (left - 1) z
-  held-unaries p left z k u h =
-      let w = h .walk in
-      let below = u .walk left z w in
-      let stands = u .way z _ (walk-stands (p + 16 * k) (left - 1) z below) (w .tree) (w .end) (w .dims) (w .at) (w .fitting) in
-      record { walk = below; clear = stands .1 ∙ h .clear }
 
   module _ (p left : ℕ) (z : List Int) (h : Held bs p left z) where
     abbrev w : Walk bs p left z

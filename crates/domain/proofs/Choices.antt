@@ -36,7 +36,7 @@ use Rattle.domain.specs.Standing.{rated, standing, either, together, Sta
 use Rattle.domain.specs.Holding.{isHeld, firstHolding, HoldsAt, StandsSo, Picked, Taken, Sought, Chooses}
 use Rattle.domain.proofs.Standings.{branches-stand}
 use Rattle.domain.proofs.Walks.{code-field, walk-standing, walk-children, walk-first, children-fit}
-use Rattle.domain.proofs.Carried.{not-held, held-by, walk-stands, held-tree}
+use Rattle.domain.proofs.Carried.{not-held, held-by, held-tree}
 
 -- ---- the outcome of a case
 
@@ -89,13 +89,6 @@ neither-holds Clash b e = clash-not e
 -- a tree holds as it stands
 pub held-at : (bs : List ℕ) (p : ℕ) (z : List Int) (t : Stood) (r : Bool) → StandsAt bs p z t → r ≡ isHeld (t .how) → HoldsAt bs p z r
 held-at bs p z t r stands is e q n h f = is ∙ ap isHeld (stands e q n h f .1) ∙ held-is e (sheetOf bs) (pointOf n z)
-
--- and holds as a tree below does, where it stands as that does
-pub held-through : (bs : List ℕ) (p left : ℕ) (z : List Int) (w : Walk bs p left z) (at : ℕ) (y : List Int) →
-    ((t : Stood) → StandsAt bs p z t → StandsAt bs at y t) → (r : Bool) → HoldsAt bs p z r → HoldsAt bs at y r
-held-through bs p left z w at y carried r found =
-    held-at bs at y _ r (carried _ (walk-stands bs p left z w))
-    (found (w .tree) (w .end) (w .dims) (w .at) (w .fitting) ∙ sym (held-is (w .tree) (sheetOf bs) (pointOf (w .dims) z)))
 
 -- what is found at a place is so of any tree there
 found-so : (bs : List ℕ) (p : ℕ) (z : List Int) (r : Bool) (how : Standing) → HoldsAt bs p z r → StandsSo bs p z how → r ≡ isHeld how

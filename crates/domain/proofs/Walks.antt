@@ -22,7 +22,7 @@ use Rattle.laws.specs.At.{nodeOf, codeNumber, nodeLen, At}
 use Rattle.laws.specs.Children.{childrenOf, arity, fitsHere, wanted, reachHere, reachBelow}
 use Rattle.laws.specs.Sheets.{headsOf, varsOf}
 use Rattle.laws.proofs.Tests.{&&-left, &&-right}
-use Rattle.laws.proofs.Shapes.{code-high, at-code, at-dep, DepAt, MoreAt}
+use Rattle.laws.proofs.Shapes.{at-code, at-dep, DepAt, MoreAt}
 use Rattle.laws.proofs.Children.{children-count, fits-children, reach-children}
 use Rattle.laws.proofs.NormalReach.{mapReach-pos}
 use Rattle.affine.specs.declared.Map.{Map}
@@ -73,10 +73,6 @@ module _ (bs : List ℕ) where
   module _ (p left : ℕ) (z : List Int) (h : Walk bs p left z) where
     pub walk-standing : Standing (varsOf bs) bs p left
     walk-standing = record { tree = h .tree; end = h .end; at = h .at; few = h .few }
-
-    -- a code past those of the operators and the case, and no dependence's, is a restriction's
-    pub walk-seven : 7 ≤ natAbs (field bs p) → (natAbs (field bs p) ≡ 8 → ⊥) → natAbs (field bs p) ≡ 7
-    walk-seven low other = omega (arith, tree-code p (h .tree) (h .end) (h .at), code-high (h .tree))
 
     -- ---- the children, where the code says that there are n and that the node has k bytes
 

@@ -2,13 +2,10 @@
 -- dimension, and where the point's coordinates reach no reach passes the limit. The laws that carry it to the children are in
 -- proofs/Walks.antt. Assumes nothing.
 use mathlib.Core.Path.{_≡_}
-use mathlib.Core.Logic.{_⊎_}
-use Prim.Native.Nat.{ℕ, _+_, _≤_}
+use Prim.Native.Nat.{ℕ, _≤_}
 use mathlib.Core.Bool.{true}
 use mathlib.Core.List.{List}
-use lib.IntN.{natAbs}
 use Rattle.alpha.specs.declared.Int.{Int}
-use Rattle.alpha.specs.Field.{field}
 use Rattle.alpha.specs.Sheet.{Expr, Exprs}
 use Rattle.alpha.specs.Shape.{fits, allFit}
 use Rattle.alpha.specs.Reach.{limit, reach, reachAll}
@@ -17,15 +14,10 @@ use Rattle.laws.specs.At.{At, AllAt}
 use Rattle.laws.specs.Sheets.{headsOf, varsOf}
 use Rattle.affine.specs.Value.{pointOf, Padded}
 use Rattle.affine.specs.Size.{Near}
-use Rattle.affine.specs.Reading.{ImageAt}
 
 -- r is where every tree at p that has a dimension ends
 abbrev pub Ends : List ℕ → ℕ → ℕ → Type 0
 Ends bs p r = (e : Expr) (q n : ℕ) → At e (varsOf bs) bs p q → fits e (headsOf bs) n ≡ true → r ≡ q
-
--- y is the point of the child of the restriction or dependence at p, whose own point is z: a dependence's image, and else z
-abbrev pub Lowered : List ℕ → ℕ → List Int → List Int → Type 0
-Lowered bs p z y = ((natAbs (field bs p) ≡ 8) × ImageAt bs (p + 8) z y) ⊎ ((natAbs (field bs p) ≡ 8 → ⊥) × (y ≡ z))
 
 -- z has so many coordinates, each at most `bound` in size, and zeros beyond
 pub record Bounded (dims bound : ℕ) (z : List Int) : Type 0 where

@@ -10,7 +10,7 @@ use sheet::table::variable_count;
 use tree::Ruling;
 use tree::variable::kind_of;
 ghost use mathlib.Core.Path.{_≡_};
-ghost use Prim.Native.Nat.{ℕ, _<_};
+ghost use Prim.Native.Nat.{_<_};
 ghost use mathlib.Core.Bool.{false};
 ghost use Rattle.alpha.specs.Box as Box;
 ghost use Rattle.alpha.specs.Holds.{variable, isInput};

@@ -1,14 +1,10 @@
 // The branch that a case takes at a point where it holds without a clash: one branch holds there, so the largest one is spared, and taken
 // where no other holds. Assumes nothing.
 use super::Standing;
-use super::leaf::tip_stands;
-use super::lower::lowered;
-use super::lower::passes;
 use super::stand::stand;
 use alpha::Int;
 use tree::ends::end_of;
 use tree::node::natural;
-use tree::node::node_len;
 ghost use mathlib.Core.Path.{_≡_};
 ghost use Prim.Native.Nat.{_+_, _-_, _≤_};
 ghost use lib.IntN.{natAbs};
@@ -31,28 +27,7 @@ fn is_held(how: Standing) -> bool
     }
 }
 
-// Whether the tree at `at`, of at most `left` nodes, holds at z. A variable or a constant is told here, which spares a call.
-fn tree_holds(
-    s: &[u8],
-    tab: &[usize; 102],
-    inside: &[u8; 4096],
-    at: usize,
-    left: usize,
-    z: [Int; 4],
-) -> bool
-    requires { ⌜ BodiesPlaced (now s) (now tab) × Inside (sheetOf (now s)) (now inside) × Walk (now s) at left z × (left ≤ 2048) ⌝ }
-    ensures { λ r. ⌜ HoldsAt (now (s .entry)) at z r ⌝ }
-{
-    if natural(s, at) < 3 {
-        return is_held(tip_stands(s, tab, inside, at, z));
-    }
-    let it = stand(s, tab, inside, at, left, z);
-    let how = it.how;
-    is_held(how)
-}
-
-// The same. Restrictions and dependences are passed on the way to the first other node, and below a restriction that does not hold
-// nothing is walked.
+// Whether the tree at `at`, of at most `left` nodes, holds at z.
 fn holds(
     s: &[u8],
     tab: &[usize; 102],
@@ -64,19 +39,9 @@ fn holds(
     requires { ⌜ BodiesPlaced (now s) (now tab) × Inside (sheetOf (now s)) (now inside) × Walk (now s) at left z × (left ≤ 2048) ⌝ }
     ensures { λ r. ⌜ HoldsAt (now (s .entry)) at z r ⌝ }
 {
-    let mut p = at;
-    let mut n = left;
-    let mut y = z;
-    while natural(s, p) > 6 {
-        if !passes(s, p, y) {
-            return false;
-        }
-        let lower = lowered(s, p, y);
-        y = lower;
-        p += node_len(s, p);
-        n -= 1;
-    }
-    tree_holds(s, tab, inside, p, n, y)
+    let it = stand(s, tab, inside, at, left, z);
+    let how = it.how;
+    is_held(how)
 }
 
 // One of two places.

@@ -7,11 +7,12 @@ use sheet::table::first_element;
 use sheet::table::record_place;
 use tree::node::natural;
 ghost use mathlib.Core.Path.{_≡_};
-ghost use Prim.Native.Nat.{ℕ, _+_, _<_};
+ghost use Prim.Native.Nat.{_+_, _<_};
 ghost use lib.IntN.{natAbs};
 ghost use Rattle.alpha.specs.Field.{field};
 ghost use Rattle.alpha.specs.Sheet.{Expr.var};
 ghost use Rattle.alpha.specs.Read.{dimension};
+ghost use Rattle.laws.specs.At.{nodeLen};
 ghost use Rattle.laws.specs.Sheets.{headsOf, varsOf, sheetOf};
 ghost use Rattle.affine.specs.Value.{pointOf};
 ghost use Rattle.tree.specs.Formed.{BodiesPlaced};
@@ -20,13 +21,7 @@ ghost use Rattle.tree.specs.Standing.{Noded};
 ghost use Rattle.domain.specs.Standing.{standing, StandsAt};
 
 // How the variable v stands at z.
-pub fn leaf_stands(
-    s: &[u8],
-    tab: &[usize; 102],
-    inside: &[u8; 4096],
-    v: usize,
-    z: [Int; 4],
-) -> Standing
+fn leaf_stands(s: &[u8], tab: &[usize; 102], inside: &[u8; 4096], v: usize, z: [Int; 4]) -> Standing
     requires { ⌜ BodiesPlaced (now s) (now tab) × Inside (sheetOf (now s)) (now inside) × (v < varsOf (now s)) ⌝ }
     ensures { λ r. ⌜ r ≡ standing (var v) (sheetOf (now (s .entry))) (pointOf (dimension (headsOf (now (s .entry))) v) z) ⌝ }
 {
@@ -42,7 +37,7 @@ pub fn leaf_stands(
     }
 }
 
-// How the node at `at`, a variable or a constant, stands at z: a constant holds. Its bytes are 16.
+// How the node at `at`, a variable or a constant, stands at z: a constant holds.
 pub fn tip_stands(
     s: &[u8],
     tab: &[usize; 102],
@@ -51,7 +46,7 @@ pub fn tip_stands(
     z: [Int; 4],
 ) -> Standing
     requires { ⌜ BodiesPlaced (now s) (now tab) × Inside (sheetOf (now s)) (now inside) × Noded (varsOf (now s)) (now s) at × (natAbs (field (now s) at) < 3) ⌝ }
-    ensures { λ r. ⌜ StandsAt (now (s .entry)) at z (record { how = r; next = at + 16 }) ⌝ }
+    ensures { λ r. ⌜ StandsAt (now (s .entry)) at z (record { how = r; next = at + nodeLen (now (s .entry)) at }) ⌝ }
 {
     if natural(s, at) < 1 {
         leaf_stands(s, tab, inside, natural(s, at + 8), z)

@@ -1,9 +1,10 @@
 -- `domain::tip_stands` meets its contract: a variable stands as its element does, and a constant holds. Assumes nothing.
+use mathlib.Core.Path.{refl}
 use native.Mathlib.Omega.{arith}
 use Rattle.tree.proofs.Noding.{code-there, second-there}
 use Rattle.tree.proofs.Fitting.{variable-known}
 use Rattle.tree.proofs.Heading.{prepared-sections}
-use Rattle.domain.proofs.Ways.{tip-long, variable-way, constant-way}
+use Rattle.domain.proofs.Ways.{variable-way, constant-way}
 use Rattle.domain.proofs.leaf.tip_stands.Statement.{statement}
 use Rattle.domain.proofs.leaf.tip_stands.Tie as tie
 
@@ -35,13 +36,13 @@ returns c =
     let s = after-natural .before .before in
     let code = after-natural .natural .ensures in
     let low = c .before .before .if1 .taken in
-    variable-way _ _ _ (s .args .z) (tip-long _ _ (s .pre .3)) _ _ (omega arith) (c .before .natural2 .ensures) (c .leaf-stands .ensures)
+    variable-way _ _ _ (s .args .z) refl _ _ (omega arith) (c .before .natural2 .ensures) (c .leaf-stands .ensures)
 
 returns-2 : tie.Need-returns-2
 returns-2 c =
     let s = c .before .before .before in
     let code = c .before .natural .ensures in
-    constant-way _ _ _ (s .args .z) (tip-long _ _ (s .pre .3)) (omega (arith, c .if1 .left)) (s .pre .3)
+    constant-way _ _ _ (s .args .z) refl (omega (arith, c .if1 .left)) (s .pre .3)
 
 pub tip-stands-spec : {M : Type 1} → statement M
 tip-stands-spec =
