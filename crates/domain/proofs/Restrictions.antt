@@ -168,6 +168,7 @@ module _ (bs : List ℕ) (p : ℕ) where
       bound = h .bound;
       at = here .below;
       few = omega (arith, h .few, count-here);
+      most = omega (arith, h .most);
       fitting = &&-right (eqb (here .dim) (h .dims)) (fits (here .child) (headsOf bs) (h .dims)) fit-here;
       reaches = &&-right (allReach (h .bound) (here .given)) (reach (here .child) (h .bound)) reach-here;
       point = h .point;

@@ -88,6 +88,7 @@ module _ (bs : List ℕ) where
             bound = h .bound;
             at = children-at (varsOf bs) bs p k n long many e (h .end) (h .at);
             few = omega (arith, h .few, children-count e);
+            most = omega (arith, h .most);
             many = children-counted (varsOf bs) bs p k n long many e (h .end) (h .at);
             fitting = children-fit p e (h .end) (h .dims) (h .at) c (h .fitting);
             reaches = children-reach p e (h .end) (h .bound) (h .at) c (h .reaches);
@@ -148,6 +149,7 @@ module _ (bs : List ℕ) where
           bound = mapReach (h .bound) (below .by .rows);
           at = below .below;
           few = omega (arith, h .few, count-below);
+          most = omega (arith, h .most);
           fitting = rw (height-length m map-is)
               (&&-right (eqb (below .by .cols) (h .dims)) (fits (below .child) (headsOf bs) (length (below .by .rows))) fit-below);
           reaches = &&-right (leb (mapReach (h .bound) (below .by .rows)) limit) (reach (below .child) (mapReach (h .bound) (below .by .rows))) reach-below;
@@ -188,6 +190,7 @@ module _ (bs : List ℕ) where
       bound = h .bound;
       at = walks-split .before;
       few = omega (arith, count-all, h .few);
+      most = h .most;
       fitting = fit-first;
       reaches = &&-left (reach (walks-split .first) (h .bound)) (reachAll (walks-split .rest) (h .bound)) reach-all;
       point = h .point;
@@ -202,6 +205,7 @@ module _ (bs : List ℕ) where
       bound = h .bound;
       at = rw (ends (walks-split .first) (walks-split .middle) (h .dims) (walks-split .before) fit-first) (walks-split .after);
       few = omega (arith, count-all, h .few);
+      most = h .most;
       many = walks-split .many;
       fitting = &&-right (fits (walks-split .first) (headsOf bs) (h .dims)) (allFit (walks-split .rest) (headsOf bs) (h .dims)) fit-all;
       reaches = &&-right (reach (walks-split .first) (h .bound)) (reachAll (walks-split .rest) (h .bound)) reach-all;

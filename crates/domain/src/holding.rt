@@ -6,16 +6,9 @@ use alpha::Int;
 use tree::ends::end_of;
 use tree::node::natural;
 ghost use mathlib.Core.Path.{_≡_};
-ghost use Prim.Native.Nat.{_+_, _-_, _≤_};
-ghost use lib.IntN.{natAbs};
-ghost use Rattle.alpha.specs.Field.{field};
-ghost use Rattle.laws.specs.Sheets.{sheetOf};
-ghost use Rattle.tree.specs.Ends.{EndsKept};
-ghost use Rattle.tree.specs.Formed.{BodiesPlaced};
-ghost use Rattle.domain.specs.Inside.{Inside};
-ghost use Rattle.domain.specs.Walk.{Walk};
-ghost use Rattle.domain.specs.Held.{Held};
-ghost use Rattle.domain.specs.Holding.{isHeld, HoldsAt, Picked, Chooses};
+ghost use Prim.Native.Nat.{_+_, _-_};
+ghost use Rattle.domain.specs.Walk.{Grounds, Walk};
+ghost use Rattle.domain.specs.Holding.{isHeld, HoldsAt, Picked, Choosing, Chooses};
 
 fn is_held(how: Standing) -> bool
     ensures { λ r. ⌜ r ≡ isHeld how ⌝ }
@@ -36,7 +29,7 @@ fn holds(
     left: usize,
     z: [Int; 4],
 ) -> bool
-    requires { ⌜ BodiesPlaced (now s) (now tab) × Inside (sheetOf (now s)) (now inside) × Walk (now s) at left z × (left ≤ 2048) ⌝ }
+    requires { ⌜ Grounds (now s) (now tab) (now inside) × Walk (now s) at left z ⌝ }
     ensures { λ r. ⌜ HoldsAt (now (s .entry)) at z r ⌝ }
 {
     let it = stand(s, tab, inside, at, left, z);
@@ -62,7 +55,7 @@ pub fn holding(
     left: usize,
     z: [Int; 4],
 ) -> usize
-    requires { ⌜ BodiesPlaced (now s) (now tab) × Inside (sheetOf (now s)) (now inside) × EndsKept (now s) (now ends) × Held (now s) at left z × (left ≤ 2048) × (natAbs (field (now s) at) ≡ 6) ⌝ }
+    requires { ⌜ Choosing (now s) (now tab) (now inside) (now ends) at left z ⌝ }
     ensures { λ r. ⌜ Chooses (now (s .entry)) at (left - 1) z r ⌝ }
 {
     let n = left - 1;

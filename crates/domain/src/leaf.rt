@@ -15,14 +15,13 @@ ghost use Rattle.alpha.specs.Read.{dimension};
 ghost use Rattle.laws.specs.At.{nodeLen};
 ghost use Rattle.laws.specs.Sheets.{headsOf, varsOf, sheetOf};
 ghost use Rattle.affine.specs.Value.{pointOf};
-ghost use Rattle.tree.specs.Formed.{BodiesPlaced};
-ghost use Rattle.domain.specs.Inside.{Inside};
+ghost use Rattle.domain.specs.Walk.{Grounds};
 ghost use Rattle.tree.specs.Standing.{Noded};
 ghost use Rattle.domain.specs.Standing.{standing, StandsAt};
 
 // How the variable v stands at z.
 fn leaf_stands(s: &[u8], tab: &[usize; 102], inside: &[u8; 4096], v: usize, z: [Int; 4]) -> Standing
-    requires { ⌜ BodiesPlaced (now s) (now tab) × Inside (sheetOf (now s)) (now inside) × (v < varsOf (now s)) ⌝ }
+    requires { ⌜ Grounds (now s) (now tab) (now inside) × (v < varsOf (now s)) ⌝ }
     ensures { λ r. ⌜ r ≡ standing (var v) (sheetOf (now (s .entry))) (pointOf (dimension (headsOf (now (s .entry))) v) z) ⌝ }
 {
     let found = points::index(s, record_place(tab, v), z);
@@ -45,7 +44,7 @@ pub fn tip_stands(
     at: usize,
     z: [Int; 4],
 ) -> Standing
-    requires { ⌜ BodiesPlaced (now s) (now tab) × Inside (sheetOf (now s)) (now inside) × Noded (varsOf (now s)) (now s) at × (natAbs (field (now s) at) < 3) ⌝ }
+    requires { ⌜ Grounds (now s) (now tab) (now inside) × Noded (varsOf (now s)) (now s) at × (natAbs (field (now s) at) < 3) ⌝ }
     ensures { λ r. ⌜ StandsAt (now (s .entry)) at z (record { how = r; next = at + nodeLen (now (s .entry)) at }) ⌝ }
 {
     if natural(s, at) < 1 {

@@ -9,11 +9,7 @@ use alpha::Int;
 use tree::node::children;
 use tree::node::natural;
 use tree::node::node_len;
-ghost use Prim.Native.Nat.{_≤_};
-ghost use Rattle.laws.specs.Sheets.{sheetOf};
-ghost use Rattle.tree.specs.Formed.{BodiesPlaced};
-ghost use Rattle.domain.specs.Inside.{Inside};
-ghost use Rattle.domain.specs.Walk.{Walk, WalkAll};
+ghost use Rattle.domain.specs.Walk.{Grounds, Walk, WalkAll};
 ghost use Rattle.domain.specs.Standing.{StandsAt, StandTogether};
 
 // How the tree at `at`, of at most `left` nodes, stands at z. Below a restriction whose constraints are not met there nothing is asked.
@@ -25,7 +21,7 @@ pub fn stand(
     left: usize,
     z: [Int; 4],
 ) -> Stood
-    requires { ⌜ BodiesPlaced (now s) (now tab) × Inside (sheetOf (now s)) (now inside) × Walk (now s) at left z × (left ≤ 2048) ⌝ }
+    requires { ⌜ Grounds (now s) (now tab) (now inside) × Walk (now s) at left z ⌝ }
     ensures { λ r. ⌜ StandsAt (now (s .entry)) at z r ⌝ }
 {
     let code = natural(s, at);
@@ -66,7 +62,7 @@ fn stand_all(
     count: usize,
     branches: bool,
 ) -> Stood
-    requires { ⌜ BodiesPlaced (now s) (now tab) × Inside (sheetOf (now s)) (now inside) × WalkAll (now s) at left count z × (left ≤ 2048) ⌝ }
+    requires { ⌜ Grounds (now s) (now tab) (now inside) × WalkAll (now s) at left count z ⌝ }
     ensures { λ r. ⌜ StandTogether (now (s .entry)) at count z branches r ⌝ }
 {
     let mut how = alone(branches);

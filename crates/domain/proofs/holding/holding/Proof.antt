@@ -28,12 +28,12 @@ abbrev μ-loop : tie.MeasureT-loop
 -- the number of branches is there
 there : (c : tie.Start Inv-loop μ-loop) → c .args .at + 16 ≤ length (c .args .s .now)
 there c =
-    let code = c .pre .5 in
-    let w = c .pre .3 .walk in
+    let code = c .pre .is-case in
+    let w = c .pre .held .walk in
     second-there _ _ _ (standing-noded _ _ _ _ (walk-standing _ _ _ _ w)) (λ e. let z : _≡_ {A = ℕ} 6 5 = sym code ∙ e in omega arith)
 
 sub-n : tie.Need-sub-n Inv-loop μ-loop
-sub-n c = omega (arith, standing-some _ _ _ _ (walk-standing _ _ _ _ (c .before .pre .3 .walk)))
+sub-n c = omega (arith, standing-some _ _ _ _ (walk-standing _ _ _ _ (c .before .pre .held .walk)))
 
 add-natural : tie.Need-add-natural Inv-loop μ-loop
 add-natural c = omega (arith, there (c .before))
@@ -46,10 +46,10 @@ module _ (c : tie.After-natural Inv-loop μ-loop) where
   s = c .before .before
 
   some : 1 ≤ c .natural .result
-  some = some-branch _ _ _ _ _ (s .pre .3) (s .pre .5) (c .natural .ensures)
+  some = some-branch _ _ _ _ _ (s .pre .held) (s .pre .is-case) (c .natural .ensures)
 
   branches : WalkAll (s .args .s .now) (s .args .at + 16) (s .args .left - 1) (c .natural .result) (s .args .z)
-  branches = walk-branches _ _ _ _ _ (s .pre .3) (s .pre .5) (c .natural .ensures)
+  branches = walk-branches _ _ _ _ _ (s .pre .held) (s .pre .is-case) (c .natural .ensures)
 
   first-branch : Walk (s .args .s .now) (s .args .at + 16) (s .args .left - 1) (s .args .z)
   first-branch = walk-first _ _ _ _ _ some branches
@@ -63,7 +63,7 @@ add-spared c = omega (arith, there (c .before .before))
 end-of-requires : tie.Need-end-of-requires Inv-loop μ-loop
 end-of-requires c κs =
     let p = c .before .before .pre in
-    (walk-standing _ _ _ _ (first-branch c), omega (arith, p .4), p .2)
+    (walk-standing _ _ _ _ (first-branch c), omega (arith, p .held .walk .most), p .kept)
 
 sub-size : tie.Need-sub-size Inv-loop μ-loop
 sub-size c =
@@ -88,7 +88,7 @@ module _ (c : tie.At-loop Inv-loop μ-loop) where
       Chooses (from .args .s .now) (from .args .at) (from .args .left - 1) (from .args .z) r
   case-chooses r x =
       let after-end-of = c .before in
-      chooses _ _ _ _ _ (from .pre .3) (from .pre .5) (after-end-of .before .natural .ensures) _ (after-end-of .end-of .ensures) r x
+      chooses _ _ _ _ _ (from .pre .held) (from .pre .is-case) (after-end-of .before .natural .ensures) _ (after-end-of .end-of .ensures) r x
 
 -- ---- in the loop
 
@@ -102,7 +102,7 @@ module _ (c : tie.In-loop Inv-loop μ-loop) where
 end-of-requires-2 : tie.Need-end-of-requires-2 Inv-loop μ-loop
 end-of-requires-2 c κs =
     let p = start c .pre in
-    (walk-standing _ _ _ _ (this-branch c), omega (arith, p .4), p .2)
+    (walk-standing _ _ _ _ (this-branch c), omega (arith, p .held .walk .most), p .kept)
 
 sub-long : tie.Need-sub-long Inv-loop μ-loop
 sub-long c =
@@ -118,7 +118,7 @@ holds-requires c κs =
     let loop = in-loop .before .loop in
     let p = start in-loop .pre in
     let walk = tried-walk _ _ (start in-loop .args .z) _ _ (in-loop .loop-test .taken) (loop .inv .1) _ (loop .inv .0) _ _ (c .pick .ensures) in
-    (p .0, p .1, walk, omega (arith, p .4))
+    (p .grounds, walk)
 
 returns : tie.Need-returns Inv-loop μ-loop
 returns c =

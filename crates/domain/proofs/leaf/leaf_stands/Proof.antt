@@ -10,7 +10,7 @@ use Rattle.domain.proofs.leaf.leaf_stands.Tie as tie
 
 -- the variable
 laid : (c : tie.Start) → VariableLaid (c .args .s .now) (c .args .tab .now) (c .args .v)
-laid c = laid-variable _ _ (c .pre .0) _ (c .pre .2)
+laid c = laid-variable _ _ (c .pre .0 .placed) _ (c .pre .1)
 
 record-place-requires : tie.Need-record-place-requires
 record-place-requires c κs = laid (c .before) .low
@@ -61,7 +61,7 @@ returns-2 c =
     let after-record-place = after-index .before in
     let s = after-record-place .before .before in
     let at = rw (after-record-place .record-place .ensures) at (sym (after-found .found .given .1) ∙ after-index .index .ensures) in
-    byte-stands _ _ _ (s .args .z) (laid s) _ at _ (s .pre .1) (rw (n .first-element .ensures) at (c .if1 .taken))
+    byte-stands _ _ _ (s .args .z) (laid s) _ at _ (s .pre .0 .inside-is) (rw (n .first-element .ensures) at (c .if1 .taken))
 
 returns-3 : tie.Need-returns-3
 returns-3 c =
@@ -71,7 +71,7 @@ returns-3 c =
     let after-record-place = after-index .before in
     let s = after-record-place .before .before in
     let at = rw (after-record-place .record-place .ensures) at (sym (after-found .found .given .1) ∙ after-index .index .ensures) in
-    byte-not _ _ _ (s .args .z) (laid s) _ at _ (s .pre .1) (rw (n .first-element .ensures) at (c .if1 .left))
+    byte-not _ _ _ (s .args .z) (laid s) _ at _ (s .pre .0 .inside-is) (rw (n .first-element .ensures) at (c .if1 .left))
 
 pub leaf-stands-spec : {M : Type 1} → statement M
 leaf-stands-spec =

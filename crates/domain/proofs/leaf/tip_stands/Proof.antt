@@ -9,26 +9,26 @@ use Rattle.domain.proofs.leaf.tip_stands.Statement.{statement}
 use Rattle.domain.proofs.leaf.tip_stands.Tie as tie
 
 natural-requires : tie.Need-natural-requires
-natural-requires c κs = code-there _ _ _ (c .before .pre .2)
+natural-requires c κs = code-there _ _ _ (c .before .pre .1)
 
 add-natural : tie.Need-add-natural
 add-natural c =
     let s = c .before .before .before in
-    omega (arith, code-there _ _ _ (s .pre .2))
+    omega (arith, code-there _ _ _ (s .pre .1))
 
 natural-requires-2 : tie.Need-natural-requires-2
 natural-requires-2 c κs =
     let s = c .before .before .before in
     let code = c .before .natural .ensures in
-    omega (arith, second-there _ _ _ (s .pre .2) (λ e. omega (arith, c .if1 .taken)))
+    omega (arith, second-there _ _ _ (s .pre .1) (λ e. omega (arith, c .if1 .taken)))
 
 leaf-stands-requires : tie.Need-leaf-stands-requires
 leaf-stands-requires c κs =
     let s = c .before .before .before .before in
     let code = c .before .before .natural .ensures in
-    let vars = prepared-sections _ _ (s .pre .0 .prepared) .some in
+    let vars = prepared-sections _ _ (s .pre .0 .placed .prepared) .some in
     let low = c .before .if1 .taken in
-    (s .pre .0, s .pre .1, rw (c .natural2 .ensures) (variable-known _ _ _ (s .pre .2) (omega arith) vars))
+    (s .pre .0, rw (c .natural2 .ensures) (variable-known _ _ _ (s .pre .1) (omega arith) vars))
 
 returns : tie.Need-returns
 returns c =
@@ -42,7 +42,7 @@ returns-2 : tie.Need-returns-2
 returns-2 c =
     let s = c .before .before .before in
     let code = c .before .natural .ensures in
-    constant-way _ _ _ (s .args .z) refl (omega (arith, c .if1 .left)) (s .pre .3)
+    constant-way _ _ _ (s .args .z) refl (omega (arith, c .if1 .left)) (s .pre .2)
 
 pub tip-stands-spec : {M : Type 1} → statement M
 tip-stands-spec =

@@ -63,11 +63,11 @@ stand-all-uses t = (alone-reads.Asked, alone-reads.Learnt, stand-below t, stand.
 -- ---- a tree
 
 noded : (t : ℕ) (c : stand-lts.Start (stand-uses t) (stand-at t) stand.Post) → Noded (varsOf (c .args .s .now)) (c .args .s .now) (c .args .at)
-noded t c = standing-noded _ _ _ _ (walk-standing _ _ _ _ (c .pre .1 .2))
+noded t c = standing-noded _ _ _ _ (walk-standing _ _ _ _ (c .pre .1 .1))
 
 -- there is a node left
 some : (t : ℕ) (c : stand-lts.Start (stand-uses t) (stand-at t) stand.Post) → 1 ≤ c .args .left
-some t c = standing-some _ _ _ _ (walk-standing _ _ _ _ (c .pre .1 .2))
+some t c = standing-some _ _ _ _ (walk-standing _ _ _ _ (c .pre .1 .1))
 
 stand-natural-requires : (t : ℕ) → stand-lts.Need-natural-requires (stand-uses t) (stand-at t) stand.Post
 stand-natural-requires t c κs = code-there _ _ _ (noded t (c .before))
@@ -76,13 +76,13 @@ stand-node-len-requires : (t : ℕ) → stand-lts.Need-node-len-requires (stand-
 stand-node-len-requires t c κs = noded t (c .before .before)
 
 stand-add-first : (t : ℕ) → stand-lts.Need-add-first (stand-uses t) (stand-at t) stand.Post
-stand-add-first t c = omega (arith, standing-there _ _ _ _ (walk-standing _ _ _ _ (c .before .before .before .pre .1 .2)), c .node-len .ensures)
+stand-add-first t c = omega (arith, standing-there _ _ _ _ (walk-standing _ _ _ _ (c .before .before .before .pre .1 .1)), c .node-len .ensures)
 
 stand-tip-stands-requires : (t : ℕ) → stand-lts.Need-tip-stands-requires (stand-uses t) (stand-at t) stand.Post
 stand-tip-stands-requires t c κs =
     let s = c .before .before .before .before in
     let code = c .before .before .natural .ensures in
-    (s .pre .1 .0, s .pre .1 .1, noded t s, omega (arith, c .if1 .taken))
+    (s .pre .1 .0, noded t s, omega (arith, c .if1 .taken))
 
 stand-returns : (t : ℕ) → stand-lts.Need-returns (stand-uses t) (stand-at t) stand.Post
 stand-returns t c = rw (c .before .before .node-len .ensures) (c .tip-stands .ensures)
@@ -99,9 +99,9 @@ stand-stand-all-requires t c κs =
     let is = s .pre .0 in
     let left = some t s in
     let code = c .before .before .before .before .natural .ensures in
-    let children = walk-children _ _ _ _ (s .pre .1 .2) _ _ (c .before .before .before .node-len .ensures) (c .children .ensures)
+    let children = walk-children _ _ _ _ (s .pre .1 .1) _ _ (c .before .before .before .node-len .ensures) (c .children .ensures)
     (λ e. omega (arith, c .before .if2 .taken)) in
-    (omega arith, (s .pre .1 .0, s .pre .1 .1, children, omega (arith, s .pre .1 .3)))
+    (omega arith, (s .pre .1 .0, children))
 
 stand-returns-2 : (t : ℕ) → stand-lts.Need-returns-2 (stand-uses t) (stand-at t) stand.Post
 stand-returns-2 t c =
@@ -127,8 +127,8 @@ stand-stand-all-requires-2 t c κs =
     let is = s .pre .0 in
     let left = some t s in
     let code = six t (c .before) in
-    let children = walk-children _ _ _ _ (s .pre .1 .2) _ _ (c .before .before .before .before .node-len .ensures) (c .children2 .ensures) (λ e. omega arith) in
-    (omega arith, (s .pre .1 .0, s .pre .1 .1, children, omega (arith, s .pre .1 .3)))
+    let children = walk-children _ _ _ _ (s .pre .1 .1) _ _ (c .before .before .before .before .node-len .ensures) (c .children2 .ensures) (λ e. omega arith) in
+    (omega arith, (s .pre .1 .0, children))
 
 stand-returns-3 : (t : ℕ) → stand-lts.Need-returns-3 (stand-uses t) (stand-at t) stand.Post
 stand-returns-3 t c =
@@ -144,7 +144,7 @@ stand-restriction-meets-requires : (t : ℕ) → stand-lts.Need-restriction-meet
 stand-restriction-meets-requires t c κs =
     let s = c .before .before .before .before .before .before .before in
     let code = seven t c in
-    restriction-testable _ _ _ _ (s .pre .1 .2) code (wide-fields _ _ _ (noded t s) (omega arith))
+    restriction-testable _ _ _ _ (s .pre .1 .1) code (wide-fields _ _ _ (noded t s) (omega arith))
 
 stand-sub-stand : (t : ℕ) → stand-lts.Need-sub-stand (stand-uses t) (stand-at t) stand.Post
 stand-sub-stand t c = omega (arith, some t (c .before .before .before .before .before .before .before .before .before))
@@ -154,8 +154,8 @@ stand-stand-requires t c κs =
     let s = c .before .before .before .before .before .before .before .before .before in
     let is = s .pre .0 in
     let left = some t s in
-    let walk = restriction-walk _ _ _ _ (s .pre .1 .2) (seven t (c .before .before)) in
-    (omega arith, (s .pre .1 .0, s .pre .1 .1, rw (c .before .before .before .before .before .before .node-len .ensures) walk, omega (arith, s .pre .1 .3)))
+    let walk = restriction-walk _ _ _ _ (s .pre .1 .1) (seven t (c .before .before)) in
+    (omega arith, (s .pre .1 .0, rw (c .before .before .before .before .before .before .node-len .ensures) walk))
 
 stand-returns-4 : (t : ℕ) → stand-lts.Need-returns-4 (stand-uses t) (stand-at t) stand.Post
 stand-returns-4 t c =
@@ -169,8 +169,8 @@ stand-sub-skip t c = omega (arith, some t (c .before .before .before .before .be
 stand-skip-requires : (t : ℕ) → stand-lts.Need-skip-requires (stand-uses t) (stand-at t) stand.Post
 stand-skip-requires t c κs =
     let s = c .before .before .before .before .before .before .before .before .before in
-    let walk = restriction-walk _ _ _ _ (s .pre .1 .2) (seven t (c .before .before)) in
-    (rw (c .before .before .before .before .before .before .node-len .ensures) (walk-standing _ _ _ (s .args .z) walk), omega (arith, s .pre .1 .3))
+    let walk = restriction-walk _ _ _ _ (s .pre .1 .1) (seven t (c .before .before)) in
+    (rw (c .before .before .before .before .before .before .node-len .ensures) (walk-standing _ _ _ (s .args .z) walk), omega (arith))
 
 stand-returns-5 : (t : ℕ) → stand-lts.Need-returns-5 (stand-uses t) (stand-at t) stand.Post
 stand-returns-5 t c =
@@ -183,7 +183,7 @@ eight : (t : ℕ) (c : stand-lts.Else4 (stand-uses t) (stand-at t) stand.Post) �
     let s = c .before .before .before .before .before .before .before in
     natAbs (field (s .args .s .now) (s .args .at)) ≡ 8
 eight t c =
-    let w = c .before .before .before .before .before .before .before .pre .1 .2 in
+    let w = c .before .before .before .before .before .before .before .pre .1 .1 in
     let code = c .before .before .before .before .before .natural .ensures in
     omega (arith, c .before .before .if2 .left, c .before .if3 .left, c .if4 .left, tree-code _ _ _ _ (w .at), code-high (w .tree))
 
@@ -193,7 +193,7 @@ stand-add-image-at t c = omega (arith, code-there _ _ _ (noded t (c .before .bef
 stand-image-at-requires : (t : ℕ) → stand-lts.Need-image-at-requires (stand-uses t) (stand-at t) stand.Post
 stand-image-at-requires t c κs =
     let s = c .before .before .before .before .before .before .before in
-    (map-stands _ _ _ _ (s .pre .1 .2) (eight t c), image-fits _ _ _ _ (s .pre .1 .2) (eight t c))
+    (map-stands _ _ _ _ (s .pre .1 .1) (eight t c), image-fits _ _ _ _ (s .pre .1 .1) (eight t c))
 
 stand-sub-stand-2 : (t : ℕ) → stand-lts.Need-sub-stand-2 (stand-uses t) (stand-at t) stand.Post
 stand-sub-stand-2 t c = omega (arith, some t (c .before .before .before .before .before .before .before .before))
@@ -204,8 +204,8 @@ stand-stand-requires-2 t c κs =
     let is = s .pre .0 in
     let left = some t s in
     let y = c .image-at .ensures in
-    let walk = walk-image _ _ _ _ (s .pre .1 .2) (eight t (c .before)) _ (y .read) _ (y .is) (y .rest) in
-    (omega arith, (s .pre .1 .0, s .pre .1 .1, rw (c .before .before .before .before .before .node-len .ensures) walk, omega (arith, s .pre .1 .3)))
+    let walk = walk-image _ _ _ _ (s .pre .1 .1) (eight t (c .before)) _ (y .read) _ (y .is) (y .rest) in
+    (omega arith, (s .pre .1 .0, rw (c .before .before .before .before .before .node-len .ensures) walk))
 
 stand-returns-6 : (t : ℕ) → stand-lts.Need-returns-6 (stand-uses t) (stand-at t) stand.Post
 stand-returns-6 t c =
@@ -223,13 +223,13 @@ stand-all-alone-requires : (t : ℕ) → stand-all-lts.Need-alone-requires (stan
 stand-all-alone-requires t c κs = search needs
 
 stand-all-loop-holds : (t : ℕ) → stand-all-lts.Need-loop-holds (stand-all-uses t) (stand-all-at t) stand-all.Post stand-all-Inv-loop stand-all-μ-loop
-stand-all-loop-holds t c = (c .before .before .pre .1 .2, rw (c .alone .ensures) (sofar-none _ (c .before .before .args .z) (c .before .before .args .branches) (c .before .before .args .at) (c .before .before .args .count)))
+stand-all-loop-holds t c = (c .before .before .pre .1 .1, rw (c .alone .ensures) (sofar-none _ (c .before .before .args .z) (c .before .before .args .branches) (c .before .before .args .at) (c .before .before .args .count)))
 
 stand-all-stand-requires : (t : ℕ) → stand-all-lts.Need-stand-requires (stand-all-uses t) (stand-all-at t) stand-all.Post stand-all-Inv-loop stand-all-μ-loop
 stand-all-stand-requires t c κs =
     let s = c .before .before .before .before in
     let is = s .pre .0 in
-    (omega arith, (s .pre .1 .0, s .pre .1 .1, walk-first _ _ _ _ _ (c .loop-test .taken) (c .before .loop .inv .0), s .pre .1 .3))
+    (omega arith, (s .pre .1 .0, walk-first _ _ _ _ _ (c .loop-test .taken) (c .before .loop .inv .0)))
 
 stand-all-joined-requires : (t : ℕ) → stand-all-lts.Need-joined-requires (stand-all-uses t) (stand-all-at t) stand-all.Post stand-all-Inv-loop stand-all-μ-loop
 stand-all-joined-requires t c κs = search needs
