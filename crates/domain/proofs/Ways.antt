@@ -5,30 +5,30 @@ use native.Mathlib.Omega.{arith}
 use mathlib.Core.Bool.{Bool, true, false, _&&_}
 use mathlib.Core.List.{List}
 use lib.ListN.{length}
-use lib.IntN.{natAbs}
+use lib.IntN.{ℤ, natAbs}
 use lib.Dec.{eqb}
 use borrow.Author.Tests.{eqb-true}
 use Rattle.alpha.specs.declared.Int.{Int}
 use Rattle.alpha.specs.Field.{field}
-use Rattle.alpha.specs.Sheet.{Node, Expr, Sheet, Point, Head}
-use Rattle.alpha.specs.Sheet.{Node.nVar, Node.nInt, Node.nBool}
-use Rattle.alpha.specs.Sheet.{Expr.var, Expr.int, Expr.boo, Expr.un, Expr.bin, Expr.ite, Expr.kase, Expr.restr, Expr.dep}
+use Rattle.alpha.specs.Sheet.{Expr, Expr.var, Expr.int, Expr.boo, Expr.restr, Sheet, Point, Head}
 use Rattle.alpha.specs.Affine.{meetsAll, image}
-use Rattle.alpha.specs.Read.{got, node, dimension}
+use Rattle.alpha.specs.Read.{dimension}
 use Rattle.alpha.specs.Shape.{fits, allFit}
 use Rattle.alpha.specs.Holds.{holds, clashes}
-use Rattle.laws.specs.At.{codeNumber, nodeLen, At}
+use Rattle.laws.specs.At.{codeOf, nodeRead, nodeEnd, At}
 use Rattle.laws.specs.Children.{childrenOf, arity}
 use Rattle.laws.specs.Sheets.{headsOf, varsOf, sheetOf}
 use Rattle.laws.proofs.Tests.{&&-left, &&-right}
 use Rattle.laws.proofs.Readers.{counted-is}
-use Rattle.laws.proofs.Nodes.{node-next}
-use Rattle.laws.proofs.Shapes.{DepAt, RestrAt, MoreAt, at-var, at-kase, at-dep, at-restr, allAt-none}
+use Rattle.laws.proofs.Shapes.{DepAt, RestrAt, MoreAt, at-var, at-int, at-boo, allAt-none}
 use Rattle.affine.specs.declared.Map.{Map}
 use Rattle.affine.specs.Value.{pointOf, mapOf}
 use Rattle.affine.specs.Reading.{MapRead}
 use Rattle.affine.proofs.Meaning.{height-length, width-cols}
+use Rattle.tree.specs.declared.Class.the-variants.{Operator, Case, Restriction, Dependence}
+use Rattle.tree.specs.Classes.{classAt}
 use Rattle.tree.specs.Ends.{EndsAt}
+use Rattle.tree.proofs.Classes.{operator-at, case-at, restriction-at, dependence-at, coded-field}
 use Rattle.tree.proofs.Standings.{children-at, children-counted, one-more}
 use Rattle.domain.specs.declared.Standing.{Standing}
 use Rattle.domain.specs.declared.Standing.the-variants.{Not, Holds}
@@ -37,47 +37,34 @@ use Rattle.domain.specs.Standing.{standing, joined, alone, together, Sta
 use Rattle.domain.specs.Constraints.{restrictionMet}
 use Rattle.domain.proofs.Standings.{joined-alone, joined-assoc, alone-joined, operands-stand, branches-stand, restriction-stands}
 use Rattle.domain.proofs.Standings.{restriction-not, dependence-stands}
-use Rattle.domain.proofs.Walks.{tree-code, code-field, children-fit}
+use Rattle.domain.proofs.Walks.{SamePoint, children-fit}
 use Rattle.domain.proofs.Restrictions.{restriction-says}
 
 -- ---- leaves
 
-leaf-end : (vars : ℕ) (bs : List ℕ) (e : Expr) (p q : ℕ) → At e vars bs p q → codeNumber e ≤ 2 → p + nodeLen bs p ≡ q
-unfolding At
-leaf-end vars bs (var v) p q h l = sym (node-next vars bs p (nVar v) q h)
-leaf-end vars bs (int c) p q h l = sym (node-next vars bs p (nInt c) q h)
-leaf-end vars bs (boo b) p q h l = sym (node-next vars bs p (nBool b) q h)
-leaf-end vars bs (un o a) p q h l = absurd (omega arith)
-leaf-end vars bs (bin o a b) p q h l = absurd (omega arith)
-leaf-end vars bs (ite a b c) p q h l = absurd (omega arith)
-leaf-end vars bs (kase es) p q h l = absurd (omega arith)
-leaf-end vars bs (restr d cs a) p q h l = absurd (omega arith)
-leaf-end vars bs (dep f a) p q h l = absurd (omega arith)
-
 -- a constant holds at the one point of dimension 0
-constant-stands : (s : Sheet) (hs : List Head) (z : List Int) (e : Expr) (n : ℕ) → 1 ≤ codeNumber e → codeNumber e ≤ 2 → fits e hs n ≡ true →
-    Holds ≡ standing e s (pointOf n z)
+integer-stands : (s : Sheet) (hs : List Head) (z : List Int) (c : ℤ) (n : ℕ) → fits (int c) hs n ≡ true → Holds ≡ standing (int c) s (pointOf n z)
 unfolding fits holds clashes
-constant-stands s hs z (var v) n l h f = absurd (omega arith)
-constant-stands s hs z (int c) n l h f = rw (← eqb-true 0 n f) refl
-constant-stands s hs z (boo b) n l h f = rw (← eqb-true 0 n f) refl
-constant-stands s hs z (un o a) n l h f = absurd (omega arith)
-constant-stands s hs z (bin o a b) n l h f = absurd (omega arith)
-constant-stands s hs z (ite a b c) n l h f = absurd (omega arith)
-constant-stands s hs z (kase es) n l h f = absurd (omega arith)
-constant-stands s hs z (restr d cs a) n l h f = absurd (omega arith)
-constant-stands s hs z (dep g a) n l h f = absurd (omega arith)
+integer-stands s hs z c n f = rw (← eqb-true 0 n f) refl
 
-module _ (bs : List ℕ) (p k : ℕ) (z : List Int) (long : k ≡ nodeLen bs p) where
-  ends : (e : Expr) (q : ℕ) → At e (varsOf bs) bs p q → natAbs (field bs p) ≤ 2 → p + k ≡ q
-  ends e q h l = rw long (leaf-end (varsOf bs) bs e p q h (omega (arith, tree-code bs p e q h)))
+boolean-stands : (s : Sheet) (hs : List Head) (z : List Int) (b : ℕ) (n : ℕ) → fits (boo b) hs n ≡ true → Holds ≡ standing (boo b) s (pointOf n z)
+unfolding fits holds clashes
+boolean-stands s hs z b n f = rw (← eqb-true 0 n f) refl
 
-  pub variable-way : (v : ℕ) (how : Standing) → natAbs (field bs p) < 1 → v ≡ natAbs (field bs (p + 8)) →
-      how ≡ standing (var v) (sheetOf bs) (pointOf (dimension (headsOf bs) v) z) → StandsAt bs p z (record { how = how; next = p + k })
+module _ (bs : List ℕ) (p : ℕ) (z : List Int) where
+  -- a leaf that stands so ends with its node
+  abbrev LeafStands : Standing → Type 0
+  LeafStands how = StandsAt bs p z (record { how = how; next = nodeEnd (varsOf bs) bs p })
+
+  abbrev Coded : ℕ → Type 0
+  Coded code = codeOf (nodeRead (varsOf bs) bs p) ≡ code
+
+  pub variable-way : (v : ℕ) (how : Standing) → Coded 0 → v ≡ natAbs (field bs (p + 8)) →
+      how ≡ standing (var v) (sheetOf bs) (pointOf (dimension (headsOf bs) v) z) → LeafStands how
   variable-way v how code number is e q n h f =
-      let x = at-var (varsOf bs) bs e p q h (code-field bs p e q 0 h (omega arith)) in
+      let x = at-var (varsOf bs) bs e p q h (coded-field bs e p q h 0 code) in
       let same : v ≡ x .number = number ∙ sym (counted-is (x .stands)) in (
-        ends e q h (omega arith),
+        x .end,
         is ∙ ap (λ i. standing (var i) (sheetOf bs) (pointOf (dimension (headsOf bs) i) z)) same
             ∙ ap (λ d. standing (var (x .number)) (sheetOf bs) (pointOf d z)) (wide (x .number) (rw (x .is) at f))
             ∙ ap (λ t. standing t (sheetOf bs) (pointOf n z)) (sym (x .is)),
@@ -86,45 +73,47 @@ module _ (bs : List ℕ) (p k : ℕ) (z : List Int) (long : k ≡ nodeLen bs p) 
       wide : (v : ℕ) → fits (var v) (headsOf bs) n ≡ true → dimension (headsOf bs) v ≡ n
       wide v g = unfold fits in eqb-true (dimension (headsOf bs) v) n g
 
-  pub constant-way : 1 ≤ natAbs (field bs p) → natAbs (field bs p) < 3 → StandsAt bs p z (record { how = Holds; next = p + k })
-  constant-way l h e q n at f =
-      let c = tree-code bs p e q at in
-      (ends e q at (omega arith), constant-stands (sheetOf bs) (headsOf bs) z e n (omega arith) (omega arith) f)
+  pub integer-way : Coded 1 → LeafStands Holds
+  integer-way code e q n h f =
+      let x = at-int (varsOf bs) bs e p q h (coded-field bs e p q h 1 code) in
+      (x .end, rw (x .is) (integer-stands (sheetOf bs) (headsOf bs) z (x .value) n (rw (x .is) at f)))
 
-  -- ---- children together, where the code says that there are n
+  pub boolean-way : Coded 2 → LeafStands Holds
+  boolean-way code e q n h f =
+      let x = at-boo (varsOf bs) bs e p q h (coded-field bs e p q h 2 code) in
+      (x .end, rw (x .is) (boolean-stands (sheetOf bs) (headsOf bs) z (x .value) n (rw (x .is) at f)))
 
-  module _ (n : ℕ) (many : (nd : Node) (q : ℕ) → node (varsOf bs) bs p ≡ got nd q → n ≡ arity nd) where
-    -- a node that is no dependence stands as its children together, as branches or as operands
-    children-way : (branches : Bool) → (natAbs (field bs p) ≡ 8 → ⊥) →
+-- ---- the ways to a node's children, where the next place is k
+
+module _ (bs : List ℕ) (p k : ℕ) (z : List Int) (next : k ≡ nodeEnd (varsOf bs) bs p) where
+  -- all together, where the code has n of them
+  module _ (n : ℕ) (many : n ≡ arity (nodeRead (varsOf bs) bs p)) where
+    children-way : (branches : Bool) → SamePoint (classAt bs p) →
         ((e : Expr) (q : ℕ) → At e (varsOf bs) bs p q → (y : Point) → standing e (sheetOf bs) y ≡ together branches (childrenOf e) (sheetOf bs) y) →
-        (r : Stood) → StandTogether bs (p + k) n z branches r → StandsAt bs p z r
-    children-way branches no-map stands r t e q d h f =
-        let below = children-at (varsOf bs) bs p k n long many e q h in
-        let counted = children-counted (varsOf bs) bs p k n long many e q h in
-        let a = t (childrenOf e) q d below counted (children-fit bs p e q d h no-map f) in
+        (r : Stood) → StandTogether bs k n z branches r → StandsAt bs p z r
+    children-way branches same stands r t e q d h f =
+        let below = children-at (varsOf bs) bs p k n next many e q h in
+        let counted = children-counted (varsOf bs) bs p k n next many e q h in
+        let a = t (childrenOf e) q d below counted (children-fit bs p e q h same d f) in
         (a .0, a .1 ∙ sym (stands e q h (pointOf d z)))
 
-    -- an operator or an if
-    pub operands-way : 3 ≤ natAbs (field bs p) → natAbs (field bs p) ≤ 5 → (r : Stood) → StandTogether bs (p + k) n z false r → StandsAt bs p z r
-    operands-way low high = children-way false (λ c. absurd (omega arith)) (λ e q h y.
-        let code = tree-code bs p e q h in
-        operands-stand (sheetOf bs) y e (omega arith) (omega arith))
+    pub operands-way : classAt bs p ≡ Operator → (r : Stood) → StandTogether bs k n z false r → StandsAt bs p z r
+    operands-way class-is = children-way false (rw class-is tt) (λ e q h y. operands-stand (sheetOf bs) y e (operator-at bs e p q h class-is .class-is))
 
-    -- a case
-    pub branches-way : natAbs (field bs p) ≡ 6 → (r : Stood) → StandTogether bs (p + k) n z true r → StandsAt bs p z r
-    branches-way code = children-way true (λ c. absurd (omega arith)) (λ e q h y.
-        let x = at-kase (varsOf bs) bs e p q h (code-field bs p e q 6 h code) in
+    pub branches-way : classAt bs p ≡ Case → (r : Stood) → StandTogether bs k n z true r → StandsAt bs p z r
+    branches-way class-is = children-way true (rw class-is tt) (λ e q h y.
+        let x = case-at bs e p q h class-is in
         subst (λ t. standing t (sheetOf bs) y ≡ together true (childrenOf t) (sheetOf bs) y) (sym (x .is)) (branches-stand (sheetOf bs) y (x .branches)))
 
   -- a dependence, whose map is m and whose image is y
-  pub image-way : (m : Map) (y : List Int) (r : Stood) → natAbs (field bs p) ≡ 8 → MapRead bs (p + 8) m →
+  pub image-way : (m : Map) (y : List Int) (r : Stood) → classAt bs p ≡ Dependence → MapRead bs (p + 8) m →
       pointOf (m .height) y ≡ image (mapOf m .rows) (pointOf (m .width) z) →
-      StandsAt bs (p + k) y r → StandsAt bs p z r
-  image-way m y r code read is t e q n h f =
-      let x = at-dep (varsOf bs) bs e p q h (code-field bs p e q 8 h code) in
-      let map-is = read .is (x .by) (p + nodeLen bs p) (x .fields .read) in
+      StandsAt bs k y r → StandsAt bs p z r
+  image-way m y r class-is read is t e q n h f =
+      let x = dependence-at bs e p q h class-is in
+      let map-is = read .is (x .by) (x .fields .next) (x .fields .read) in
       let g = fit-below (x .by .cols) (fits (x .child) (headsOf bs) (length (x .by .rows))) (parts x) in
-      let a = t (x .child) q (length (x .by .rows)) (rw long (x .below)) (g .1) in
+      let a = t (x .child) q (length (x .by .rows)) (rw next (x .below)) (g .1) in
       let point : pointOf (length (x .by .rows)) y ≡ image (x .by .rows) (pointOf n z) =
       rw (height-length m map-is, width-cols m map-is, g .0) at (is ∙ ap (λ w. image (w .rows) (pointOf (m .width) z)) map-is) in (
         a .0,
@@ -140,10 +129,10 @@ module _ (bs : List ℕ) (p k : ℕ) (z : List Int) (long : k ≡ nodeLen bs p) 
       fit-below c b g = (eqb-true c n (&&-left (eqb c n) b g), &&-right (eqb c n) b g)
 
   -- a restriction, whose constraints hold or not
-  module _ (code : natAbs (field bs p) ≡ 7) (met : Bool) (is : met ≡ restrictionMet bs p z) where
+  module _ (class-is : classAt bs p ≡ Restriction) (met : Bool) (is : met ≡ restrictionMet bs p z) where
     module _ (e : Expr) (q n : ℕ) (h : At e (varsOf bs) bs p q) (f : fits e (headsOf bs) n ≡ true) where
       here : RestrAt e (varsOf bs) bs p q
-      here = at-restr (varsOf bs) bs e p q h (code-field bs p e q 7 h code)
+      here = restriction-at bs e p q h class-is
 
       parts : eqb (here .dim) n && fits (here .child) (headsOf bs) n ≡ true
       unfolding fits
@@ -159,25 +148,20 @@ module _ (bs : List ℕ) (p k : ℕ) (z : List Int) (long : k ≡ nodeLen bs p) 
       back : standing (restr (here .dim) (here .given) (here .child)) (sheetOf bs) (pointOf n z) ≡ standing e (sheetOf bs) (pointOf n z)
       back = ap (λ t. standing t (sheetOf bs) (pointOf n z)) (sym (here .is))
 
-    pub restriction-way : (r : Stood) → met ≡ true → StandsAt bs (p + k) z r → StandsAt bs p z r
+    pub restriction-way : (r : Stood) → met ≡ true → StandsAt bs k z r → StandsAt bs p z r
     restriction-way r held t e q n h f =
         let x = here e q n h f in
         let g = &&-right (eqb (x .dim) n) (fits (x .child) (headsOf bs) n) (parts e q n h f) in
-        let a = t (x .child) q n (subst (λ i. At (x .child) (varsOf bs) bs (p + i) q) (sym long) (x .below)) g in
+        let a = t (x .child) q n (subst (λ i. At (x .child) (varsOf bs) bs i q) (sym next) (x .below)) g in
         (a .0, a .1 ∙ sym (restriction-stands (sheetOf bs) (pointOf n z) (x .dim) (x .given) (x .child) (sym (met-is e q n h f) ∙ held)) ∙ back e q n h f)
 
-    pub restriction-off-way : (next : ℕ) → met ≡ false → EndsAt (varsOf bs) bs p next →
-        StandsAt bs p z (record { how = Not; next = next })
-    restriction-off-way next fails skipped e q n h f =
-        let x = here e q n h f in
-        (skipped e q h, sym (restriction-not (sheetOf bs) (pointOf n z) (x .dim) (x .given) (x .child) (sym (met-is e q n h f) ∙ fails)) ∙ back e q n h f)
-
--- a restriction ends where its child does
-pub restriction-ends : (bs : List ℕ) (p k next : ℕ) → k ≡ nodeLen bs p → natAbs (field bs p) ≡ 7 → EndsAt (varsOf bs) bs (p + k) next →
-    EndsAt (varsOf bs) bs p next
-restriction-ends bs p k next long code ends e q h =
-    let x = at-restr (varsOf bs) bs e p q h (code-field bs p e q 7 h code) in
-    ends (x .child) q (rw long (x .below))
+    -- below one whose constraints do not hold nothing is asked: it ends where its child does
+    pub restriction-off-way : (end : ℕ) → met ≡ false → EndsAt (varsOf bs) bs k end → StandsAt bs p z (record { how = Not; next = end })
+    restriction-off-way end fails ends e q n h f =
+        let x = here e q n h f in (
+          ends (x .child) q (subst (λ i. At (x .child) (varsOf bs) bs i q) (sym next) (x .below)),
+          sym (restriction-not (sheetOf bs) (pointOf n z) (x .dim) (x .given) (x .child) (sym (met-is e q n h f) ∙ fails)) ∙ back e q n h f,
+        )
 
 -- ---- so many trees
 

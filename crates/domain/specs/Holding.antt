@@ -6,8 +6,6 @@ use mathlib.Core.Bool.{Bool, true, false}
 use mathlib.Core.List.{List}
 use mathlib.Core.Option.{Option, some}
 use mathlib.Core.Option as Option
-use lib.IntN.{natAbs}
-use Rattle.alpha.specs.Field.{field}
 use Rattle.alpha.specs.Pick.{ifb}
 use Rattle.alpha.specs.declared.Int.{Int}
 use Rattle.alpha.specs.Sheet.{Expr, Expr.kase, Exprs, Exprs.none, Exprs.more, Sheet, Point}
@@ -17,6 +15,8 @@ use Rattle.alpha.specs.Written.{branchCount}
 use Rattle.laws.specs.At.{At, AllAt}
 use Rattle.laws.specs.Sheets.{headsOf, varsOf, sheetOf}
 use Rattle.affine.specs.Value.{pointOf}
+use Rattle.tree.specs.declared.Class.the-variants.{Case}
+use Rattle.tree.specs.Classes.{classAt}
 use Rattle.tree.specs.Ends.{EndsKept}
 use Rattle.domain.specs.declared.Standing.{Standing}
 use Rattle.domain.specs.declared.Standing.the-variants.{Not, Holds, Clash}
@@ -58,7 +58,7 @@ pub record Choosing (bs tab inside ends : List ℕ) (p left : ℕ) (z : List Int
   pub grounds : Grounds bs tab inside
   pub kept : EndsKept bs ends
   pub held : Held bs p left z
-  pub is-case : natAbs (field bs p) ≡ 6
+  pub is-case : classAt bs p ≡ Case
 
 -- r is the place of the tree that is taken at z of the trees es, of dimension n: the first that holds
 pub record Taken (bs : List ℕ) (es : Exprs) (n : ℕ) (z : List Int) (r : ℕ) : Type 0 where

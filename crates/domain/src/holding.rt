@@ -4,9 +4,10 @@ use super::Standing;
 use super::stand::stand;
 use alpha::Int;
 use tree::ends::end_of;
-use tree::node::natural;
+use tree::node::children;
+use tree::node::node_end;
 ghost use mathlib.Core.Path.{_≡_};
-ghost use Prim.Native.Nat.{_+_, _-_};
+ghost use Prim.Native.Nat.{_-_};
 ghost use Rattle.domain.specs.Walk.{Grounds, Walk};
 ghost use Rattle.domain.specs.Holding.{isHeld, HoldsAt, Picked, Choosing, Chooses};
 
@@ -59,8 +60,8 @@ pub fn holding(
     ensures { λ r. ⌜ Chooses (now (s .entry)) at (left - 1) z r ⌝ }
 {
     let n = left - 1;
-    let mut more = natural(s, at + 8) - 1;
-    let mut spared = at + 16;
+    let mut more = children(s, at) - 1;
+    let mut spared = node_end(s, at);
     let mut next = end_of(s, ends, spared, n);
     let mut size = next - spared;
     while more > 0 {

@@ -4,11 +4,13 @@ use super::Stood;
 use super::constraint::restriction_meets;
 use super::join::alone;
 use super::join::joined;
-use super::leaf::tip_stands;
+use super::leaf::leaf_stands;
 use alpha::Int;
+use tree::Class;
 use tree::node::children;
-use tree::node::natural;
-use tree::node::node_len;
+use tree::node::class_of;
+use tree::node::node_end;
+use tree::skip::skip;
 ghost use Rattle.domain.specs.Walk.{Grounds, Walk, WalkAll};
 ghost use Rattle.domain.specs.Standing.{StandsAt, StandTogether};
 
@@ -24,31 +26,29 @@ pub fn stand(
     requires { ⌜ Grounds (now s) (now tab) (now inside) × Walk (now s) at left z ⌝ }
     ensures { λ r. ⌜ StandsAt (now (s .entry)) at z r ⌝ }
 {
-    let code = natural(s, at);
-    let first = at + node_len(s, at);
-    if code < 3 {
-        return Stood {
-            how: tip_stands(s, tab, inside, at, z),
-            next: first,
-        };
-    }
-    if code < 6 {
-        return stand_all(s, tab, inside, first, left - 1, z, children(s, at), false);
-    }
-    if code == 6 {
-        return stand_all(s, tab, inside, first, left - 1, z, children(s, at), true);
-    }
-    if code == 7 {
-        if restriction_meets(s, at, z) {
-            return stand(s, tab, inside, first, left - 1, z);
+    let class = class_of(s, at);
+    let next = node_end(s, at);
+    match class {
+        Class::Leaf => {
+            let how = leaf_stands(s, tab, inside, at, z);
+            Stood { how, next }
         }
-        return Stood {
-            how: Standing::Not,
-            next: tree::skip::skip(s, first, left - 1),
-        };
+        Class::Operator => stand_all(s, tab, inside, next, left - 1, z, children(s, at), false),
+        Class::Case => stand_all(s, tab, inside, next, left - 1, z, children(s, at), true),
+        Class::Restriction => {
+            if restriction_meets(s, at, z) {
+                return stand(s, tab, inside, next, left - 1, z);
+            }
+            Stood {
+                how: Standing::Not,
+                next: skip(s, next, left - 1),
+            }
+        }
+        Class::Dependence => {
+            let y = affine::image_at(s, at + 8, z);
+            stand(s, tab, inside, next, left - 1, y)
+        }
     }
-    let y = affine::image_at(s, at + 8, z);
-    stand(s, tab, inside, first, left - 1, y)
 }
 
 // How `count` trees, the branches of a case or operands, stand together at z.

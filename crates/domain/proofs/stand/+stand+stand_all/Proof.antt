@@ -11,10 +11,10 @@ use Rattle.affine.proofs.image_at.Reads as image-at-reads
 use Rattle.domain.proofs.constraint.restriction_meets.Reads as restriction-meets-reads
 use Rattle.domain.proofs.join.alone.Reads as alone-reads
 use Rattle.domain.proofs.join.joined.Reads as joined-reads
-use Rattle.domain.proofs.leaf.tip_stands.Reads as tip-stands-reads
+use Rattle.domain.proofs.leaf.leaf_stands.Reads as leaf-stands-reads
 use Rattle.tree.proofs.node.children.Reads as children-reads
-use Rattle.tree.proofs.node.natural.Reads as natural-reads
-use Rattle.tree.proofs.node.node_len.Reads as node-len-reads
+use Rattle.tree.proofs.node.class_of.Reads as class-of-reads
+use Rattle.tree.proofs.node.node_end.Reads as node-end-reads
 use Rattle.tree.proofs.skip.skip.Reads as skip-reads
 use Rattle.domain.proofs.stand.+stand+stand_all.{statement}
 use Rattle.domain.proofs.stand.+stand+stand_all.Tie.{close}
@@ -22,17 +22,17 @@ use Prim.Native.Nat.{ℕ, _+_, _*_, _-_, _≤_, _<_}
 use mathlib.Core.Path.{_≡_, sym, _∙_}
 use native.Mathlib.Omega.{arith}
 use borrow.Author.Needs.{needs}
-use lib.IntN.{natAbs}
-use Rattle.alpha.specs.Field.{field}
 use Rattle.laws.specs.Sheets.{varsOf}
-use Rattle.laws.proofs.Shapes.{code-high}
+use Rattle.tree.specs.declared.Class.{Class}
+use Rattle.tree.specs.declared.Class.the-variants.{Restriction, Dependence}
+use Rattle.tree.specs.Classes.{classAt}
 use Rattle.tree.specs.Standing.{Noded}
-use Rattle.tree.proofs.Noding.{code-there, wide-fields}
-use Rattle.tree.proofs.Standings.{standing-noded, standing-some, standing-there}
-use Rattle.domain.specs.Walk.{WalkAll}
-use Rattle.domain.proofs.Walks.{tree-code, walk-standing, walk-children, map-stands, image-fits, walk-image, walk-first, walk-rest}
+use Rattle.tree.proofs.Classes.{code-there}
+use Rattle.tree.proofs.Standings.{standing-noded, standing-some}
+use Rattle.domain.specs.Walk.{Walk, WalkAll}
+use Rattle.domain.proofs.Walks.{walk-standing, walk-children, map-stands, image-fits, walk-image, walk-first, walk-rest}
 use Rattle.domain.proofs.Restrictions.{restriction-testable, restriction-walk}
-use Rattle.domain.proofs.Ways.{operands-way, branches-way, restriction-way, restriction-off-way, restriction-ends, image-way}
+use Rattle.domain.proofs.Ways.{operands-way, branches-way, restriction-way, restriction-off-way, image-way}
 use Rattle.domain.proofs.Ways.{SoFar, sofar-none, sofar-more, sofar-all}
 
 abbrev μ-stand : Measures 3 stand-kinds.ps ℕ
@@ -55,7 +55,7 @@ stand-all-below t =
     and 3 stand-all-kinds.ps (falls 3 stand-all-kinds.ps _<_ μ-stand-all t) stand-all.Pre
 
 abbrev stand-uses : ℕ → stand-lts.Claims
-stand-uses t = (natural-reads.Asked, natural-reads.Learnt, node-len-reads.Asked, node-len-reads.Learnt, tip-stands-reads.Asked, tip-stands-reads.Learnt, children-reads.Asked, children-reads.Learnt, stand-all-below t, stand-all.Post, restriction-meets-reads.Asked, restriction-meets-reads.Learnt, stand-below t, stand.Post, skip-reads.Asked, skip-reads.Learnt, image-at-reads.Asked, image-at-reads.Learnt)
+stand-uses t = (class-of-reads.Asked, class-of-reads.Learnt, node-end-reads.Asked, node-end-reads.Learnt, leaf-stands-reads.Asked, leaf-stands-reads.Learnt, children-reads.Asked, children-reads.Learnt, stand-all-below t, stand-all.Post, restriction-meets-reads.Asked, restriction-meets-reads.Learnt, stand-below t, stand.Post, skip-reads.Asked, skip-reads.Learnt, image-at-reads.Asked, image-at-reads.Learnt)
 
 abbrev stand-all-uses : ℕ → stand-all-lts.Claims
 stand-all-uses t = (alone-reads.Asked, alone-reads.Learnt, stand-below t, stand.Post, joined-reads.Asked, joined-reads.Learnt)
@@ -65,153 +65,163 @@ stand-all-uses t = (alone-reads.Asked, alone-reads.Learnt, stand-below t, stand.
 noded : (t : ℕ) (c : stand-lts.Start (stand-uses t) (stand-at t) stand.Post) → Noded (varsOf (c .args .s .now)) (c .args .s .now) (c .args .at)
 noded t c = standing-noded _ _ _ _ (walk-standing _ _ _ _ (c .pre .1 .1))
 
--- there is a node left
-some : (t : ℕ) (c : stand-lts.Start (stand-uses t) (stand-at t) stand.Post) → 1 ≤ c .args .left
-some t c = standing-some _ _ _ _ (walk-standing _ _ _ _ (c .pre .1 .1))
+stand-class-of-requires : (t : ℕ) → stand-lts.Need-class-of-requires (stand-uses t) (stand-at t) stand.Post
+stand-class-of-requires t c κs = noded t (c .before)
 
-stand-natural-requires : (t : ℕ) → stand-lts.Need-natural-requires (stand-uses t) (stand-at t) stand.Post
-stand-natural-requires t c κs = code-there _ _ _ (noded t (c .before))
+stand-node-end-requires : (t : ℕ) → stand-lts.Need-node-end-requires (stand-uses t) (stand-at t) stand.Post
+stand-node-end-requires t c κs = noded t (c .before .before)
 
-stand-node-len-requires : (t : ℕ) → stand-lts.Need-node-len-requires (stand-uses t) (stand-at t) stand.Post
-stand-node-len-requires t c κs = noded t (c .before .before)
+-- where the class of the node was told, and the place after it
+module _ (t : ℕ) (c : stand-lts.After-node-end (stand-uses t) (stand-at t) stand.Post) where
+  abbrev from : stand-lts.Start (stand-uses t) (stand-at t) stand.Post
+  from = c .before .before .before
 
-stand-add-first : (t : ℕ) → stand-lts.Need-add-first (stand-uses t) (stand-at t) stand.Post
-stand-add-first t c = omega (arith, standing-there _ _ _ _ (walk-standing _ _ _ _ (c .before .before .before .pre .1 .1)), c .node-len .ensures)
+  abbrev walk : Walk (from .args .s .now) (from .args .at) (from .args .left) (from .args .z)
+  walk = from .pre .1 .1
 
-stand-tip-stands-requires : (t : ℕ) → stand-lts.Need-tip-stands-requires (stand-uses t) (stand-at t) stand.Post
-stand-tip-stands-requires t c κs =
-    let s = c .before .before .before .before in
-    let code = c .before .before .natural .ensures in
-    (s .pre .1 .0, noded t s, omega (arith, c .if1 .taken))
+  is-class : (class : Class) → c .before .class-of .result ≡ class → classAt (from .args .s .now) (from .args .at) ≡ class
+  is-class class told = sym (c .before .class-of .ensures) ∙ told
 
-stand-returns : (t : ℕ) → stand-lts.Need-returns (stand-uses t) (stand-at t) stand.Post
-stand-returns t c = rw (c .before .before .node-len .ensures) (c .tip-stands .ensures)
+  -- there is a node left
+  some : 1 ≤ from .args .left
+  some = standing-some _ _ _ _ (walk-standing _ _ _ _ walk)
+
+stand-enum-told : (t : ℕ) → stand-lts.Need-enum-told (stand-uses t) (stand-at t) stand.Post
+stand-enum-told t c = search needs
+
+stand-leaf-stands-requires : (t : ℕ) → stand-lts.Need-leaf-stands-requires (stand-uses t) (stand-at t) stand.Post
+stand-leaf-stands-requires t c κs =
+    let here = c .before .before in
+    (from t here .pre .1 .0, record { noded = noded t (from t here); class-is = is-class t here _ (c .enum-told .given .1) })
+
+stand-enum-told-2 : (t : ℕ) → stand-lts.Need-enum-told-2 (stand-uses t) (stand-at t) stand.Post
+stand-enum-told-2 t c = search needs
 
 stand-sub-stand-all : (t : ℕ) → stand-lts.Need-sub-stand-all (stand-uses t) (stand-at t) stand.Post
-stand-sub-stand-all t c = omega (arith, some t (c .before .before .before .before .before))
+stand-sub-stand-all t c = omega (arith, some t (c .before .before))
 
 stand-children-requires : (t : ℕ) → stand-lts.Need-children-requires (stand-uses t) (stand-at t) stand.Post
 stand-children-requires t c κs = noded t (c .before .before .before .before .before)
 
 stand-stand-all-requires : (t : ℕ) → stand-lts.Need-stand-all-requires (stand-uses t) (stand-at t) stand.Post
 stand-stand-all-requires t c κs =
-    let s = c .before .before .before .before .before .before in
-    let is = s .pre .0 in
-    let left = some t s in
-    let code = c .before .before .before .before .natural .ensures in
-    let children = walk-children _ _ _ _ (s .pre .1 .1) _ _ (c .before .before .before .node-len .ensures) (c .children .ensures)
-    (λ e. omega (arith, c .before .if2 .taken)) in
-    (omega arith, (s .pre .1 .0, children))
+    let here = c .before .before .before in
+    let left = some t here in
+    let is = from t here .pre .0 in
+    let operator = is-class t here _ (c .before .enum-told2 .given .1) in
+    (omega arith, (from t here .pre .1 .0, walk-children _ _ _ _ (walk t here) _ _ (here .node-end .ensures) (c .children .ensures) (rw operator tt)))
 
-stand-returns-2 : (t : ℕ) → stand-lts.Need-returns-2 (stand-uses t) (stand-at t) stand.Post
-stand-returns-2 t c =
-    let s = c .before .before .before .before .before .before .before in
-    let code = c .before .before .before .before .before .natural .ensures in
-    operands-way _ _ _ (s .args .z) (c .before .before .before .before .node-len .ensures) _ (c .before .children .ensures)
-    (omega (arith, c .before .before .before .if1 .left)) (omega (arith, c .before .before .if2 .taken)) _ (c .stand-all .ensures)
-
-six : (t : ℕ) (c : stand-lts.Then3 (stand-uses t) (stand-at t) stand.Post) →
-    let s = c .before .before .before .before .before .before in
-    natAbs (field (s .args .s .now) (s .args .at)) ≡ 6
-six t c = sym (c .before .before .before .before .natural .ensures) ∙ c .if3 .taken
+stand-enum-told-3 : (t : ℕ) → stand-lts.Need-enum-told-3 (stand-uses t) (stand-at t) stand.Post
+stand-enum-told-3 t c = search needs
 
 stand-sub-stand-all-2 : (t : ℕ) → stand-lts.Need-sub-stand-all-2 (stand-uses t) (stand-at t) stand.Post
-stand-sub-stand-all-2 t c = omega (arith, some t (c .before .before .before .before .before .before))
+stand-sub-stand-all-2 t c = omega (arith, some t (c .before .before))
 
 stand-children-requires-2 : (t : ℕ) → stand-lts.Need-children-requires-2 (stand-uses t) (stand-at t) stand.Post
-stand-children-requires-2 t c κs = noded t (c .before .before .before .before .before .before)
+stand-children-requires-2 t c κs = noded t (c .before .before .before .before .before)
 
 stand-stand-all-requires-2 : (t : ℕ) → stand-lts.Need-stand-all-requires-2 (stand-uses t) (stand-at t) stand.Post
 stand-stand-all-requires-2 t c κs =
-    let s = c .before .before .before .before .before .before .before in
-    let is = s .pre .0 in
-    let left = some t s in
-    let code = six t (c .before) in
-    let children = walk-children _ _ _ _ (s .pre .1 .1) _ _ (c .before .before .before .before .node-len .ensures) (c .children2 .ensures) (λ e. omega arith) in
-    (omega arith, (s .pre .1 .0, children))
+    let here = c .before .before .before in
+    let left = some t here in
+    let is = from t here .pre .0 in
+    let case = is-class t here _ (c .before .enum-told3 .given .1) in
+    (omega arith, (from t here .pre .1 .0, walk-children _ _ _ _ (walk t here) _ _ (here .node-end .ensures) (c .children2 .ensures) (rw case tt)))
 
-stand-returns-3 : (t : ℕ) → stand-lts.Need-returns-3 (stand-uses t) (stand-at t) stand.Post
-stand-returns-3 t c =
-    let s = c .before .before .before .before .before .before .before .before in
-    branches-way _ _ _ (s .args .z) (c .before .before .before .before .before .node-len .ensures) _ (c .before .children2 .ensures) (six t (c .before .before)) _ (c .stand-all2 .ensures)
+stand-enum-told-4 : (t : ℕ) → stand-lts.Need-enum-told-4 (stand-uses t) (stand-at t) stand.Post
+stand-enum-told-4 t c = search needs
 
-seven : (t : ℕ) (c : stand-lts.Then4 (stand-uses t) (stand-at t) stand.Post) →
-    let s = c .before .before .before .before .before .before .before in
-    natAbs (field (s .args .s .now) (s .args .at)) ≡ 7
-seven t c = sym (c .before .before .before .before .before .natural .ensures) ∙ c .if4 .taken
+module _ (t : ℕ) (c : stand-lts.After-enum-told4 (stand-uses t) (stand-at t) stand.Post) where
+  abbrev at-restriction : stand-lts.After-node-end (stand-uses t) (stand-at t) stand.Post
+  at-restriction = c .before .before
+
+  restriction : classAt (from t at-restriction .args .s .now) (from t at-restriction .args .at) ≡ Restriction
+  restriction = is-class t at-restriction _ (c .enum-told4 .given .1)
+
+  -- its child may be walked
+  child-walk : Walk (from t at-restriction .args .s .now) (at-restriction .node-end .result) (from t at-restriction .args .left - 1) (from t at-restriction .args .z)
+  child-walk = restriction-walk _ _ _ _ (walk t at-restriction) restriction _ (at-restriction .node-end .ensures)
 
 stand-restriction-meets-requires : (t : ℕ) → stand-lts.Need-restriction-meets-requires (stand-uses t) (stand-at t) stand.Post
-stand-restriction-meets-requires t c κs =
-    let s = c .before .before .before .before .before .before .before in
-    let code = seven t c in
-    restriction-testable _ _ _ _ (s .pre .1 .1) code (wide-fields _ _ _ (noded t s) (omega arith))
+stand-restriction-meets-requires t c κs = restriction-testable _ _ _ _ (walk t (at-restriction t c)) (restriction t c)
 
 stand-sub-stand : (t : ℕ) → stand-lts.Need-sub-stand (stand-uses t) (stand-at t) stand.Post
-stand-sub-stand t c = omega (arith, some t (c .before .before .before .before .before .before .before .before .before))
+stand-sub-stand t c = omega (arith, some t (c .before .before .before .before))
 
 stand-stand-requires : (t : ℕ) → stand-lts.Need-stand-requires (stand-uses t) (stand-at t) stand.Post
 stand-stand-requires t c κs =
-    let s = c .before .before .before .before .before .before .before .before .before in
-    let is = s .pre .0 in
-    let left = some t s in
-    let walk = restriction-walk _ _ _ _ (s .pre .1 .1) (seven t (c .before .before)) in
-    (omega arith, (s .pre .1 .0, rw (c .before .before .before .before .before .before .node-len .ensures) walk))
+    let here = c .before .before .before .before in
+    let left = some t here in
+    let is = from t here .pre .0 in
+    (omega arith, (from t here .pre .1 .0, child-walk t (c .before .before)))
 
-stand-returns-4 : (t : ℕ) → stand-lts.Need-returns-4 (stand-uses t) (stand-at t) stand.Post
-stand-returns-4 t c =
-    let s = c .before .before .before .before .before .before .before .before .before .before in
-    restriction-way _ _ _ (s .args .z) (c .before .before .before .before .before .before .before .node-len .ensures) (seven t (c .before .before .before)) _ (c .before .before .restriction-meets .ensures) _
-    (c .before .if5 .taken) (c .stand .ensures)
+stand-returns : (t : ℕ) → stand-lts.Need-returns (stand-uses t) (stand-at t) stand.Post
+stand-returns t c =
+    let here = c .before .before .before .before .before in
+    restriction-way _ _ _ (from t here .args .z) (here .node-end .ensures) (restriction t (c .before .before .before)) _
+    (c .before .before .restriction-meets .ensures) _ (c .before .if1 .taken) (c .stand .ensures)
 
 stand-sub-skip : (t : ℕ) → stand-lts.Need-sub-skip (stand-uses t) (stand-at t) stand.Post
-stand-sub-skip t c = omega (arith, some t (c .before .before .before .before .before .before .before .before .before))
+stand-sub-skip t c = omega (arith, some t (c .before .before .before .before))
 
 stand-skip-requires : (t : ℕ) → stand-lts.Need-skip-requires (stand-uses t) (stand-at t) stand.Post
-stand-skip-requires t c κs =
-    let s = c .before .before .before .before .before .before .before .before .before in
-    let walk = restriction-walk _ _ _ _ (s .pre .1 .1) (seven t (c .before .before)) in
-    (rw (c .before .before .before .before .before .before .node-len .ensures) (walk-standing _ _ _ (s .args .z) walk), omega (arith))
+stand-skip-requires t c κs = walk-standing _ _ _ _ (child-walk t (c .before .before))
 
-stand-returns-5 : (t : ℕ) → stand-lts.Need-returns-5 (stand-uses t) (stand-at t) stand.Post
-stand-returns-5 t c =
-    let s = c .before .before .before .before .before .before .before .before .before .before in
-    let long = c .before .before .before .before .before .before .before .node-len .ensures in
-    let ends = restriction-ends _ _ _ _ long (seven t (c .before .before .before)) (c .skip .ensures) in
-    restriction-off-way _ _ _ (s .args .z) long (seven t (c .before .before .before)) _ (c .before .before .restriction-meets .ensures) _ (c .before .if5 .left) ends
+stand-enum-told-5 : (t : ℕ) → stand-lts.Need-enum-told-5 (stand-uses t) (stand-at t) stand.Post
+stand-enum-told-5 t c = search needs
 
-eight : (t : ℕ) (c : stand-lts.Else4 (stand-uses t) (stand-at t) stand.Post) →
-    let s = c .before .before .before .before .before .before .before in
-    natAbs (field (s .args .s .now) (s .args .at)) ≡ 8
-eight t c =
-    let w = c .before .before .before .before .before .before .before .pre .1 .1 in
-    let code = c .before .before .before .before .before .natural .ensures in
-    omega (arith, c .before .before .if2 .left, c .before .if3 .left, c .if4 .left, tree-code _ _ _ _ (w .at), code-high (w .tree))
+dependence : (t : ℕ) (c : stand-lts.After-enum-told5 (stand-uses t) (stand-at t) stand.Post) →
+    let s = c .before .before .before .before .before in
+    classAt (s .args .s .now) (s .args .at) ≡ Dependence
+dependence t c = is-class t (c .before .before) _ (c .enum-told5 .given .1)
 
 stand-add-image-at : (t : ℕ) → stand-lts.Need-add-image-at (stand-uses t) (stand-at t) stand.Post
-stand-add-image-at t c = omega (arith, code-there _ _ _ (noded t (c .before .before .before .before .before .before .before)))
+stand-add-image-at t c = omega (arith, code-there _ _ (noded t (c .before .before .before .before .before)))
 
 stand-image-at-requires : (t : ℕ) → stand-lts.Need-image-at-requires (stand-uses t) (stand-at t) stand.Post
 stand-image-at-requires t c κs =
-    let s = c .before .before .before .before .before .before .before in
-    (map-stands _ _ _ _ (s .pre .1 .1) (eight t c), image-fits _ _ _ _ (s .pre .1 .1) (eight t c))
+    let here = c .before .before in
+    (map-stands _ _ _ _ (walk t here) (dependence t c), image-fits _ _ _ _ (walk t here) (dependence t c))
 
 stand-sub-stand-2 : (t : ℕ) → stand-lts.Need-sub-stand-2 (stand-uses t) (stand-at t) stand.Post
-stand-sub-stand-2 t c = omega (arith, some t (c .before .before .before .before .before .before .before .before))
+stand-sub-stand-2 t c = omega (arith, some t (c .before .before .before))
 
 stand-stand-requires-2 : (t : ℕ) → stand-lts.Need-stand-requires-2 (stand-uses t) (stand-at t) stand.Post
 stand-stand-requires-2 t c κs =
-    let s = c .before .before .before .before .before .before .before .before in
-    let is = s .pre .0 in
-    let left = some t s in
+    let here = c .before .before .before in
+    let left = some t here in
+    let is = from t here .pre .0 in
     let y = c .image-at .ensures in
-    let walk = walk-image _ _ _ _ (s .pre .1 .1) (eight t (c .before)) _ (y .read) _ (y .is) (y .rest) in
-    (omega arith, (s .pre .1 .0, rw (c .before .before .before .before .before .node-len .ensures) walk))
+    let dep = dependence t (c .before) in
+    (omega arith, (from t here .pre .1 .0, walk-image _ _ _ _ (walk t here) dep _ (y .read) _ (here .node-end .ensures) _ (y .is) (y .rest)))
+
+stand-returns-2 : (t : ℕ) → stand-lts.Need-returns-2 (stand-uses t) (stand-at t) stand.Post
+stand-returns-2 t c = rw (c .before .before .before .node-end .ensures) (c .leaf-stands .ensures)
+
+stand-returns-3 : (t : ℕ) → stand-lts.Need-returns-3 (stand-uses t) (stand-at t) stand.Post
+stand-returns-3 t c =
+    let here = c .before .before .before .before in
+    let operator = is-class t here _ (c .before .before .enum-told2 .given .1) in
+    operands-way _ _ _ (from t here .args .z) (here .node-end .ensures) _ (c .before .children .ensures) operator _ (c .stand-all .ensures)
+
+stand-returns-4 : (t : ℕ) → stand-lts.Need-returns-4 (stand-uses t) (stand-at t) stand.Post
+stand-returns-4 t c =
+    let here = c .before .before .before .before in
+    let case = is-class t here _ (c .before .before .enum-told3 .given .1) in
+    branches-way _ _ _ (from t here .args .z) (here .node-end .ensures) _ (c .before .children2 .ensures) case _ (c .stand-all2 .ensures)
+
+stand-returns-5 : (t : ℕ) → stand-lts.Need-returns-5 (stand-uses t) (stand-at t) stand.Post
+stand-returns-5 t c =
+    let here = c .before .before .before .before .before in
+    restriction-off-way _ _ _ (from t here .args .z) (here .node-end .ensures) (restriction t (c .before .before .before)) _
+    (c .before .before .restriction-meets .ensures) _ (c .before .if1 .left) (c .skip .ensures)
 
 stand-returns-6 : (t : ℕ) → stand-lts.Need-returns-6 (stand-uses t) (stand-at t) stand.Post
 stand-returns-6 t c =
-    let s = c .before .before .before .before .before .before .before .before .before in
+    let here = c .before .before .before .before in
     let y = c .before .image-at in
-    image-way _ _ _ (s .args .z) (c .before .before .before .before .before .before .node-len .ensures) _ (y .result) _ (eight t (c .before .before)) (y .ensures .read) (y .ensures .is) (c .stand2 .ensures)
+    image-way _ _ _ (from t here .args .z) (here .node-end .ensures) _ (y .result) _ (dependence t (c .before .before))
+    (y .ensures .read) (y .ensures .is) (c .stand2 .ensures)
 
 abbrev stand-all-Inv-loop : stand-all-lts.InvT-loop
 stand-all-Inv-loop s tab inside at left z count branches how₀ next₀ more₀ how next more = WalkAll s next left more z × SoFar s z branches at count how next more
@@ -219,11 +229,15 @@ stand-all-Inv-loop s tab inside at left z count branches how₀ next₀ more₀ 
 abbrev stand-all-μ-loop : stand-all-lts.MeasureT-loop
 stand-all-μ-loop s tab inside at left z count branches how₀ next₀ more₀ how next more = more
 
+-- ---- several trees
+
 stand-all-alone-requires : (t : ℕ) → stand-all-lts.Need-alone-requires (stand-all-uses t) (stand-all-at t) stand-all.Post stand-all-Inv-loop stand-all-μ-loop
 stand-all-alone-requires t c κs = search needs
 
 stand-all-loop-holds : (t : ℕ) → stand-all-lts.Need-loop-holds (stand-all-uses t) (stand-all-at t) stand-all.Post stand-all-Inv-loop stand-all-μ-loop
-stand-all-loop-holds t c = (c .before .before .pre .1 .1, rw (c .alone .ensures) (sofar-none _ (c .before .before .args .z) (c .before .before .args .branches) (c .before .before .args .at) (c .before .before .args .count)))
+stand-all-loop-holds t c =
+    let s = c .before .before in
+    (s .pre .1 .1, rw (c .alone .ensures) (sofar-none _ (s .args .z) (s .args .branches) (s .args .at) (s .args .count)))
 
 stand-all-stand-requires : (t : ℕ) → stand-all-lts.Need-stand-requires (stand-all-uses t) (stand-all-at t) stand-all.Post stand-all-Inv-loop stand-all-μ-loop
 stand-all-stand-requires t c κs =
@@ -247,7 +261,8 @@ stand-all-loop-again t c =
     let more = c .before .before .loop-test .taken in
     let one = c .before .stand in (
       walk-rest _ _ _ _ _ more (loop .inv .0) _ (λ e q n h f. one .ensures e q n h f .0),
-      rw (c .joined .ensures) (sofar-more _ (s .args .z) (s .args .branches) (s .args .at) (s .args .count) (loop .how) _ _ (loop .inv .1) more (one .result) (one .ensures)),
+      rw (c .joined .ensures)
+          (sofar-more _ (s .args .z) (s .args .branches) (s .args .at) (s .args .count) (loop .how) _ _ (loop .inv .1) more (one .result) (one .ensures)),
     )
 
 stand-all-returns : (t : ℕ) → stand-all-lts.Need-returns (stand-all-uses t) (stand-all-at t) stand-all.Post stand-all-Inv-loop stand-all-μ-loop
@@ -259,30 +274,34 @@ stand-all-returns t c =
 pub +stand+stand-all-spec : {M : Type 1} → statement M
 +stand+stand-all-spec = close μ-stand μ-stand-all (λ t. stand-lts.spec (stand-uses t) (stand-at t)
     stand.Post
-    (stand-natural-requires t)
-    (stand-node-len-requires t)
-    (stand-add-first t)
-    (stand-tip-stands-requires t)
-    (stand-returns t)
+    (stand-class-of-requires t)
+    (stand-node-end-requires t)
+    (stand-enum-told t)
+    (stand-leaf-stands-requires t)
+    (stand-enum-told-2 t)
     (stand-sub-stand-all t)
     (stand-children-requires t)
     (stand-stand-all-requires t)
-    (stand-returns-2 t)
+    (stand-enum-told-3 t)
     (stand-sub-stand-all-2 t)
     (stand-children-requires-2 t)
     (stand-stand-all-requires-2 t)
-    (stand-returns-3 t)
+    (stand-enum-told-4 t)
     (stand-restriction-meets-requires t)
     (stand-sub-stand t)
     (stand-stand-requires t)
-    (stand-returns-4 t)
+    (stand-returns t)
     (stand-sub-skip t)
     (stand-skip-requires t)
-    (stand-returns-5 t)
+    (stand-enum-told-5 t)
     (stand-add-image-at t)
     (stand-image-at-requires t)
     (stand-sub-stand-2 t)
     (stand-stand-requires-2 t)
+    (stand-returns-2 t)
+    (stand-returns-3 t)
+    (stand-returns-4 t)
+    (stand-returns-5 t)
     (stand-returns-6 t))
     λ t. stand-all-lts.spec (stand-all-uses t) (stand-all-at t)
     stand-all.Post
