@@ -20,6 +20,7 @@ use Rattle.laws.proofs.Boxes.{size-pos}
 use Rattle.points.specs.Number.{rangeAt, digitIn, numberFrom, numberIn}
 use Rattle.points.specs.declared.Found.{Found}
 use Rattle.points.specs.declared.Found.the-variants.{At, Off}
+use Rattle.points.proofs.Ranges.{ranges-head, ranges-tail}
 
 -- e rows of w boxes of n points, d boxes more and i points more, counted in boxes first
 pub horner : (e w d n i : ℕ) → e * (w * n) + (d * n + i) ≡ (e * w + d) * n + i
@@ -46,33 +47,6 @@ numberFrom-none box z = go (inBox box z)
 
 pub numberFrom-end : (e : ℕ) → numberFrom e [] [] ≡ At e
 numberFrom-end e = ap At (omega arith)
-
--- ---- ranges one after another
-
-pub ranges-at : (bs : List ℕ) (p n k : ℕ) → k < n → Ranges bs p n → Ranges bs (p + 16 * k) 1
-ranges-at bs p n k l h =
-    record {
-      there = omega (arith, h .there);
-      low = λ i j. rw (place i j) (h .low k l);
-      high = λ i j. rw (place i j) (h .high k l);
-    }
-  where
-    place : (i : ℕ) → i < 1 → p + 16 * k + 16 * i ≡ p + 16 * k
-    place i j = omega arith
-
-ranges-head : (bs : List ℕ) (p n : ℕ) → Ranges bs p (suc n) → Ranges bs p 1
-ranges-head bs p n h = let here : p + 16 * 0 ≡ p = omega arith in rw here at (ranges-at bs p (suc n) 0 (omega arith) h)
-
-ranges-tail : (bs : List ℕ) (p n : ℕ) → Ranges bs p (suc n) → Ranges bs (p + 16) n
-ranges-tail bs p n h =
-    record {
-      there = omega (arith, h .there);
-      low = λ i l. rw (next i) at (h .low (suc i) (omega arith));
-      high = λ i l. rw (next i) at (h .high (suc i) (omega arith));
-    }
-  where
-    next : (i : ℕ) → p + 16 * suc i ≡ p + 16 + 16 * i
-    next i = omega arith
 
 -- ---- coordinates that move up to the front of four
 
