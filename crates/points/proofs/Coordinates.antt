@@ -11,8 +11,8 @@ use Rattle.alpha.specs.Sheet.{Range}
 use Rattle.alpha.specs.Box.{side, size, pointAt}
 use Rattle.alpha.specs.declared.Int.{Int}
 use Rattle.affine.specs.Value.{pointOf, Padded}
-use Rattle.sheet.specs.Record.{boxAt}
-use Rattle.points.specs.Number.{rangeAt, PointIn}
+use Rattle.sheet.specs.Record.{rangeAt, boxAt}
+use Rattle.points.specs.Number.{PointIn}
 use Rattle.points.proofs.Steps.{horner, moved-down}
 
 -- ---- one coordinate more: the point numbered m of the others, d of their boxes further on

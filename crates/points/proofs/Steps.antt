@@ -14,13 +14,13 @@ use Rattle.alpha.specs.Box.{within, side, size, inBox, index}
 use Rattle.alpha.specs.declared.Int.{Int}
 use Rattle.affine.specs.Value.{at, pointOf}
 use Rattle.affine.proofs.Several.{several-same, below-four}
-use Rattle.sheet.specs.Record.{boxAt, Ranges}
+use Rattle.sheet.specs.Record.{rangeAt, boxAt, Ranges}
+use Rattle.sheet.proofs.Boxes.{ranges-first, ranges-rest}
 use Rattle.laws.proofs.Order.{within-among}
 use Rattle.laws.proofs.Boxes.{size-pos}
-use Rattle.points.specs.Number.{rangeAt, digitIn, numberFrom, numberIn}
+use Rattle.points.specs.Number.{digitIn, numberFrom, numberIn}
 use Rattle.points.specs.declared.Found.{Found}
 use Rattle.points.specs.declared.Found.the-variants.{At, Off}
-use Rattle.points.proofs.Ranges.{ranges-head, ranges-tail}
 
 -- e rows of w boxes of n points, d boxes more and i points more, counted in boxes first
 pub horner : (e w d n i : ℕ) → e * (w * n) + (d * n + i) ≡ (e * w + d) * n + i
@@ -117,8 +117,7 @@ module _ {bs : List ℕ} {asked : Found} {z : List Int} {p e : ℕ} where
   kept-off (suc n) l h d = sym (step-off bs p e n (at z 0) _ d) ∙ h .number
 
   pub kept-head : (n : ℕ) → 0 < n → Kept bs asked z p e n → Ranges bs p 1
-  kept-head zero l h = absurd (omega arith)
-  kept-head (suc n) l h = ranges-head bs p n (h .ranges)
+  kept-head n l h = ranges-first bs p n l (h .ranges)
 
 module _ {bs : List ℕ} {asked : Found} {x0 x1 x2 x3 : Int} {p e : ℕ} where
   more : (n i : ℕ) → Kept bs asked (x0 ∷ x1 ∷ x2 ∷ x3 ∷ []) p e (suc n) → digitIn (rangeAt bs p) (x0 .v) ≡ At i →
@@ -134,7 +133,7 @@ module _ {bs : List ℕ} {asked : Found} {x0 x1 x2 x3 : Int} {p e : ℕ} where
             ∙ ap (numberFrom e (boxAt bs p (suc n))) (sym (moved-down n x0 x1 x2 x3 x3 (omega (arith, h .few))))
             ∙ h .number;
         low = omega (arith, mul-le-mul-right rest i-low, mul-assoc (e + 1) w rest, h .low);
-        ranges = ranges-tail bs p n (h .ranges);
+        ranges = rw (sub-one (suc n)) at (ranges-rest bs p (suc n) (omega arith) (h .ranges));
         few = omega (arith, h .few);
       }
 

@@ -5,7 +5,6 @@ use mathlib.Core.Path.{_≡_}
 use mathlib.Core.List.{List}
 use lib.IntN.{ℤ, natAbs, _-ℤ_}
 use Rattle.alpha.specs.Pick.{ifb}
-use Rattle.alpha.specs.Field.{field}
 use Rattle.alpha.specs.Sheet.{Range, Point}
 use Rattle.alpha.specs.Box.{within, size, inBox, index, pointAt}
 use Rattle.alpha.specs.declared.Int.{Int}
@@ -13,10 +12,6 @@ use Rattle.affine.specs.Value.{pointOf, Padded}
 use Rattle.sheet.specs.Record.{boxAt, dimensionAt, Ranges}
 use Rattle.points.specs.declared.Found.{Found}
 use Rattle.points.specs.declared.Found.the-variants.{At, Off}
-
--- the range at p
-abbrev pub rangeAt : List ℕ → ℕ → Range
-rangeAt bs p = record { lo = field bs p; hi = field bs (p + 8) }
 
 -- the box of the record at p
 abbrev pub boxOf : List ℕ → ℕ → List Range

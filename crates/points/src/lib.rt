@@ -1,14 +1,15 @@
 // Points of boxes: the number of a point, and the point of a number, the last coordinate fastest. A box is read where its ranges stand:
 // `index_in` and `point_in` take the place of the first and how many there are, `index` and `point` a variable's record. Assumes nothing.
 use alpha::Int;
+use sheet::range::side;
 ghost use mathlib.Core.Path.{_≡_};
 ghost use Prim.Native.Nat.{_≤_, _<_};
-ghost use lib.IntN.{pos, natAbs, _+ℤ_, _-ℤ_};
-ghost use Rattle.alpha.specs.Box.{side, size};
+ghost use lib.IntN.{pos, _+ℤ_};
+ghost use Rattle.alpha.specs.Box.{size};
 ghost use Rattle.alpha.specs.Field.{field};
 ghost use Rattle.affine.specs.Value.{pointOf};
-ghost use Rattle.sheet.specs.Record.{boxAt, dimensionAt, Recorded, Ranges};
-ghost use Rattle.points.specs.Number.{rangeAt, boxOf, digitIn, numberIn, Boxed, PointIn, PointAt};
+ghost use Rattle.sheet.specs.Record.{rangeAt, boxAt, dimensionAt, Recorded, Ranges};
+ghost use Rattle.points.specs.Number.{boxOf, digitIn, numberIn, Boxed, PointIn, PointAt};
 
 // The number of a point in a box, or that it is not in the box.
 pub enum Found {
@@ -24,24 +25,6 @@ pub fn dimension(s: &[u8], place: usize) -> usize
     integer::to_usize(integer::number_at(s, place + 24))
 }
 
-// How far x lies from lo, where both are small.
-fn above(x: Int, lo: Int) -> usize
-    requires { ⌜ (natAbs (x .v) ≤ 32768) × (natAbs (lo .v) ≤ 32768) ⌝ }
-    ensures { λ n. ⌜ (n ≡ natAbs (x .v -ℤ lo .v)) × (n ≤ 65536) ⌝ }
-{
-    integer::to_usize(integer::sub(x, lo))
-}
-
-// How many numbers the range at p has.
-fn width(s: &[u8], p: usize) -> usize
-    requires { ⌜ Ranges (now s) p 1 ⌝ }
-    ensures { λ n. ⌜ (n ≡ side (rangeAt (now (s .entry)) p)) × (n ≤ 65537) ⌝ }
-{
-    let lo = integer::number_at(s, p);
-    let hi = integer::number_at(s, p + 8);
-    above(hi, lo) + 1
-}
-
 // Where x stands in the range at p.
 fn digit(s: &[u8], p: usize, x: Int) -> Found
     requires { ⌜ Ranges (now s) p 1 ⌝ }
@@ -50,7 +33,7 @@ fn digit(s: &[u8], p: usize, x: Int) -> Found
     let lo = integer::number_at(s, p);
     let hi = integer::number_at(s, p + 8);
     if integer::within(x, lo, hi) {
-        Found::At(above(x, lo))
+        Found::At(integer::to_usize(integer::sub(x, lo)))
     } else {
         Found::Off
     }
@@ -74,7 +57,7 @@ pub fn index_in(s: &[u8], at: usize, n: usize, z: [Int; 4]) -> Found
         let Found::At(i) = d else {
             return Found::Off;
         };
-        e = e * width(s, p) + i;
+        e = e * side(s, p) + i;
         x0 = x1;
         x1 = x2;
         x2 = x3;
@@ -116,7 +99,7 @@ pub fn point_in(s: &[u8], at: usize, n: usize, i: usize) -> [Int; 4]
     let mut x3 = zero;
     while left > 0 {
         p -= 16;
-        let w = width(s, p);
+        let w = side(s, p);
         x3 = x2;
         x2 = x1;
         x1 = x0;

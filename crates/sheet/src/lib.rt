@@ -25,6 +25,7 @@ mod constraint;
 mod field;
 mod name;
 mod node;
+pub mod range;
 pub mod table;
 mod variable;
 

@@ -7,6 +7,7 @@ use super::field::choice_field;
 use super::field::count_at;
 use super::field::count_field;
 use super::field::number_field;
+use alpha::Refusal;
 ghost use mathlib.Core.Path.{_≡_};
 ghost use Prim.Native.Nat.{ℕ, _≤_};
 ghost use lib.ListN.{getD};
@@ -68,7 +69,9 @@ fn node_fields(s: &[u8], at: usize, code: usize, variables: usize) -> Pass
         5 => Pass::To(at),
         6 => count_field(s, at, 1, 64),
         7 => restriction(s, at),
-        _ => dependence(s, at),
+        8 => dependence(s, at),
+        // No code is left: that this answers the contract rests on the requirement.
+        _ => Pass::Refused(Refusal::Number(at)),
     }
 }
 

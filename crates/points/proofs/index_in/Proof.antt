@@ -6,8 +6,8 @@ use native.Mathlib.Nat.{mul-le-mul}
 use borrow.Author.Needs.{needs}
 use Rattle.alpha.specs.declared.Int.{Int}
 use Rattle.affine.specs.Value.{pointOf}
-use Rattle.sheet.specs.Record.{boxAt}
-use Rattle.points.specs.Number.{rangeAt, numberIn}
+use Rattle.sheet.specs.Record.{rangeAt, boxAt}
+use Rattle.points.specs.Number.{numberIn}
 use Rattle.points.specs.declared.Found.{Found}
 use Rattle.points.proofs.Steps.{Kept, numberFrom-none, firstFour, first-four, kept-low, kept-end, kept-off, kept-head, kept-more, digit-low}
 use Rattle.points.proofs.index_in.Statement.{statement}
@@ -74,15 +74,15 @@ returns c =
     let answer = after-digit .digit .ensures in
     kept-off _ (inside .loop-test .taken) (at-loop .loop .inv) (sym answer ∙ c .enum-told .given .1) ∙ number-same (at-loop .before)
 
-width-requires : tie.Need-width-requires Inv-loop μ-loop
-width-requires c κs =
+side-requires : tie.Need-side-requires Inv-loop μ-loop
+side-requires c κs =
     let inside = c .before .before .before .before in
     kept-head _ (inside .loop-test .taken) (inside .before .loop .inv)
 
 mul-e : tie.Need-mul-e Inv-loop μ-loop
 mul-e c =
     let at-loop = c .before .before .before .before .before .before in
-    record { fits = omega (arith, mul-le-mul (kept-low _ (at-loop .loop .inv)) (c .width .ensures .1)) }
+    record { fits = omega (arith, mul-le-mul (kept-low _ (at-loop .loop .inv)) (c .side .ensures .small)) }
 
 add-e : tie.Need-add-e Inv-loop μ-loop
 add-e c =
@@ -93,7 +93,7 @@ add-e c =
     let low = digit-low range (at-loop .loop .x0 .v) _ (sym answer ∙ c .before .before .d .given .1) in
     record {
       fits =
-          omega (arith, mul-le-mul (kept-low _ (at-loop .loop .inv)) (c .width .ensures .1), low, c .width .ensures .0, c .width .ensures .1);
+          omega (arith, mul-le-mul (kept-low _ (at-loop .loop .inv)) (c .side .ensures .small), low, c .side .ensures .is, c .side .ensures .small);
     }
 
 add-p : tie.Need-add-p Inv-loop μ-loop
@@ -112,7 +112,7 @@ loop-again c =
     let after-digit = c .before .before .before .before in
     let inside = after-digit .before in
     let answer = after-digit .digit .ensures in
-    rw (c .width .ensures .0) (kept-more _ _ (inside .loop-test .taken) (inside .before .loop .inv) (sym answer ∙ c .before .before .d .given .1))
+    rw (c .side .ensures .is) (kept-more _ _ (inside .loop-test .taken) (inside .before .loop .inv) (sym answer ∙ c .before .before .d .given .1))
 
 returns-2 : tie.Need-returns-2 Inv-loop μ-loop
 returns-2 c =
@@ -133,7 +133,7 @@ index-in-spec =
     enum-known-d
     enum-told
     returns
-    width-requires
+    side-requires
     mul-e
     add-e
     add-p

@@ -1,7 +1,7 @@
 use borrow.Author.Needs.{needs}
 use mathlib.Core.Path.{refl, _∙_}
 use native.Mathlib.Omega.{arith}
-use Rattle.points.proofs.Small.{low-small}
+use Rattle.sheet.proofs.Boxes.{first-sizes}
 use Rattle.points.proofs.nth.Statement.{statement}
 use Rattle.points.proofs.nth.Tie as tie
 use Rattle.points.proofs.nth.Reads as reads
@@ -19,7 +19,7 @@ of-usize-requires c κs = search needs
 add-requires : tie.Need-add-requires
 add-requires c κs =
     let start = c .before .before .before in
-    let low = low-small (start .args .s .now) (start .args .p) (start .pre .0) in
+    let low = first-sizes (start .args .s .now) (start .args .p) (start .pre .0) .0 in
     rw (c .before .number-at .ensures, c .of-usize .ensures) (omega (arith, low, start .pre .1))
 
 returns : tie.Need-returns

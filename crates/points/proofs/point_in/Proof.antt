@@ -43,21 +43,21 @@ range c =
     let here : s .args .at + 16 * (c .before .loop .left - 1) ≡ c .before .loop .p - 16 = omega (arith, inv .place, some) in
     rw here at (ranges-at _ (s .args .at) _ (c .before .loop .left - 1) (omega (arith, inv .count, some)) (s .pre .0 .ranges))
 
-width-requires : tie.Need-width-requires Inv-loop μ-loop
-width-requires c κs = range c
+side-requires : tie.Need-side-requires Inv-loop μ-loop
+side-requires c κs = range c
 
 rem-low : tie.Need-rem-low Inv-loop μ-loop
-rem-low c = omega (arith, c .width .ensures .0)
+rem-low c = omega (arith, c .side .ensures .is)
 
 div-high : tie.Need-div-high Inv-loop μ-loop
-div-high c = omega (arith, c .width .ensures .0)
+div-high c = omega (arith, c .side .ensures .is)
 
 nth-requires : tie.Need-nth-requires Inv-loop μ-loop
 nth-requires c κs =
     let at-loop = c .before .before in
     let s = at-loop .before .before .before in
     let loop = at-loop .loop in
-    (range (c .before), omega (arith, mod-le (loop .j) (c .width .result), loop .inv .small, s .pre .0 .small, s .pre .1))
+    (range (c .before), omega (arith, mod-le (loop .j) (c .side .result), loop .inv .small, s .pre .0 .small, s .pre .1))
 
 sub-left : tie.Need-sub-left Inv-loop μ-loop
 sub-left c = search needs
@@ -68,7 +68,7 @@ loop-less c = search needs
 loop-again : tie.Need-loop-again Inv-loop μ-loop
 loop-again c =
     let here = c .before .before in
-    let width = c .before .width .ensures .0 in
+    let width = c .before .side .ensures .is in
     rw width (making-more (here .loop-test .taken) (c .nth .result) (here .before .loop .inv) (rw width at (c .nth .ensures)))
 
 returns : tie.Need-returns Inv-loop μ-loop
@@ -88,7 +88,7 @@ point-in-spec =
     add-p
     loop-holds
     sub-p
-    width-requires
+    side-requires
     rem-low
     div-high
     nth-requires
