@@ -69,6 +69,11 @@ pub record Known (bs tab : List ℕ) (k : ℕ) : Type 0 where
   pub few : k ≤ 32
   pub recorded : (i : ℕ) → i < k → Recorded bs (getD tab i 0)
 
+-- and there is at least one
+pub record KnownSome (bs tab : List ℕ) (n : ℕ) : Type 0 where
+  pub some : 1 ≤ n
+  pub known : Known bs tab n
+
 -- how many points the boxes of these records hold
 abbrev pub points : List Head → ℕ
 points [] = 0

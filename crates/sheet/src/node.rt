@@ -9,12 +9,13 @@ use super::field::count_field;
 use super::field::number_field;
 use alpha::Refusal;
 ghost use mathlib.Core.Path.{_≡_};
-ghost use Prim.Native.Nat.{ℕ, _≤_};
+ghost use Prim.Native.Nat.{_≤_};
 ghost use lib.ListN.{getD};
 ghost use lib.IntN.{pos, negℤ};
 ghost use Rattle.alpha.specs.Sheet.{Node, Node.nIf};
 ghost use Rattle.alpha.specs.Read as Read;
 ghost use Rattle.sheet.specs.Place.{placeAfter, passed};
+ghost use Rattle.sheet.specs.Section.{VariableCount};
 
 // A restriction: its dimension, its number of constraints, the constraints.
 fn restriction(s: &[u8], at: usize) -> Pass
@@ -57,7 +58,7 @@ fn constant(s: &[u8], at: usize) -> Pass
 
 // The fields of a node by its code, where there are so many variables.
 fn node_fields(s: &[u8], at: usize, code: usize, variables: usize) -> Pass
-    requires { ⌜ (code ≤ 8) × (1 ≤ variables) × (variables ≤ 32) ⌝ }
+    requires { ⌜ (code ≤ 8) × VariableCount variables ⌝ }
     ensures { λ r. ⌜ passed r ≡ placeAfter (getD (Read.nodes variables) code (Read.pure nIf) (now (s .entry)) at) ⌝ }
 {
     match code {
@@ -77,7 +78,7 @@ fn node_fields(s: &[u8], at: usize, code: usize, variables: usize) -> Pass
 
 // A node: its code, then its fields.
 fn node(s: &[u8], at: usize, variables: usize) -> Pass
-    requires { ⌜ (1 ≤ variables) × (variables ≤ 32) ⌝ }
+    requires { ⌜ VariableCount variables ⌝ }
     ensures { λ r. ⌜ passed r ≡ placeAfter (Read.node variables (now (s .entry)) at) ⌝ }
 {
     let r = choice_field(s, at, 8);
@@ -89,7 +90,7 @@ fn node(s: &[u8], at: usize, variables: usize) -> Pass
 
 // So many nodes.
 pub fn nodes(s: &[u8], at: usize, count: usize, variables: usize) -> Pass
-    requires { ⌜ (1 ≤ variables) × (variables ≤ 32) ⌝ }
+    requires { ⌜ VariableCount variables ⌝ }
     ensures { λ r. ⌜ passed r ≡ placeAfter (Read.repeat count (Read.node variables) (now (s .entry)) at) ⌝ }
 {
     let mut p = at;

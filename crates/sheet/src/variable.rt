@@ -10,7 +10,7 @@ use super::range::box_points;
 use super::range::ranges;
 use alpha::Refusal;
 ghost use mathlib.Core.Path.{_≡_};
-ghost use Prim.Native.Nat.{ℕ, _≤_};
+ghost use Prim.Native.Nat.{_≤_};
 ghost use lib.ListN.{length, take};
 ghost use Rattle.alpha.specs.Read as Read;
 ghost use Rattle.sheet.specs.Place.{placeAfter, passed};

@@ -1,14 +1,10 @@
+-- `nth` meets its contract: the least number, and n. Assumes nothing.
 use borrow.Author.Needs.{needs}
 use mathlib.Core.Path.{refl, _∙_}
 use native.Mathlib.Omega.{arith}
 use Rattle.sheet.proofs.Boxes.{first-sizes}
 use Rattle.points.proofs.nth.Statement.{statement}
 use Rattle.points.proofs.nth.Tie as tie
-use Rattle.points.proofs.nth.Reads as reads
-use Rattle.points.proofs.nth.Lts as lts
-use Rattle.integer.proofs.add.Reads as add-reads
-use Rattle.integer.proofs.number_at.Reads as number-at-reads
-use Rattle.integer.proofs.of_usize.Reads as of-usize-reads
 
 number-at-requires : tie.Need-number-at-requires
 number-at-requires c κs = search needs
