@@ -5,7 +5,7 @@ use Prim.Native.Nat.{ℕ, _+_, _≤_, _<_}
 use mathlib.Core.Bool.{true, false}
 use mathlib.Core.List.{List, []}
 use lib.ListN.{length, getD}
-use lib.IntN.{ℤ, natAbs}
+use lib.IntN.{ℤ}
 use Rattle.alpha.specs.Field.{field}
 use Rattle.alpha.specs.declared.Int.{Int}
 use Rattle.alpha.specs.declared.Outcome.the-variants as Outcomes
@@ -17,9 +17,14 @@ use Rattle.alpha.specs.Holds.{variable, isInput, inDomain}
 use Rattle.alpha.specs.Check.{Element, elements, total}
 use Rattle.alpha.specs.Outcome.{eval, outcome}
 use Rattle.alpha.specs.Ask.{numberOf}
-use Rattle.laws.specs.At.{At}
+use Rattle.laws.specs.At.{codeOf, nodeRead, nodeEnd, At}
 use Rattle.laws.specs.Sheets.{headsOf, varsOf, sheetOf}
 use Rattle.affine.specs.Value.{pointOf, Padded}
+use Rattle.tree.specs.declared.Class.{Class}
+use Rattle.tree.specs.declared.Class.the-variants.{Leaf, Operator}
+use Rattle.tree.specs.declared.LeafKind.{LeafKind}
+use Rattle.tree.specs.declared.OperatorKind.{OperatorKind}
+use Rattle.tree.specs.Classes.{classAt, leafCode, operatorCode}
 use Rattle.tree.specs.Formed.{Formed}
 use Rattle.tree.specs.Ends.{EndsKept}
 use Rattle.domain.specs.declared.Standing.the-variants.{Holds}
@@ -38,7 +43,7 @@ pub record ConstantRead (bs : List ℕ) (p : ℕ) (r : Worked) : Type 0 where
   pub value : Int
   pub is : r .out ≡ Done (Outcomes.Value value)
   pub says : value .v ≡ field bs (p + 8)
-  pub next : r .next ≡ p + 16
+  pub next : r .next ≡ nodeEnd (varsOf bs) bs p
 
 -- element number m of a sheet
 abbrev pub elementAt : Sheet → ℕ → Element
@@ -105,12 +110,17 @@ pub record Setting (bs tab inside ends : List ℕ) (memo : Memo) : Type 0 where
   pub ends-kept : EndsKept bs ends
   pub ready : Ready (sheetOf bs) memo
 
--- of the place and the point: a tree of at most `left` nodes, no more than a body has, holds there without a clash
-pub record Evaluable (bs : List ℕ) (p left : ℕ) (z : List Int) : Type 0 where
+-- of the place and the point, besides that a tree holds there: that its node is of a class,
+pub record HeldAs (class : Class) (bs : List ℕ) (p left : ℕ) (z : List Int) : Type 0 where
   pub held : Held bs p left z
-  pub few : left ≤ 2048
+  pub class-is : classAt bs p ≡ class
 
--- one whose node has that code
-pub record EvaluableNode (code : ℕ) (bs : List ℕ) (p left : ℕ) (z : List Int) : Type 0 where
-  pub tree : Evaluable bs p left z
-  pub code-is : natAbs (field bs p) ≡ code
+-- a leaf of that kind,
+pub record HeldLeaf (kind : LeafKind) (bs : List ℕ) (p left : ℕ) (z : List Int) : Type 0 where
+  pub leaf : HeldAs Leaf bs p left z
+  pub code-is : codeOf (nodeRead (varsOf bs) bs p) ≡ leafCode kind
+
+-- an operator of that kind
+pub record HeldOperator (kind : OperatorKind) (bs : List ℕ) (p left : ℕ) (z : List Int) : Type 0 where
+  pub operator : HeldAs Operator bs p left z
+  pub code-is : codeOf (nodeRead (varsOf bs) bs p) ≡ operatorCode kind

@@ -13,15 +13,24 @@ use points::Found;
 use sheet::table::body_place;
 use sheet::table::first_element;
 use sheet::table::record_place;
+use tree::Class;
+use tree::LeafKind;
+use tree::OperatorKind;
 use tree::ends::end_of;
+use tree::node::class_of;
+use tree::node::leaf_of;
 use tree::node::natural;
-use tree::node::node_len;
-ghost use Prim.Native.Nat.{_+_, _≤_};
-ghost use lib.ListN.{length};
+use tree::node::node_end;
+use tree::node::operator_of;
 ghost use Rattle.laws.specs.Sheets.{sheetOf};
+ghost use Rattle.tree.specs.declared.Class.the-variants as Class;
+ghost use Rattle.tree.specs.declared.LeafKind.the-variants as LeafKind;
+ghost use Rattle.tree.specs.declared.OperatorKind.the-variants as OperatorKind;
+ghost use Rattle.tree.specs.Standing.{NodedAs};
+ghost use Rattle.domain.specs.Held.{Held};
 ghost use Rattle.evaluate.specs.Memo as Memo;
 ghost use Rattle.evaluate.specs.Memo.{memoOf};
-ghost use Rattle.evaluate.specs.Working.{outcomes, WorksOut, Setting, ElementIs, Evaluable, EvaluableNode, ConstantRead, TakenApart, EvaluatesAt};
+ghost use Rattle.evaluate.specs.Working.{outcomes, WorksOut, Setting, ElementIs, HeldAs, HeldLeaf, HeldOperator, ConstantRead, TakenApart, EvaluatesAt};
 
 // The value of an answer that has one.
 fn value_in(r: Work) -> Operand
@@ -79,29 +88,50 @@ pub fn expression(
     z: [Int; 4],
     depth: usize,
 ) -> Worked
-    requires { ⌜ Setting (now s) (now tab) (now inside) (now ends) (memoOf (now memo)) × Evaluable (now s) at left z ⌝ }
+    requires { ⌜ Setting (now s) (now tab) (now inside) (now ends) (memoOf (now memo)) × Held (now s) at left z ⌝ }
     ensures { λ r. ⌜ EvaluatesAt (now (s .entry)) at z (memoOf (now (memo .entry))) (memoOf (now (memo .exit))) r ⌝ }
 {
-    match natural(s, at) {
-        0 => variable(s, tab, inside, ends, memo, at, left, z, depth),
-        1 | 2 => constant(s, at),
-        3 => one(s, tab, inside, ends, memo, at, left, z, depth),
-        4 => two(s, tab, inside, ends, memo, at, left, z, depth),
-        5 => three(s, tab, inside, ends, memo, at, left, z, depth),
-        6 => branch(s, tab, inside, ends, memo, at, left, z, depth),
-        7 => restriction(s, tab, inside, ends, memo, at, left, z, depth),
-        _ => dependence(s, tab, inside, ends, memo, at, left, z, depth),
+    let class = class_of(s, at);
+    match class {
+        Class::Leaf => leaf(s, tab, inside, ends, memo, at, left, z, depth),
+        Class::Operator => operator(s, tab, inside, ends, memo, at, left, z, depth),
+        Class::Case => branch(s, tab, inside, ends, memo, at, left, z, depth),
+        Class::Restriction => restriction(s, tab, inside, ends, memo, at, left, z, depth),
+        Class::Dependence => dependence(s, tab, inside, ends, memo, at, left, z, depth),
     }
 }
 
 // A constant.
 fn constant(s: &[u8], at: usize) -> Worked
-    requires { ⌜ at + 16 ≤ length (now s) ⌝ }
+    requires { ⌜ NodedAs (now s) at Class.Leaf ⌝ }
     ensures { λ r. ⌜ ConstantRead (now (s .entry)) at r ⌝ }
 {
     Worked {
         out: Work::Done(Outcome::Value(integer::number_at(s, at + 8))),
-        next: at + 16,
+        next: node_end(s, at),
+    }
+}
+
+// A leaf.
+fn leaf(
+    s: &[u8],
+    tab: &[usize; 102],
+    inside: &[u8; 4096],
+    ends: &[u16; 8192],
+    memo: &mut [u64; 4096],
+    at: usize,
+    left: usize,
+    z: [Int; 4],
+    depth: usize,
+) -> Worked
+    requires { ⌜ Setting (now s) (now tab) (now inside) (now ends) (memoOf (now memo)) × HeldAs Class.Leaf (now s) at left z ⌝ }
+    ensures { λ r. ⌜ EvaluatesAt (now (s .entry)) at z (memoOf (now (memo .entry))) (memoOf (now (memo .exit))) r ⌝ }
+{
+    let kind = leaf_of(s, at);
+    match kind {
+        LeafKind::Variable => variable(s, tab, inside, ends, memo, at, left, z, depth),
+        LeafKind::Integer => constant(s, at),
+        LeafKind::Boolean => constant(s, at),
     }
 }
 
@@ -117,11 +147,11 @@ fn variable(
     z: [Int; 4],
     depth: usize,
 ) -> Worked
-    requires { ⌜ Setting (now s) (now tab) (now inside) (now ends) (memoOf (now memo)) × EvaluableNode 0 (now s) at left z ⌝ }
+    requires { ⌜ Setting (now s) (now tab) (now inside) (now ends) (memoOf (now memo)) × HeldLeaf LeafKind.Variable (now s) at left z ⌝ }
     ensures { λ r. ⌜ EvaluatesAt (now (s .entry)) at z (memoOf (now (memo .entry))) (memoOf (now (memo .exit))) r ⌝ }
 {
     let v = natural(s, at + 8);
-    let next = at + 16;
+    let next = node_end(s, at);
     let found = points::index(s, record_place(tab, v), z);
     let Found::At(i) = found else {
         return Worked {
@@ -132,6 +162,29 @@ fn variable(
     let e = first_element(tab, v) + i;
     let out = element(s, tab, inside, ends, memo, v, e, z, depth);
     Worked { out, next }
+}
+
+// An operator.
+fn operator(
+    s: &[u8],
+    tab: &[usize; 102],
+    inside: &[u8; 4096],
+    ends: &[u16; 8192],
+    memo: &mut [u64; 4096],
+    at: usize,
+    left: usize,
+    z: [Int; 4],
+    depth: usize,
+) -> Worked
+    requires { ⌜ Setting (now s) (now tab) (now inside) (now ends) (memoOf (now memo)) × HeldAs Class.Operator (now s) at left z ⌝ }
+    ensures { λ r. ⌜ EvaluatesAt (now (s .entry)) at z (memoOf (now (memo .entry))) (memoOf (now (memo .exit))) r ⌝ }
+{
+    let kind = operator_of(s, at);
+    match kind {
+        OperatorKind::Unary => one(s, tab, inside, ends, memo, at, left, z, depth),
+        OperatorKind::Binary => two(s, tab, inside, ends, memo, at, left, z, depth),
+        OperatorKind::If => three(s, tab, inside, ends, memo, at, left, z, depth),
+    }
 }
 
 // A unary operator.
@@ -146,11 +199,12 @@ fn one(
     z: [Int; 4],
     depth: usize,
 ) -> Worked
-    requires { ⌜ Setting (now s) (now tab) (now inside) (now ends) (memoOf (now memo)) × EvaluableNode 3 (now s) at left z ⌝ }
+    requires { ⌜ Setting (now s) (now tab) (now inside) (now ends) (memoOf (now memo)) × HeldOperator OperatorKind.Unary (now s) at left z ⌝ }
     ensures { λ r. ⌜ EvaluatesAt (now (s .entry)) at z (memoOf (now (memo .entry))) (memoOf (now (memo .exit))) r ⌝ }
 {
     let n = left - 1;
-    let a = expression(s, tab, inside, ends, memo, at + 16, n, z, depth);
+    let from = node_end(s, at);
+    let a = expression(s, tab, inside, ends, memo, from, n, z, depth);
     let o = a.out;
     let p = value_in(o);
     let Operand::Value(x) = p else {
@@ -174,11 +228,12 @@ fn two(
     z: [Int; 4],
     depth: usize,
 ) -> Worked
-    requires { ⌜ Setting (now s) (now tab) (now inside) (now ends) (memoOf (now memo)) × EvaluableNode 4 (now s) at left z ⌝ }
+    requires { ⌜ Setting (now s) (now tab) (now inside) (now ends) (memoOf (now memo)) × HeldOperator OperatorKind.Binary (now s) at left z ⌝ }
     ensures { λ r. ⌜ EvaluatesAt (now (s .entry)) at z (memoOf (now (memo .entry))) (memoOf (now (memo .exit))) r ⌝ }
 {
     let n = left - 1;
-    let first = expression(s, tab, inside, ends, memo, at + 16, n, z, depth);
+    let from = node_end(s, at);
+    let first = expression(s, tab, inside, ends, memo, from, n, z, depth);
     let o = first.out;
     let p = value_in(o);
     let Operand::Value(x) = p else {
@@ -209,11 +264,12 @@ fn three(
     z: [Int; 4],
     depth: usize,
 ) -> Worked
-    requires { ⌜ Setting (now s) (now tab) (now inside) (now ends) (memoOf (now memo)) × EvaluableNode 5 (now s) at left z ⌝ }
+    requires { ⌜ Setting (now s) (now tab) (now inside) (now ends) (memoOf (now memo)) × HeldOperator OperatorKind.If (now s) at left z ⌝ }
     ensures { λ r. ⌜ EvaluatesAt (now (s .entry)) at z (memoOf (now (memo .entry))) (memoOf (now (memo .exit))) r ⌝ }
 {
     let n = left - 1;
-    let test = expression(s, tab, inside, ends, memo, at + 8, n, z, depth);
+    let from = node_end(s, at);
+    let test = expression(s, tab, inside, ends, memo, from, n, z, depth);
     let o = test.out;
     let p = value_in(o);
     let Operand::Value(t) = p else {
@@ -251,7 +307,7 @@ fn branch(
     z: [Int; 4],
     depth: usize,
 ) -> Worked
-    requires { ⌜ Setting (now s) (now tab) (now inside) (now ends) (memoOf (now memo)) × EvaluableNode 6 (now s) at left z ⌝ }
+    requires { ⌜ Setting (now s) (now tab) (now inside) (now ends) (memoOf (now memo)) × HeldAs Class.Case (now s) at left z ⌝ }
     ensures { λ r. ⌜ EvaluatesAt (now (s .entry)) at z (memoOf (now (memo .entry))) (memoOf (now (memo .exit))) r ⌝ }
 {
     let n = left - 1;
@@ -274,11 +330,11 @@ fn restriction(
     z: [Int; 4],
     depth: usize,
 ) -> Worked
-    requires { ⌜ Setting (now s) (now tab) (now inside) (now ends) (memoOf (now memo)) × EvaluableNode 7 (now s) at left z ⌝ }
+    requires { ⌜ Setting (now s) (now tab) (now inside) (now ends) (memoOf (now memo)) × HeldAs Class.Restriction (now s) at left z ⌝ }
     ensures { λ r. ⌜ EvaluatesAt (now (s .entry)) at z (memoOf (now (memo .entry))) (memoOf (now (memo .exit))) r ⌝ }
 {
     let n = left - 1;
-    let child = at + node_len(s, at);
+    let child = node_end(s, at);
     expression(s, tab, inside, ends, memo, child, n, z, depth)
 }
 
@@ -294,11 +350,11 @@ fn dependence(
     z: [Int; 4],
     depth: usize,
 ) -> Worked
-    requires { ⌜ Setting (now s) (now tab) (now inside) (now ends) (memoOf (now memo)) × EvaluableNode 8 (now s) at left z ⌝ }
+    requires { ⌜ Setting (now s) (now tab) (now inside) (now ends) (memoOf (now memo)) × HeldAs Class.Dependence (now s) at left z ⌝ }
     ensures { λ r. ⌜ EvaluatesAt (now (s .entry)) at z (memoOf (now (memo .entry))) (memoOf (now (memo .exit))) r ⌝ }
 {
     let n = left - 1;
     let y = affine::image_at(s, at + 8, z);
-    let child = at + node_len(s, at);
+    let child = node_end(s, at);
     expression(s, tab, inside, ends, memo, child, n, y, depth)
 }

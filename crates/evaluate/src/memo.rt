@@ -10,6 +10,11 @@ ghost use Rattle.laws.specs.Coded.{decoded};
 ghost use Rattle.integer.specs.Range.{In32, Says};
 ghost use Rattle.evaluate.specs.Memo.{busy, unknown, codeIn, valueIn, memoOf, noted, stored, Small, Known};
 
+// The marks of an element in progress and of an unknown one, which are no outcome's code.
+const BUSY: u8 = 5;
+
+const UNKNOWN: u8 = 6;
+
 // The entry of a code and a value.
 fn packed(code: u8, x: Int) -> u64
     requires { ⌜ (code ≤ unknown) × In32 (x .v) ⌝ }
@@ -20,7 +25,7 @@ fn packed(code: u8, x: Int) -> u64
 }
 
 // The outcome with a code and a value: every code past 3 is LOOP.
-fn outcome(code: u64, x: Int) -> Outcome
+fn outcome(code: u8, x: Int) -> Outcome
     requires { ⌜ In32 (x .v) ⌝ }
     ensures { λ o. ⌜ Says o (decoded code (x .v)) ⌝ }
 {
@@ -39,8 +44,8 @@ pub fn known(memo: &[u64; 4096], e: usize) -> Work
     ensures { λ r. ⌜ Known (memoOf (now (memo .entry))) e r ⌝ }
 {
     let entry = memo[e];
-    let code = entry % 8;
-    if 5 < code {
+    let code = (entry % 8) as u8;
+    if BUSY < code {
         return Work::Deep(e);
     }
     let above = (entry / 8 % 4294967296) as usize;
@@ -58,7 +63,7 @@ pub fn note(memo: &mut [u64; 4096], e: usize, r: Work)
             memo[e] = packed(alpha::code(o), alpha::value(o));
         }
         Work::Deep(_) => {
-            memo[e] = packed(6, integer::of(0));
+            memo[e] = packed(UNKNOWN, integer::of(0));
         }
     }
 }
@@ -68,5 +73,5 @@ pub fn mark(memo: &mut [u64; 4096], e: usize)
     requires { ⌜ e < 4096 ⌝ }
     ensures { λ _. ⌜ memoOf (now (memo .exit)) ≡ noted (memoOf (now (memo .entry))) e busy (pos 0) ⌝ }
 {
-    memo[e] = packed(5, integer::of(0));
+    memo[e] = packed(BUSY, integer::of(0));
 }

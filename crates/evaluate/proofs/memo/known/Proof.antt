@@ -15,6 +15,9 @@ mul-entry c = search needs
 element-copy-out-entry : tie.Need-element-copy-out-entry
 element-copy-out-entry c = search needs
 
+cast-code : tie.Need-cast-code
+cast-code c = search needs
+
 returns : tie.Need-returns
 returns c =
     let s = c .before .before in
@@ -57,6 +60,7 @@ known-spec =
     (tie.spec
     mul-entry
     element-copy-out-entry
+    cast-code
     returns
     of-usize-requires
     of-requires

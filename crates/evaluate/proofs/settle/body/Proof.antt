@@ -3,7 +3,7 @@ use native.Mathlib.Omega.{arith}
 use Rattle.laws.specs.Sheets.{sheetOf}
 use Rattle.evaluate.specs.Working.{elementAt, Bodied}
 use Rattle.evaluate.proofs.Owning.{owned-low}
-use Rattle.evaluate.proofs.Elements.{element-tree, body-evaluated, body-by-number}
+use Rattle.evaluate.proofs.Elements.{element-held, body-evaluated, body-by-number}
 use Rattle.evaluate.proofs.settle.body.Statement.{statement}
 use Rattle.evaluate.proofs.settle.body.Tie as tie
 
@@ -30,7 +30,7 @@ expression-requires : tie.Need-expression-requires
 expression-requires c κs =
     let a = c .before in
     let setting = start a .pre .0 in
-    (setting, element-tree _ _ (setting .formed) _ _ _ (a .before .point-of .ensures) (bodied a) _ (a .body-place .ensures))
+    (setting, element-held _ _ (setting .formed) _ _ _ (a .before .point-of .ensures) (bodied a) _ (a .body-place .ensures))
 
 returns : tie.Need-returns
 returns c =
