@@ -63,7 +63,7 @@ add-e c = let f = first-is (c .before .before) in omega (arith, number-low c)
 settle-requires : tie.Need-settle-requires Inv-loop μ-loop
 settle-requires c κs =
     let m = c .before .before .loop .inv .advances in
-    (setting-with _ _ _ _ _ _ (c .before .before .before .before .before .before .pre .0) (m .ready), record { idle = m .idle; element = number-low (c .before) })
+    (setting-with _ _ _ _ _ _ (c .before .before .before .before .before .before .pre .0) (m .ready), record { idle = m .idle; element = omega (arith, number-low (c .before)) })
 
 put-requires : tie.Need-put-requires Inv-loop μ-loop
 put-requires c κs =
