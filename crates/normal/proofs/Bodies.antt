@@ -249,6 +249,10 @@ written-long n x =
 
 -- ---- where it starts
 
+-- the pen at a place, with nothing written
+abbrev starting : ℕ → Pen
+starting to = record { to = to; things = 0; deep = 0 }
+
 module _ (bs : List ℕ) (p n many : ℕ) (h : BodyAt bs p n many) where
   pub is-body : IsBody bs p n many (h .tree)
   is-body = record { end = h .end; at = h .at; fitting = h .fitting; count = h .count }
@@ -265,13 +269,16 @@ module _ (bs : List ℕ) (p n many : ℕ) (h : BodyAt bs p n many) where
   )
 
   module _ (m : Map) (is : mapOf m ≡ identity n) (neat : Neat m) (high : m .height ≡ n) (b : ℕ) (lt : b < many) where
-    pub start-route : (t : Bool) (to room : ℕ) → to + length (partOf t (h .tree) (identity n) 0 b .out) ≤ room → Route bs p 2048 m b many t 0 to room
+    start-route : (t : Bool) (to room : ℕ) → to + length (partOf t (h .tree) (identity n) 0 b .out) ≤ room →
+        Route bs p 2048 m b many t 0 (starting to) room
     start-route t to room fits-in = record {
       tree = h .tree;
       end = h .end;
       bound = topReach;
       at = h .at;
       few = h .few;
+      left-low = omega arith;
+      level-low = omega arith;
       fitting = rw high (h .fitting);
       reaches = h .reaches;
       carried = record {
@@ -282,6 +289,7 @@ module _ (bs : List ℕ) (p n many : ℕ) (h : BodyAt bs p n many) where
       branches = h .count;
       low = h .low;
       some = lt;
+      things-low = omega arith;
       fits-room = subst (λ f. to + length (partOf t (h .tree) f 0 b .out) ≤ room) (sym is) fits-in;
     }
 
@@ -295,23 +303,23 @@ module _ (bs : List ℕ) (p n many : ℕ) (h : BodyAt bs p n many) where
         )
 
     -- measured, there is always room
-    pub measure-route : (t : Bool) → Route bs p 2048 m b many t 0 0 (2 ^ 40)
+    pub measure-route : (t : Bool) → Route bs p 2048 m b many t 0 (starting 0) (2 ^ 40)
     measure-route t = start-route t 0 (2 ^ 40) (omega (arith, short t))
 
     -- ---- a branch measured
 
     module _ (none none′ none″ : List ℕ) (given term : Pen)
-        (first : Follows bs p m b many false 0 true (record { to = 0; things = 0; deep = 0 }) none none′ given)
-        (second : Follows bs p m b many true 0 true (record { to = 0; things = 0; deep = 0 }) none′ none″ term) where
-      given-pen : (e : Expr) → IsBody bs p n many e → given ≡ advance (record { to = 0; things = 0; deep = 0 }) (givenPart (branchIn bs e b .given))
+        (first : Follows bs p m b many false 0 true (starting 0) none none′ given)
+        (second : Follows bs p m b many true 0 true (starting 0) none′ none″ term) where
+      given-pen : (e : Expr) → IsBody bs p n many e → given ≡ advance (starting 0) (givenPart (branchIn bs e b .given))
       given-pen e i =
           first e (i .end) (i .at) (i .count) .pen-is
-          ∙ ap (advance (record { to = 0; things = 0; deep = 0 })) (ap (λ f. partOf false e f 0 b) is ∙ given-part bs p n many e i b lt)
+          ∙ ap (advance (starting 0)) (ap (λ f. partOf false e f 0 b) is ∙ given-part bs p n many e i b lt)
 
-      term-pen : (e : Expr) → IsBody bs p n many e → term ≡ advance (record { to = 0; things = 0; deep = 0 }) (treePart (branchIn bs e b .term) 0)
+      term-pen : (e : Expr) → IsBody bs p n many e → term ≡ advance (starting 0) (treePart (branchIn bs e b .term) 0)
       term-pen e i =
           second e (i .end) (i .at) (i .count) .pen-is
-          ∙ ap (advance (record { to = 0; things = 0; deep = 0 })) (ap (λ f. partOf true e f 0 b) is ∙ tree-part bs p n many e i b lt)
+          ∙ ap (advance (starting 0)) (ap (λ f. partOf true e f 0 b) is ∙ tree-part bs p n many e i b lt)
 
       pub measured-low : (given .to ≤ 3104 * 2048) × (term .to ≤ 3104 * 2048) × (term .things ≤ term .to)
       measured-low =
@@ -360,14 +368,14 @@ module _ (bs : List ℕ) (p n many : ℕ) (h : BodyAt bs p n many) where
           )
 
       module _ (a : List ℕ) (same : length a ≡ length l) where
-        pub given-route : Route bs p 2048 m b many false 0 (to + 24) (roomOf false a)
+        pub given-route : Route bs p 2048 m b many false 0 (starting (to + 24)) (roomOf false a)
         given-route = start-route false (to + 24) (roomOf false a) (omega (arith, tree-room))
 
-        module _ (c : List ℕ) (given : Pen) (first : Follows bs p m b many false 0 false (record { to = to + 24; things = 0; deep = 0 }) a c given) where
-          given-wrote : Wrote false (record { to = to + 24; things = 0; deep = 0 }) a c given (partOf false (h .tree) (mapOf m) 0 b)
+        module _ (c : List ℕ) (given : Pen) (first : Follows bs p m b many false 0 false (starting (to + 24)) a c given) where
+          given-wrote : Wrote false (starting (to + 24)) a c given (partOf false (h .tree) (mapOf m) 0 b)
           given-wrote = first (h .tree) (h .end) (h .at) (h .count)
 
-          pub term-route : (d : List ℕ) → length d ≡ length c → Route bs p 2048 m b many true 0 (given .to) (roomOf false d)
+          pub term-route : (d : List ℕ) → length d ≡ length c → Route bs p 2048 m b many true 0 (starting (given .to)) (roomOf false d)
           term-route d kept =
               let to-is = ap (λ z. z .to) (given-wrote .pen-is) in
               let as-is = ap (λ f. length (partOf false (h .tree) f 0 b .out)) is in
@@ -375,7 +383,7 @@ module _ (bs : List ℕ) (p n many : ℕ) (h : BodyAt bs p n many) where
               start-route true (given .to) (roomOf false d) (omega (arith, tree-room))
 
           pub branch-stored : (d u : List ℕ) (term : Pen) → a ≡ sets l to (nat 7 ++ nat n) → d ≡ sets c (to + 16) (nat (given .things)) →
-              Follows bs p m b many true 0 false (record { to = given .to; things = 0; deep = 0 }) d u term → StoresBranch bs p n many b to l u (term .to)
+              Follows bs p m b many true 0 false (starting (given .to)) d u term → StoresBranch bs p n many b to l u (term .to)
           unfolding bytes
           branch-stored d u term head third second e i =
               let x = branchIn bs e b in

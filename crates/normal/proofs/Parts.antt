@@ -222,6 +222,17 @@ things-low dry pen out {y = y} p h low few =
 
 -- ---- the level below a node
 
+pub level-next : (nd : Node) (l : ℕ) → levelBelow nd l ≤ l + 1
+level-next (nVar v) l = omega arith
+level-next (nInt c) l = omega arith
+level-next (nBool b) l = omega arith
+level-next (nUnary o) l = omega arith
+level-next (nBinary o) l = omega arith
+level-next nIf l = omega arith
+level-next (nCase n) l = omega arith
+level-next (nRestr d cs) l = omega arith
+level-next (nDep f) l = omega arith
+
 pub level-leaf : (nd : Node) (l : ℕ) → codeOf nd < 3 → l ≡ levelBelow nd l
 level-leaf (nVar v) l h = refl
 level-leaf (nInt c) l h = refl

@@ -37,7 +37,7 @@ use Rattle.affine.proofs.Bounds.{rowReach-more, compose-fits}
 use Rattle.domain.proofs.Walks.{tree-code, code-field, same-below, children-fit}
 use Rattle.domain.proofs.Restrictions.{Each, each-first, each-rest, constraint-is}
 use Rattle.tree.specs.Standing.{Standing}
-use Rattle.tree.proofs.Standings.{children-at, children-counted, one-more}
+use Rattle.tree.proofs.Standings.{standing-some, children-at, children-counted, one-more}
 use Rattle.normal.specs.declared.Chosen.{Chosen}
 use Rattle.normal.specs.declared.Pen.{Pen}
 use Rattle.normal.specs.declared.Split.{Split}
@@ -48,7 +48,7 @@ use Rattle.normal.specs.Rows.{AllComposable}
 use Rattle.normal.specs.Spot.{Limits, Spot}
 use Rattle.normal.specs.Followed.{roomOf, Composes, Lowers, Route, RouteAll, Wrote, Visits, Follows, FollowsAll}
 use Rattle.normal.proofs.Counting.{Factors, factors, only-split}
-use Rattle.normal.proofs.Parts.{part-children, count-operands, pick-kept, wrote-nothing, wrote-then, room-same, things-low, part-things}
+use Rattle.normal.proofs.Parts.{part-children, count-operands, pick-kept, wrote-nothing, wrote-then, room-same, things-low, part-things, level-next}
 use Rattle.normal.proofs.Spots.{own-out, own-things}
 
 -- ---- reaches
@@ -73,7 +73,7 @@ composable n bs m bound (c ∷ cs) p w h r =
     )
 
 module _ (bs : List ℕ) where
-  module _ (p left : ℕ) (m : Map) (b of : ℕ) (t : Bool) (level to room : ℕ) (h : Route bs p left m b of t level to room) where
+  module _ (p left : ℕ) (m : Map) (b of : ℕ) (t : Bool) (level : ℕ) (pen : Pen) (room : ℕ) (h : Route bs p left m b of t level pen room) where
     pub route-standing : Standing (varsOf bs) bs p left
     route-standing = record { tree = h .tree; end = h .end; at = h .at; few = h .few }
 
@@ -128,7 +128,7 @@ module _ (bs : List ℕ) where
           some = h .some;
         }
 
-        pub route-chosen : (r : Chosen) → Picks bs (p + k) n b of r → Route bs (r .at) (left - 1) m (r .b) (r .of) t level to room
+        pub route-chosen : (r : Chosen) → Picks bs (p + k) n b of r → Route bs (r .at) (left - 1) m (r .b) (r .of) t level pen room
         route-chosen r picks =
             let some : b < sumOf (cases .branches) = omega (arith, h .some, h .branches, case-count) in
             let found = picks (cases .branches) (h .end) case-at case-many (sym case-count ∙ h .branches) in
@@ -141,13 +141,16 @@ module _ (bs : List ℕ) where
               bound = h .bound;
               at = found .at;
               few = omega (arith, h .few, case-nodes, kept .few);
+              left-low = omega (arith, h .left-low);
+              level-low = omega (arith, h .level-low);
               fitting = kept .fits-too (headsOf bs) (m .height) case-fits;
               reaches = kept .reaches-too (h .bound) case-reaches;
               carried = h .carried;
               branches = found .count;
               low = omega (arith, found .count, kept .no-more, case-count, h .branches, h .low);
               some = omega (arith, found .branch, kept .some, found .count);
-              fits-room = subst (λ x. to + length (x .out) ≤ room) same (h .fits-room);
+              things-low = h .things-low;
+              fits-room = subst (λ x. pen .to + length (x .out) ≤ room) same (h .fits-room);
             }
 
     -- ---- a dependence
@@ -207,13 +210,15 @@ module _ (bs : List ℕ) where
         by-is : mapOf w ≡ mapAfter (mapOf m) (below .by)
         by-is = l .is ∙ ap (mapAfter (mapOf m)) by
 
-        pub route-below : Route bs (p + k) (left - 1) w b of t level to room
+        pub route-below : Route bs (p + k) (left - 1) w b of t level pen room
         route-below = record {
           tree = below .child;
           end = h .end;
           bound = mapReach (h .bound) (below .by .rows);
           at = subst (λ i. At (below .child) (varsOf bs) bs (p + i) (h .end)) (sym long) (below .below);
           few = omega (arith, h .few, dep-nodes);
+          left-low = omega (arith, h .left-low);
+          level-low = omega (arith, h .level-low);
           fitting = subst (λ n. fits (below .child) (headsOf bs) n ≡ true) (sym (l .high ∙ height-length (l .by) by))
               (&&-right (eqb (below .by .cols) (m .height)) (fits (below .child) (headsOf bs) (length (below .by .rows))) dep-fits);
           reaches =
@@ -227,7 +232,8 @@ module _ (bs : List ℕ) where
           branches = sym dep-count ∙ h .branches;
           low = h .low;
           some = h .some;
-          fits-room = subst (λ x. to + length (x .out) ≤ room) (dep-part ∙ ap (λ f. partOf t (below .child) f level b) (sym by-is)) (h .fits-room);
+          things-low = h .things-low;
+          fits-room = subst (λ x. pen .to + length (x .out) ≤ room) (dep-part ∙ ap (λ f. partOf t (below .child) f level b) (sym by-is)) (h .fits-room);
         }
 
     -- ---- any other node
@@ -269,7 +275,7 @@ module _ (bs : List ℕ) where
           restr-reaches : (x : RestrAt (h .tree) (varsOf bs) bs p (h .end)) → allReach (h .bound) (x .given) && reach (x .child) (h .bound) ≡ true
           restr-reaches x = unfold reach in rw (x .is) at (h .reaches)
 
-      pub route-spot : Spot bs p m t to room
+      pub route-spot : Spot bs p m t (pen .to) room
       route-spot = record {
         what = nodeOf (h .tree);
         next = p + nodeLen bs p;
@@ -280,24 +286,33 @@ module _ (bs : List ℕ) where
       }
 
       module _ (k n : ℕ) (long : k ≡ nodeLen bs p) (many : (nd : Node) (q : ℕ) → node (varsOf bs) bs p ≡ got nd q → n ≡ arity nd) (l : ℕ)
-          (level-is : (nd : Node) → codeOf nd ≡ natAbs (field bs p) → l ≡ levelBelow nd level) (dry : Bool) (pen after : Pen) (out out′ : List ℕ)
-          (from : pen .to ≡ to)
+          (level-is : (nd : Node) → codeOf nd ≡ natAbs (field bs p) → l ≡ levelBelow nd level) (dry : Bool) (after : Pen) (out out′ : List ℕ)
           (visited : Visits bs p m t level dry pen out out′ after) where
-        pub route-children : RouteAll bs (p + k) (left - 1) n m b of t l (after .to) room
+        first-wrote : Wrote dry pen out out′ after (own t (nodeOf (h .tree)) (mapOf m) level)
+        first-wrote = visited (nodeOf (h .tree)) (p + nodeLen bs p) (at-got (varsOf bs) bs (h .tree) p (h .end) (h .at))
+
+        route-children : RouteAll bs (p + k) (left - 1) n m b of t l after room
         route-children =
             let e = h .tree in
             let same = same-below e (m .height) (h .bound) no-dep in
             let here = level-is (nodeOf e) (sym coded) in
-            let wrote = visited (nodeOf e) (p + nodeLen bs p) (at-got (varsOf bs) bs e p (h .end) (h .at)) in
-            let to-is = ap (λ z. z .to) (wrote .pen-is) in
+            let to-is = ap (λ z. z .to) (first-wrote .pen-is) in
             let last = ap (λ i. length (partsOf t (childrenOf e) (mapOf m) i b .out)) here in
+            let some-left = standing-some (varsOf bs) bs p left route-standing in
             record {
               trees = childrenOf e;
               end = h .end;
               bound = h .bound;
               at = children-at (varsOf bs) bs p k n long many e (h .end) (h .at);
               few = omega (arith, h .few, children-count e);
+              left-low = omega (arith, h .left-low);
+              level-low = omega (arith, h .level-low, level-next (nodeOf e) level);
               count = children-counted (varsOf bs) bs p k n long many e (h .end) (h .at);
+              many-low = omega (
+                arith,
+                many (nodeOf e) (p + nodeLen bs p) (at-got (varsOf bs) bs e p (h .end) (h .at)),
+                arity-few (varsOf bs) bs p (nodeOf e) (at-node (varsOf bs) bs e p (h .end) (h .at)),
+              );
               fitting = children-fit bs p e (h .end) (m .height) (h .at) eight (h .fitting);
               reaches = rw (same .1) at
                   (&&-right (reachHere (nodeOf e) (h .bound)) (reachAll (childrenOf e) (reachBelow (nodeOf e) (h .bound)))
@@ -306,32 +321,19 @@ module _ (bs : List ℕ) where
               combinations = sym (count-operands e no-case) ∙ h .branches;
               low = h .low;
               some = h .some;
+              things-low = things-low dry pen out (own t (nodeOf e) (mapOf m) level) first-wrote (h .things-low) (own-things t (nodeOf e) (mapOf m) level);
               fits-room = omega (arith, h .fits-room, lengths);
             }
 
-        first-wrote : Wrote dry pen out out′ after (own t (nodeOf (h .tree)) (mapOf m) level)
-        first-wrote = visited (nodeOf (h .tree)) (p + nodeLen bs p) (at-got (varsOf bs) bs (h .tree) p (h .end) (h .at))
-
-        pub route-after : room ≡ roomOf dry out → RouteAll bs (p + k) (left - 1) n m b of t l (after .to) (roomOf dry out′)
+        pub route-after : room ≡ roomOf dry out → RouteAll bs (p + k) (left - 1) n m b of t l after (roomOf dry out′)
         route-after e =
-            subst (RouteAll bs (p + k) (left - 1) n m b of t l (after .to))
+            subst (RouteAll bs (p + k) (left - 1) n m b of t l after)
             (e ∙ sym (room-same dry pen out (own t (nodeOf (h .tree)) (mapOf m) level) first-wrote)) route-children
-
-        pub visited-things : pen .things ≤ pen .to → after .things ≤ after .to
-        visited-things low =
-            things-low dry pen out (own t (nodeOf (h .tree)) (mapOf m) level) first-wrote low (own-things t (nodeOf (h .tree)) (mapOf m) level)
-
-        pub route-many : n ≤ 64
-        route-many = omega (
-          arith,
-          many (nodeOf (h .tree)) (p + nodeLen bs p) (at-got (varsOf bs) bs (h .tree) p (h .end) (h .at)),
-          arity-few (varsOf bs) bs p (nodeOf (h .tree)) (at-node (varsOf bs) bs (h .tree) p (h .end) (h .at)),
-        )
 
   -- ---- so many operands
 
-  module _ (p left many : ℕ) (m : Map) (b of : ℕ) (t : Bool) (level to room : ℕ) (some : 1 ≤ many)
-      (h : RouteAll bs p left many m b of t level to room) where
+  module _ (p left many : ℕ) (m : Map) (b of : ℕ) (t : Bool) (level : ℕ) (pen : Pen) (room : ℕ) (some : 1 ≤ many)
+      (h : RouteAll bs p left many m b of t level pen room) where
     split : MoreAt (h .trees) (varsOf bs) bs p (h .end) (many - 1)
     split = one-more (varsOf bs) bs (h .trees) p (h .end) many some (h .at) (h .count)
 
@@ -382,35 +384,35 @@ module _ (bs : List ℕ) where
       after-first : AllAt (split .rest) (varsOf bs) bs (r .next) (h .end)
       after-first = subst (λ i. AllAt (split .rest) (varsOf bs) bs i (h .end)) (sym (taken .ends)) (split .after)
 
-      route-part : Route bs p left m (r .b) (r .of) t level to room
+      route-part : Route bs p left m (r .b) (r .of) t level pen room
       route-part = record {
         tree = split .first;
         end = split .middle;
         bound = h .bound;
         at = split .before;
         few = omega (arith, nodes, h .few);
+        left-low = h .left-low;
+        level-low = h .level-low;
         fitting = &&-left (fits (split .first) (headsOf bs) (m .height)) (allFit (split .rest) (headsOf bs) (m .height)) all-fit;
         reaches = &&-left (reach (split .first) (h .bound)) (reachAll (split .rest) (h .bound)) all-reach;
         carried = h .carried;
         branches = taken .first-count;
         low = omega (arith, taken .first-count, each .left-low, h .low);
         some = rw (taken .first-branch, ← taken .first-count) (div-lt-iff-lt-mul (each .right-some) .1 (subst (λ i. b < i) (sym product) (h .some)));
+        things-low = h .things-low;
         fits-room =
-            subst (λ i. to + length (partOf t (split .first) (mapOf m) level i .out) ≤ room) (sym (taken .first-branch))
+            subst (λ i. pen .to + length (partOf t (split .first) (mapOf m) level i .out) ≤ room) (sym (taken .first-branch))
             (omega (arith, h .fits-room, both-long));
       }
 
-      module _ (dry : Bool) (pen after : Pen) (out out′ : List ℕ) (from : pen .to ≡ to)
+      module _ (dry : Bool) (after : Pen) (out out′ : List ℕ)
           (followed : Follows bs p m (r .b) (r .of) t level dry pen out out′ after) where
         wrote : Wrote dry pen out out′ after (partOf t (split .first) (mapOf m) level (r .b))
         wrote = followed (split .first) (split .middle) (split .before) (taken .first-count)
 
-        after-things : pen .things ≤ pen .to → after .things ≤ after .to
-        after-things low =
-            things-low dry pen out (partOf t (split .first) (mapOf m) level (r .b)) wrote low (part-things t (split .first) (mapOf m) level (r .b))
-
-        route-rest : RouteAll bs (r .next) left (many - 1) m (r .rest) (r .among) t level (after .to) room
+        route-rest : RouteAll bs (r .next) left (many - 1) m (r .rest) (r .among) t level after room
         route-rest =
+            let first = partOf t (split .first) (mapOf m) level (r .b) in
             let to-is = ap (λ z. z .to) (wrote .pen-is) in
             let first-long = ap (λ i. length (partOf t (split .first) (mapOf m) level i .out)) (taken .first-branch) in
             record {
@@ -419,25 +421,29 @@ module _ (bs : List ℕ) where
               bound = h .bound;
               at = after-first;
               few = omega (arith, nodes, h .few);
+              left-low = h .left-low;
+              level-low = h .level-low;
               count = split .many;
+              many-low = omega (arith, h .many-low);
               fitting = &&-right (fits (split .first) (headsOf bs) (m .height)) (allFit (split .rest) (headsOf bs) (m .height)) all-fit;
               reaches = &&-right (reach (split .first) (h .bound)) (reachAll (split .rest) (h .bound)) all-reach;
               carried = h .carried;
               combinations = taken .rest-count;
               low = omega (arith, taken .rest-count, each .right-low, h .low);
               some = rw (taken .rest-branch, ← taken .rest-count) (mod-lt b (each .right-some));
+              things-low = things-low dry pen out first wrote (h .things-low) (part-things t (split .first) (mapOf m) level (r .b));
               fits-room =
                   subst (λ i. after .to + length (partsOf t (split .rest) (mapOf m) level i .out) ≤ room) (sym (taken .rest-branch))
                   (omega (arith, h .fits-room, both-long));
             }
 
-        rest-after : room ≡ roomOf dry out → RouteAll bs (r .next) left (many - 1) m (r .rest) (r .among) t level (after .to) (roomOf dry out′)
+        rest-after : room ≡ roomOf dry out → RouteAll bs (r .next) left (many - 1) m (r .rest) (r .among) t level after (roomOf dry out′)
         rest-after e =
-            subst (RouteAll bs (r .next) left (many - 1) m (r .rest) (r .among) t level (after .to))
+            subst (RouteAll bs (r .next) left (many - 1) m (r .rest) (r .among) t level after)
             (e ∙ sym (room-same dry pen out (partOf t (split .first) (mapOf m) level (r .b)) wrote)) route-rest
 
     -- one operand alone has the branch that the combination has
-    pub route-only : many < 2 → Route bs p left m b of t level to room
+    pub route-only : many < 2 → Route bs p left m b of t level pen room
     route-only few =
         let last = allAt-none (varsOf bs) bs (split .rest) (split .middle) (h .end) (split .after) (omega (arith, split .many)) in
         route-part _ (only-split (split .first) (split .rest) (split .middle) b of (last .is) product)
@@ -447,16 +453,13 @@ module _ (bs : List ℕ) where
       first-taken : SplitsOf (split .first) (split .rest) (split .middle) b r
       first-taken = splits (split .first) (split .rest) (split .middle) (split .before) product
 
-      pub route-first : Route bs p left m (r .b) (r .of) t level to room
+      pub route-first : Route bs p left m (r .b) (r .of) t level pen room
       route-first = route-part r first-taken
 
-      module _ (dry : Bool) (pen after : Pen) (out out′ : List ℕ) (from : pen .to ≡ to)
+      module _ (dry : Bool) (after : Pen) (out out′ : List ℕ)
           (followed : Follows bs p m (r .b) (r .of) t level dry pen out out′ after) where
-        pub followed-things : pen .things ≤ pen .to → after .things ≤ after .to
-        followed-things = after-things r first-taken dry pen after out out′ from followed
-
-        pub route-next : room ≡ roomOf dry out → RouteAll bs (r .next) left (many - 1) m (r .rest) (r .among) t level (after .to) (roomOf dry out′)
-        route-next = rest-after r first-taken dry pen after out out′ from followed
+        pub route-next : room ≡ roomOf dry out → RouteAll bs (r .next) left (many - 1) m (r .rest) (r .among) t level after (roomOf dry out′)
+        route-next = rest-after r first-taken dry after out out′ followed
 
 -- ---- the ways through the walk
 

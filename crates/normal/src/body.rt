@@ -3,7 +3,7 @@ use super::Pen;
 use super::Taken;
 use super::follow::follow;
 use super::node::larger;
-use super::packed::packed_identity;
+use affine::identity;
 use integer::put_nat;
 ghost use mathlib.Core.Path.{_≡_};
 ghost use Prim.Native.Nat.{_+_, _-_, _^_, _≤_, _<_, min};
@@ -15,15 +15,15 @@ fn measure(s: &[u8], at: usize, n: usize, many: usize, b: usize) -> Taken
     requires { ⌜ Body.BodyAt (now s) at n many × (b < many) ⌝ }
     ensures { λ r. ⌜ Body.TakesBranch (now (s .entry)) at n many b r ⌝ }
 {
-    let m = packed_identity(n);
+    let m = identity(n);
     let mut none = [0u8; 1];
     let start = Pen {
         to: 0,
         things: 0,
         deep: 0,
     };
-    let given = follow(s, at, 2048, b, many, &m, false, true, 0, &mut none, start);
-    let term = follow(s, at, 2048, b, many, &m, true, true, 0, &mut none, start);
+    let given = follow(s, at, 2048, b, many, m, false, true, 0, &mut none, start);
+    let term = follow(s, at, 2048, b, many, m, true, true, 0, &mut none, start);
     Taken {
         nodes: term.things + 1,
         bytes: 24 + given.to + term.to,
@@ -73,20 +73,20 @@ fn put_branch(
 {
     put_nat(out, to, 7);
     put_nat(out, to + 8, n);
-    let m = packed_identity(n);
+    let m = identity(n);
     let start = Pen {
         to: to + 24,
         things: 0,
         deep: 0,
     };
-    let given = follow(s, at, 2048, b, many, &m, false, false, 0, out, start);
+    let given = follow(s, at, 2048, b, many, m, false, false, 0, out, start);
     put_nat(out, to + 16, given.things);
     let next = Pen {
         to: given.to,
         things: 0,
         deep: 0,
     };
-    let term = follow(s, at, 2048, b, many, &m, true, false, 0, out, next);
+    let term = follow(s, at, 2048, b, many, m, true, false, 0, out, next);
     term.to
 }
 

@@ -1,10 +1,8 @@
 // What one node gives to a branch: to its tree, or to its constraints. Assumes nothing.
 use super::Pen;
-use super::packed::high_in;
-use super::packed::map_in;
-use super::packed::wide_in;
 use super::rows::put_constraints;
 use super::rows::put_map;
+use affine::Map;
 use integer::number_at;
 use integer::put;
 use integer::put_nat;
@@ -19,7 +17,6 @@ ghost use Rattle.laws.specs.At.{codeOf};
 ghost use Rattle.laws.specs.Sheets.{varsOf};
 ghost use Rattle.affine.specs.Value.{mapOf, Neat};
 ghost use Rattle.tree.specs.Standing.{Noded};
-ghost use Rattle.normal.specs.Packed.{mapIn};
 ghost use Rattle.normal.specs.Part.{ofTree};
 ghost use Rattle.normal.specs.Followed.{roomOf, Visits};
 ghost use Rattle.normal.specs.Spot.{headBytes, Spot, Stores, moves, Sizes};
@@ -41,27 +38,26 @@ fn put_head(s: &[u8], at: usize, out: &mut [u8], to: usize)
 }
 
 // In the tree: a leaf below one dependence, an operator as it is, and nothing of any other node.
-fn put_node(s: &[u8], at: usize, m: &[i64; 22], out: &mut [u8], to: usize)
-    requires { ⌜ Spot (now s) at (mapIn (now m)) true to (length (now out)) ⌝ }
-    ensures { λ _. ⌜ Stores (now (s .entry)) at (mapIn (now (m .entry))) true to (now (out .entry)) (now (out .exit)) ⌝ }
+fn put_node(s: &[u8], at: usize, m: Map, out: &mut [u8], to: usize)
+    requires { ⌜ Spot (now s) at m true to (length (now out)) ⌝ }
+    ensures { λ _. ⌜ Stores (now (s .entry)) at m true to (now (out .entry)) (now (out .exit)) ⌝ }
 {
     let code = natural(s, at);
     if 5 < code {
         return;
     }
     if code < 3 {
-        let w = map_in(m);
-        put_map(out, to, w);
-        put_head(s, at, out, to + (24 + w.height * (8 * w.width + 8)));
+        put_map(out, to, m);
+        put_head(s, at, out, to + (24 + m.height * (8 * m.width + 8)));
         return;
     }
     put_head(s, at, out, to);
 }
 
 // In the constraints: those of a restriction, after the map.
-fn put_limits(s: &[u8], at: usize, m: &[i64; 22], out: &mut [u8], to: usize)
-    requires { ⌜ Spot (now s) at (mapIn (now m)) false to (length (now out)) ⌝ }
-    ensures { λ _. ⌜ Stores (now (s .entry)) at (mapIn (now (m .entry))) false to (now (out .entry)) (now (out .exit)) ⌝ }
+fn put_limits(s: &[u8], at: usize, m: Map, out: &mut [u8], to: usize)
+    requires { ⌜ Spot (now s) at m false to (length (now out)) ⌝ }
+    ensures { λ _. ⌜ Stores (now (s .entry)) at m false to (now (out .entry)) (now (out .exit)) ⌝ }
 {
     let code = natural(s, at);
     if code != 7 {
@@ -69,19 +65,19 @@ fn put_limits(s: &[u8], at: usize, m: &[i64; 22], out: &mut [u8], to: usize)
     }
     let n = natural(s, at + 8);
     let count = natural(s, at + 16);
-    put_constraints(s, at + 24, count, n, map_in(m), out, to);
+    put_constraints(s, at + 24, count, n, m, out, to);
 }
 
 // ---- measured
 
 // In the tree, below `level` nodes.
-fn node_size(code: usize, m: &[i64; 22], level: usize) -> Pen
-    requires { ⌜ Neat (mapIn (now m)) × (level ≤ 4096) ⌝ }
-    ensures { λ r. ⌜ ((nd : Node) → codeOf nd ≡ code → r ≡ moves (ofTree nd (mapOf (mapIn (now (m .entry)))) level)) ⌝ }
+fn node_size(code: usize, m: Map, level: usize) -> Pen
+    requires { ⌜ Neat m × (level ≤ 4096) ⌝ }
+    ensures { λ r. ⌜ ((nd : Node) → codeOf nd ≡ code → r ≡ moves (ofTree nd (mapOf m) level)) ⌝ }
 {
     if code < 3 {
         return Pen {
-            to: 40 + high_in(m) * (8 * wide_in(m) + 8),
+            to: 40 + m.height * (8 * m.width + 8),
             things: 2,
             deep: level + 2,
         };
@@ -108,9 +104,9 @@ fn node_size(code: usize, m: &[i64; 22], level: usize) -> Pen
 }
 
 // In the constraints.
-fn limits_size(s: &[u8], at: usize, m: &[i64; 22]) -> Pen
-    requires { ⌜ Noded (varsOf (now s)) (now s) at × Neat (mapIn (now m)) ⌝ }
-    ensures { λ r. ⌜ Sizes (now (s .entry)) at (mapIn (now (m .entry))) false 0 r ⌝ }
+fn limits_size(s: &[u8], at: usize, m: Map) -> Pen
+    requires { ⌜ Noded (varsOf (now s)) (now s) at × Neat m ⌝ }
+    ensures { λ r. ⌜ Sizes (now (s .entry)) at m false 0 r ⌝ }
 {
     let code = natural(s, at);
     if code != 7 {
@@ -122,7 +118,7 @@ fn limits_size(s: &[u8], at: usize, m: &[i64; 22]) -> Pen
     }
     let count = natural(s, at + 16);
     Pen {
-        to: count * (16 + 8 * wide_in(m)),
+        to: count * (16 + 8 * m.width),
         things: count,
         deep: 0,
     }
@@ -130,9 +126,9 @@ fn limits_size(s: &[u8], at: usize, m: &[i64; 22]) -> Pen
 
 // ---- both
 
-fn put_own(s: &[u8], at: usize, m: &[i64; 22], tree: bool, out: &mut [u8], to: usize)
-    requires { ⌜ Spot (now s) at (mapIn (now m)) tree to (length (now out)) ⌝ }
-    ensures { λ _. ⌜ Stores (now (s .entry)) at (mapIn (now (m .entry))) tree to (now (out .entry)) (now (out .exit)) ⌝ }
+fn put_own(s: &[u8], at: usize, m: Map, tree: bool, out: &mut [u8], to: usize)
+    requires { ⌜ Spot (now s) at m tree to (length (now out)) ⌝ }
+    ensures { λ _. ⌜ Stores (now (s .entry)) at m tree to (now (out .entry)) (now (out .exit)) ⌝ }
 {
     if tree {
         put_node(s, at, m, out, to);
@@ -141,9 +137,9 @@ fn put_own(s: &[u8], at: usize, m: &[i64; 22], tree: bool, out: &mut [u8], to: u
     put_limits(s, at, m, out, to);
 }
 
-fn size_of(s: &[u8], at: usize, m: &[i64; 22], tree: bool, level: usize) -> Pen
-    requires { ⌜ Noded (varsOf (now s)) (now s) at × Neat (mapIn (now m)) × (level ≤ 4096) ⌝ }
-    ensures { λ r. ⌜ Sizes (now (s .entry)) at (mapIn (now (m .entry))) tree level r ⌝ }
+fn size_of(s: &[u8], at: usize, m: Map, tree: bool, level: usize) -> Pen
+    requires { ⌜ Noded (varsOf (now s)) (now s) at × Neat m × (level ≤ 4096) ⌝ }
+    ensures { λ r. ⌜ Sizes (now (s .entry)) at m tree level r ⌝ }
 {
     if tree {
         node_size(natural(s, at), m, level)
@@ -175,15 +171,15 @@ fn moved(pen: Pen, size: Pen) -> Pen
 pub fn visit(
     s: &[u8],
     at: usize,
-    m: &[i64; 22],
+    m: Map,
     tree: bool,
     dry: bool,
     level: usize,
     out: &mut [u8],
     pen: Pen,
 ) -> Pen
-    requires { ⌜ Spot (now s) at (mapIn (now m)) tree (pen .to) (roomOf dry (now out)) × (level ≤ 4096) × (pen .things ≤ pen .to) ⌝ }
-    ensures { λ r. ⌜ Visits (now (s .entry)) at (mapIn (now (m .entry))) tree level dry pen (now (out .entry)) (now (out .exit)) r ⌝ }
+    requires { ⌜ Spot (now s) at m tree (pen .to) (roomOf dry (now out)) × (level ≤ 4096) × (pen .things ≤ pen .to) ⌝ }
+    ensures { λ r. ⌜ Visits (now (s .entry)) at m tree level dry pen (now (out .entry)) (now (out .exit)) r ⌝ }
 {
     let size = size_of(s, at, m, tree, level);
     if dry {

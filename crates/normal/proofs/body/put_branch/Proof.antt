@@ -27,8 +27,8 @@ put-nat-requires-2 c κs =
     let s = c .before .before .before .before .before .before .before in
     omega (arith, room-there _ _ _ _ (s .pre .0) _ (s .pre .1) (s .args .out .now) (s .args .to) (s .pre .2))
 
-packed-identity-requires : tie.Need-packed-identity-requires
-packed-identity-requires c κs = search needs
+identity-requires : tie.Need-identity-requires
+identity-requires c κs = search needs
 
 add-put-nat-2 : tie.Need-add-put-nat-2
 add-put-nat-2 c =
@@ -37,66 +37,58 @@ add-put-nat-2 c =
 
 follow-requires : tie.Need-follow-requires
 follow-requires c κs =
-    let after-top = c .before .before in
-    let after-put-nat2 = after-top .before .before .before in
+    let after-identity = c .before in
+    let after-put-nat2 = after-identity .before .before .before in
     let after-put-nat = after-put-nat2 .before .before .before .before in
     let s = after-put-nat .before .before .before .before in
-    let m = after-top .packed-identity .ensures in
-    let l = s .args .out .now in
-    let to = s .args .to in
-    let n = s .args .n in
-    let head =
-    sets-after l to 8 (nat 7) (nat n) (length-nat 7) (after-put-nat .put-nat .ensures) (after-put-nat2 .put-nat2 .ensures) in
-    let same = ap length head ∙ length-sets l to (nat 7 ++ nat n) in (
-      given-route _ _ _ _ (s .pre .0) _ (m .0) (m .1) (m .2) _ (s .pre .1) l to (s .pre .2) (after-put-nat2 .put-nat2 .last .0) same,
-      omega arith,
-      omega arith,
-      omega arith,
-    )
-
-add-put-nat-3 : tie.Need-add-put-nat-3
-add-put-nat-3 c =
-    let s = c .before .before .before .before .before .before .before .before .before .before .before .before .before .before .before .before .before in
-    omega (arith, room-there _ _ _ _ (s .pre .0) _ (s .pre .1) (s .args .out .now) (s .args .to) (s .pre .2))
-
-put-nat-requires-3 : tie.Need-put-nat-requires-3
-put-nat-requires-3 c κs =
-    let s = c .before .before .before .before .before .before .before .before .before .before .before .before .before .before .before .before .before in
-    omega (arith, room-there _ _ _ _ (s .pre .0) _ (s .pre .1) (s .args .out .now) (s .args .to) (s .pre .2))
-
-follow-requires-2 : tie.Need-follow-requires-2
-follow-requires-2 c κs =
-    let after-put-nat3 = c .before .before .before .before in
-    let after-follow = after-put-nat3 .before .before .before .before in
-    let after-top = after-follow .before .before .before in
-    let after-put-nat2 = after-top .before .before .before in
-    let after-put-nat = after-put-nat2 .before .before .before .before in
-    let s = after-put-nat .before .before .before .before in
-    let m = after-top .packed-identity .ensures in
+    let m = after-identity .identity .ensures in
     let l = s .args .out .now in
     let to = s .args .to in
     let n = s .args .n in
     let head =
     sets-after l to 8 (nat 7) (nat n) (length-nat 7) (after-put-nat .put-nat .ensures) (after-put-nat2 .put-nat2 .ensures) in
     let same = ap length head ∙ length-sets l to (nat 7 ++ nat n) in
-    let kept = ap length (after-put-nat3 .put-nat3 .ensures) ∙ length-sets _ (to + 16) (nat (after-follow .follow .result .things)) in (
-      term-route _ _ _ _ (s .pre .0) _ (m .0) (m .1) (m .2) _ (s .pre .1) l to (s .pre .2)
-          (after-put-nat2 .put-nat2 .last .0) same _ _ (after-follow .follow .ensures) (after-put-nat3 .put-nat3 .last .0) kept,
-      omega arith,
-      omega arith,
-      omega arith,
-    )
+    given-route _ _ _ _ (s .pre .0) _ (m .0) (m .1) (m .2) _ (s .pre .1) l to (s .pre .2) (after-put-nat2 .put-nat2 .last .0) same
+
+add-put-nat-3 : tie.Need-add-put-nat-3
+add-put-nat-3 c =
+    let s = c .before .before .before .before .before .before .before .before .before .before .before .before .before .before .before .before in
+    omega (arith, room-there _ _ _ _ (s .pre .0) _ (s .pre .1) (s .args .out .now) (s .args .to) (s .pre .2))
+
+put-nat-requires-3 : tie.Need-put-nat-requires-3
+put-nat-requires-3 c κs =
+    let s = c .before .before .before .before .before .before .before .before .before .before .before .before .before .before .before .before in
+    omega (arith, room-there _ _ _ _ (s .pre .0) _ (s .pre .1) (s .args .out .now) (s .args .to) (s .pre .2))
+
+follow-requires-2 : tie.Need-follow-requires-2
+follow-requires-2 c κs =
+    let after-put-nat3 = c .before .before .before in
+    let after-follow = after-put-nat3 .before .before .before .before in
+    let after-identity = after-follow .before .before in
+    let after-put-nat2 = after-identity .before .before .before in
+    let after-put-nat = after-put-nat2 .before .before .before .before in
+    let s = after-put-nat .before .before .before .before in
+    let m = after-identity .identity .ensures in
+    let l = s .args .out .now in
+    let to = s .args .to in
+    let n = s .args .n in
+    let head =
+    sets-after l to 8 (nat 7) (nat n) (length-nat 7) (after-put-nat .put-nat .ensures) (after-put-nat2 .put-nat2 .ensures) in
+    let same = ap length head ∙ length-sets l to (nat 7 ++ nat n) in
+    let kept = ap length (after-put-nat3 .put-nat3 .ensures) ∙ length-sets _ (to + 16) (nat (after-follow .follow .result .things)) in
+    term-route _ _ _ _ (s .pre .0) _ (m .0) (m .1) (m .2) _ (s .pre .1) l to (s .pre .2)
+    (after-put-nat2 .put-nat2 .last .0) same _ _ (after-follow .follow .ensures) (after-put-nat3 .put-nat3 .last .0) kept
 
 same-length : tie.Need-same-length
 same-length c =
     let after-follow2 = c .before .before in
-    let after-put-nat3 = after-follow2 .before .before .before .before .before in
+    let after-put-nat3 = after-follow2 .before .before .before .before in
     let after-follow = after-put-nat3 .before .before .before .before in
-    let after-top = after-follow .before .before .before in
-    let after-put-nat2 = after-top .before .before .before in
+    let after-identity = after-follow .before .before in
+    let after-put-nat2 = after-identity .before .before .before in
     let after-put-nat = after-put-nat2 .before .before .before .before in
     let s = after-put-nat .before .before .before .before in
-    let m = after-top .packed-identity .ensures in
+    let m = after-identity .identity .ensures in
     let l = s .args .out .now in
     let to = s .args .to in
     let n = s .args .n in
@@ -111,13 +103,13 @@ same-length c =
 returns : tie.Need-returns
 returns c =
     let after-follow2 = c .before .before in
-    let after-put-nat3 = after-follow2 .before .before .before .before .before in
+    let after-put-nat3 = after-follow2 .before .before .before .before in
     let after-follow = after-put-nat3 .before .before .before .before in
-    let after-top = after-follow .before .before .before in
-    let after-put-nat2 = after-top .before .before .before in
+    let after-identity = after-follow .before .before in
+    let after-put-nat2 = after-identity .before .before .before in
     let after-put-nat = after-put-nat2 .before .before .before .before in
     let s = after-put-nat .before .before .before .before in
-    let m = after-top .packed-identity .ensures in
+    let m = after-identity .identity .ensures in
     let l = s .args .out .now in
     let to = s .args .to in
     let n = s .args .n in
@@ -135,7 +127,7 @@ put-branch-spec =
     put-nat-requires
     add-put-nat
     put-nat-requires-2
-    packed-identity-requires
+    identity-requires
     add-put-nat-2
     follow-requires
     add-put-nat-3

@@ -9,7 +9,6 @@ use Rattle.normal.proofs.follow.follow_all.Kinds as follow-all-kinds
 use Rattle.normal.proofs.follow.+follow+follow_all.Lts-follow_all as follow-all-lts
 use Rattle.normal.proofs.choose.choose.Reads as choose-reads
 use Rattle.normal.proofs.choose.split.Reads as split-reads
-use Rattle.normal.proofs.follow.handed.Reads as handed-reads
 use Rattle.normal.proofs.follow.level_below.Reads as level-below-reads
 use Rattle.normal.proofs.follow.map_below.Reads as map-below-reads
 use Rattle.normal.proofs.node.visit.Reads as visit-reads
@@ -31,32 +30,30 @@ use Rattle.tree.specs.Standing.{Noded}
 use Rattle.tree.proofs.Noding.{code-there}
 use Rattle.tree.proofs.Standings.{standing-noded, standing-some, standing-there}
 use Rattle.normal.specs.declared.Pen.{Pen}
-use Rattle.normal.specs.Packed.{mapIn}
 use Rattle.normal.specs.Followed.{roomOf, RouteAll, FollowsAll}
 use Rattle.normal.proofs.Routes.{route-standing, route-choice, route-chosen, route-composes, route-below, route-spot, route-after}
-use Rattle.normal.proofs.Routes.{visited-things, route-many}
-use Rattle.normal.proofs.Routes.{route-operand, route-first, followed-things, route-next, case-way, node-way, dep-way}
+use Rattle.normal.proofs.Routes.{route-operand, route-first, route-next, case-way, node-way, dep-way}
 use Rattle.normal.proofs.Routes.{none-way, one-way, more-way, route-only}
 
-abbrev μ-follow : Measures 3 follow-kinds.ps ℕ
+abbrev μ-follow : Measures 2 follow-kinds.ps ℕ
 μ-follow κs a = 70 * a .1 .1 .0
 
-abbrev μ-follow-all : Measures 3 follow-all-kinds.ps ℕ
+abbrev μ-follow-all : Measures 2 follow-all-kinds.ps ℕ
 μ-follow-all κs a = 70 * a .1 .1 .0 + (a .1 .1 .1 .0 + 1)
 
-abbrev follow-at : ℕ → In 3 follow-kinds.ps
-follow-at t = and 3 follow-kinds.ps (is 3 follow-kinds.ps μ-follow t) follow.Pre
+abbrev follow-at : ℕ → In 2 follow-kinds.ps
+follow-at t = and 2 follow-kinds.ps (is 2 follow-kinds.ps μ-follow t) follow.Pre
 
-abbrev follow-below : ℕ → In 3 follow-kinds.ps
-follow-below t = and 3 follow-kinds.ps (falls 3 follow-kinds.ps _<_ μ-follow t) follow.Pre
+abbrev follow-below : ℕ → In 2 follow-kinds.ps
+follow-below t = and 2 follow-kinds.ps (falls 2 follow-kinds.ps _<_ μ-follow t) follow.Pre
 
-abbrev follow-all-at : ℕ → In 3 follow-all-kinds.ps
+abbrev follow-all-at : ℕ → In 2 follow-all-kinds.ps
 follow-all-at t =
-    and 3 follow-all-kinds.ps (is 3 follow-all-kinds.ps μ-follow-all t) follow-all.Pre
+    and 2 follow-all-kinds.ps (is 2 follow-all-kinds.ps μ-follow-all t) follow-all.Pre
 
-abbrev follow-all-below : ℕ → In 3 follow-all-kinds.ps
+abbrev follow-all-below : ℕ → In 2 follow-all-kinds.ps
 follow-all-below t =
-    and 3 follow-all-kinds.ps (falls 3 follow-all-kinds.ps _<_ μ-follow-all t) follow-all.Pre
+    and 2 follow-all-kinds.ps (falls 2 follow-all-kinds.ps _<_ μ-follow-all t) follow-all.Pre
 
 abbrev follow-uses : ℕ → follow-lts.Claims
 follow-uses t = (
@@ -68,8 +65,6 @@ follow-uses t = (
   children-reads.Learnt,
   choose-reads.Asked,
   choose-reads.Learnt,
-  handed-reads.Asked,
-  handed-reads.Learnt,
   follow-below t,
   follow.Post,
   map-below-reads.Asked,
@@ -83,15 +78,15 @@ follow-uses t = (
 )
 
 abbrev follow-all-uses : ℕ → follow-all-lts.Claims
-follow-all-uses t = (split-reads.Asked, split-reads.Learnt, handed-reads.Asked, handed-reads.Learnt, follow-below t, follow.Post)
+follow-all-uses t = (split-reads.Asked, split-reads.Learnt, follow-below t, follow.Post)
 
 -- the node
 noded : (t : ℕ) (c : follow-lts.Start (follow-uses t) (follow-at t) follow.Post) → Noded (varsOf (c .args .s .now)) (c .args .s .now) (c .args .at)
-noded t c = standing-noded _ _ _ _ (route-standing _ _ _ _ _ _ _ _ _ _ (c .pre .1 .0))
+noded t c = standing-noded _ _ _ _ (route-standing _ _ _ _ _ _ _ _ _ _ (c .pre .1))
 
 -- there is a node left
 some : (t : ℕ) (c : follow-lts.Start (follow-uses t) (follow-at t) follow.Post) → 1 ≤ c .args .left
-some t c = standing-some _ _ _ _ (route-standing _ _ _ _ _ _ _ _ _ _ (c .pre .1 .0))
+some t c = standing-some _ _ _ _ (route-standing _ _ _ _ _ _ _ _ _ _ (c .pre .1))
 
 follow-natural-requires : (t : ℕ) → follow-lts.Need-natural-requires (follow-uses t) (follow-at t) follow.Post
 follow-natural-requires t c κs = code-there _ _ _ (noded t (c .before .before))
@@ -104,7 +99,7 @@ follow-node-len-requires t c κs =
 follow-add-next : (t : ℕ) → follow-lts.Need-add-next (follow-uses t) (follow-at t) follow.Post
 follow-add-next t c =
     let s = c .before .before .before .before in
-    omega (arith, standing-there _ _ _ _ (route-standing _ _ _ _ _ _ _ _ _ _ (s .pre .1 .0)), c .node-len .ensures)
+    omega (arith, standing-there _ _ _ _ (route-standing _ _ _ _ _ _ _ _ _ _ (s .pre .1)), c .node-len .ensures)
 
 follow-children-requires : (t : ℕ) → follow-lts.Need-children-requires (follow-uses t) (follow-at t) follow.Post
 follow-children-requires t c κs =
@@ -121,50 +116,35 @@ follow-choose-requires t c κs =
     let after-natural = c .before .before .before in
     let s = after-natural .before .before .before in
     let six = sym (after-natural .natural .ensures) ∙ c .if1 .taken in (
-      route-choice _ _ _ _ _ _ _ _ _ _ (s .pre .1 .0) six _ _ (c .before .before .node-len .ensures) (c .before .children .ensures),
-      omega (arith, s .pre .1 .1),
+      route-choice _ _ _ _ _ _ _ _ _ _ (s .pre .1) six _ _ (c .before .before .node-len .ensures) (c .before .children .ensures),
+      omega (arith, s .pre .1 .left-low),
     )
 
-follow-handed-requires : (t : ℕ) → follow-lts.Need-handed-requires (follow-uses t) (follow-at t) follow.Post
-follow-handed-requires t c κs = search needs
-
 follow-sub-follow : (t : ℕ) → follow-lts.Need-sub-follow (follow-uses t) (follow-at t) follow.Post
-follow-sub-follow t c =
-    let s = c .before .before .before .before .before .before .before .before in
-    omega (arith, some t (s))
+follow-sub-follow t c = omega (arith, some t (c .before .before .before .before .before .before .before))
 
 follow-follow-requires : (t : ℕ) → follow-lts.Need-follow-requires (follow-uses t) (follow-at t) follow.Post
 follow-follow-requires t c κs =
-    let after-choose = c .before .before in
+    let after-choose = c .before in
     let after-children = after-choose .before .before in
     let after-node-len = after-children .before in
     let after-natural = after-node-len .before in
     let s = after-natural .before .before .before in
     let six = sym (after-natural .natural .ensures) ∙ after-choose .before .if1 .taken in
     let left = some t s in
-    let is = s .pre .0 in
-    rw (c .before .handed .ensures) (
+    let is = s .pre .0 in (
       omega arith,
-      (
-        route-chosen _ _ _ _ _ _ _ _ _ _ (s .pre .1 .0) six _ _ (after-node-len .node-len .ensures) (after-children .children .ensures) _
-            (after-choose .choose .ensures),
-        omega (arith, s .pre .1 .1),
-        omega (arith, s .pre .1 .2),
-        s .pre .1 .3,
-      ),
+      route-chosen _ _ _ _ _ _ _ _ _ _ (s .pre .1) six _ _ (after-node-len .node-len .ensures) (after-children .children .ensures) _
+          (after-choose .choose .ensures),
     )
-
-follow-handed-requires-2 : (t : ℕ) → follow-lts.Need-handed-requires-2 (follow-uses t) (follow-at t) follow.Post
-follow-handed-requires-2 t c κs = search needs
 
 follow-same-length : (t : ℕ) → follow-lts.Need-same-length (follow-uses t) (follow-at t) follow.Post
 follow-same-length t c = search needs
 
 follow-returns : (t : ℕ) → follow-lts.Need-returns (follow-uses t) (follow-at t) follow.Post
 follow-returns t c =
-    let after-follow = c .before .before .before in
-    let after-handed = after-follow .before .before in
-    let after-choose = after-handed .before in
+    let after-follow = c .before .before in
+    let after-choose = after-follow .before .before in
     let then1 = after-choose .before in
     let after-children = then1 .before in
     let after-node-len = after-children .before in
@@ -172,11 +152,9 @@ follow-returns t c =
     let s = after-natural .before .before .before in
     let a = s .args in
     let six = sym (after-natural .natural .ensures) ∙ then1 .if1 .taken in
-    let followed = rw (after-handed .handed .ensures) at (after-follow .follow .ensures) in
-    rw (c .handed2 .ensures)
-    (case-way _ _ (mapIn (a .m .now)) (a .b) (a .of) (a .tree) (a .level) (a .dry) (a .pen) _ _ (after-node-len .node-len .ensures) _
+    case-way _ _ (a .m) (a .b) (a .of) (a .tree) (a .level) (a .dry) (a .pen) _ _ (after-node-len .node-len .ensures) _
     (after-children .children .ensures)
-    _ six (s .pre .1 .0 .some) (after-choose .choose .ensures) followed)
+    _ six (s .pre .1 .some) (after-choose .choose .ensures) (after-follow .follow .ensures)
 
 follow-add-map-below : (t : ℕ) → follow-lts.Need-add-map-below (follow-uses t) (follow-at t) follow.Post
 follow-add-map-below t c =
@@ -188,58 +166,40 @@ follow-map-below-requires t c κs =
     let after-natural = c .before .before .before .before in
     let s = after-natural .before .before .before in
     let eight = sym (after-natural .natural .ensures) ∙ c .if2 .taken in
-    route-composes _ _ _ _ _ _ _ _ _ _ (s .pre .1 .0) eight
-
-follow-handed-requires-3 : (t : ℕ) → follow-lts.Need-handed-requires-3 (follow-uses t) (follow-at t) follow.Post
-follow-handed-requires-3 t c κs = search needs
+    route-composes _ _ _ _ _ _ _ _ _ _ (s .pre .1) eight
 
 follow-sub-follow-2 : (t : ℕ) → follow-lts.Need-sub-follow-2 (follow-uses t) (follow-at t) follow.Post
-follow-sub-follow-2 t c =
-    let s = c .before .before .before .before .before .before .before .before .before in
-    omega (arith, some t (s))
+follow-sub-follow-2 t c = omega (arith, some t (c .before .before .before .before .before .before .before .before))
 
 follow-follow-requires-2 : (t : ℕ) → follow-lts.Need-follow-requires-2 (follow-uses t) (follow-at t) follow.Post
 follow-follow-requires-2 t c κs =
-    let after-handed = c .before .before in
-    let after-map-below = after-handed .before in
+    let after-map-below = c .before in
     let then2 = after-map-below .before in
     let after-node-len = then2 .before .before .before in
     let after-natural = after-node-len .before in
     let s = after-natural .before .before .before in
     let eight = sym (after-natural .natural .ensures) ∙ then2 .if2 .taken in
     let left = some t s in
-    let is = s .pre .0 in
-    rw (after-handed .handed3 .ensures) (
+    let is = s .pre .0 in (
       omega arith,
-      (
-        route-below _ _ _ _ _ _ _ _ _ _ (s .pre .1 .0) eight _ (after-node-len .node-len .ensures) _ (after-map-below .map-below .ensures),
-        omega (arith, s .pre .1 .1),
-        omega (arith, s .pre .1 .2),
-        s .pre .1 .3,
-      ),
+      route-below _ _ _ _ _ _ _ _ _ _ (s .pre .1) eight _ (after-node-len .node-len .ensures) _ (after-map-below .map-below .ensures),
     )
-
-follow-handed-requires-4 : (t : ℕ) → follow-lts.Need-handed-requires-4 (follow-uses t) (follow-at t) follow.Post
-follow-handed-requires-4 t c κs = search needs
 
 follow-same-length-2 : (t : ℕ) → follow-lts.Need-same-length-2 (follow-uses t) (follow-at t) follow.Post
 follow-same-length-2 t c = search needs
 
 follow-returns-2 : (t : ℕ) → follow-lts.Need-returns-2 (follow-uses t) (follow-at t) follow.Post
 follow-returns-2 t c =
-    let after-follow = c .before .before .before in
-    let after-handed = after-follow .before .before .before in
-    let after-map-below = after-handed .before in
+    let after-follow = c .before .before in
+    let after-map-below = after-follow .before .before in
     let then2 = after-map-below .before in
     let after-node-len = then2 .before .before .before in
     let after-natural = after-node-len .before in
     let s = after-natural .before .before .before in
     let a = s .args in
     let eight = sym (after-natural .natural .ensures) ∙ then2 .if2 .taken in
-    let followed = rw (after-handed .handed3 .ensures) at (after-follow .follow2 .ensures) in
-    rw (c .handed4 .ensures)
-    (dep-way _ _ (mapIn (a .m .now)) (a .b) (a .of) (a .tree) (a .level) (a .dry) (a .pen) _ _ (after-node-len .node-len .ensures)
-    (mapIn (after-map-below .map-below .result)) eight (after-map-below .map-below .ensures) followed)
+    dep-way _ _ (a .m) (a .b) (a .of) (a .tree) (a .level) (a .dry) (a .pen) _ _ (after-node-len .node-len .ensures)
+    (after-map-below .map-below .result) eight (after-map-below .map-below .ensures) (after-follow .follow2 .ensures)
 
 -- any other code
 six : (t : ℕ) (c : follow-lts.Else2 (follow-uses t) (follow-at t) follow.Post) →
@@ -259,12 +219,13 @@ eight t c e =
 follow-visit-requires : (t : ℕ) → follow-lts.Need-visit-requires (follow-uses t) (follow-at t) follow.Post
 follow-visit-requires t c κs =
     let s = c .before .before .before .before .before .before .before .before in
-    (route-spot _ _ _ _ _ _ _ _ _ _ (s .pre .1 .0) (six t (c .before)) (eight t (c .before)), omega (arith, s .pre .1 .2), s .pre .1 .3)
+    let h = s .pre .1 in
+    (route-spot _ _ _ _ _ _ _ _ _ _ h (six t (c .before)) (eight t (c .before)), omega (arith, h .level-low), h .things-low)
 
 follow-level-below-requires : (t : ℕ) → follow-lts.Need-level-below-requires (follow-uses t) (follow-at t) follow.Post
 follow-level-below-requires t c κs =
     let s = c .before .before .before .before .before .before .before .before .before .before .before in
-    omega (arith, s .pre .1 .2)
+    omega (arith, s .pre .1 .level-low)
 
 follow-sub-follow-all : (t : ℕ) → follow-lts.Need-sub-follow-all (follow-uses t) (follow-at t) follow.Post
 follow-sub-follow-all t c =
@@ -279,29 +240,13 @@ follow-follow-all-requires t c κs =
     let after-node-len = after-children .before in
     let after-natural = after-node-len .before in
     let s = after-natural .before .before .before in
-    let h = s .pre .1 .0 in
-    let long = after-node-len .node-len .ensures in
-    let many = after-children .children .ensures in
     let code = after-natural .natural .ensures in
-    let below = c .before .level-below .ensures in
-    let visited = after-visit .visit .ensures in
-    let not-six = six t (else2) in
-    let not-eight = eight t (else2) in
     let left = some t s in
     let is = s .pre .0 in
-    let few = route-many _ _ _ _ _ _ _ _ _ _ h not-six not-eight _ _ long many _ (λ nd e. below .0 nd (e ∙ sym code)) _ _ _ _ _ refl visited in
-    let things =
-    visited-things _ _ _ _ _ _ _ _ _ _ h not-six not-eight _ _ long many _ (λ nd e. below .0 nd (e ∙ sym code)) _ _ _ _ _ refl visited
-    (s .pre .1 .3) in (
-      omega arith,
-      (
-        route-after _ _ _ _ _ _ _ _ _ _ h not-six not-eight _ _ long many _ (λ nd e. below .0 nd (e ∙ sym code)) _ _ _ _ _ refl visited refl,
-        omega (arith, s .pre .1 .1),
-        omega (arith, s .pre .1 .2, below .1),
-        few,
-        things,
-      ),
-    )
+    let below =
+    route-after _ _ _ _ _ _ _ _ _ _ (s .pre .1) (six t else2) (eight t else2) _ _ (after-node-len .node-len .ensures) (after-children .children .ensures) _
+    (λ nd e. c .before .level-below .ensures nd (e ∙ sym code)) _ _ _ _ (after-visit .visit .ensures) refl in
+    (omega (arith, below .many-low), below)
 
 follow-same-length-3 : (t : ℕ) → follow-lts.Need-same-length-3 (follow-uses t) (follow-at t) follow.Post
 follow-same-length-3 t c = search needs
@@ -317,17 +262,16 @@ follow-returns-3 t c =
     let s = after-natural .before .before .before in
     let a = s .args in
     let code = after-natural .natural .ensures in
-    let below = after-level-below .level-below .ensures in
-    node-way _ _ (mapIn (a .m .now)) (a .b) (a .of) (a .tree) (a .level) (a .dry) (a .pen) _ _ (after-node-len .node-len .ensures) _
-    (after-children .children .ensures)
-    _ (six t (else2)) (eight t (else2)) (λ nd e. below .0 nd (e ∙ sym code)) (after-visit .visit .ensures) (c .before .before .follow-all .ensures)
+    node-way _ _ (a .m) (a .b) (a .of) (a .tree) (a .level) (a .dry) (a .pen) _ _ (after-node-len .node-len .ensures) _
+    (after-children .children .ensures) _ (six t else2) (eight t else2) (λ nd e. after-level-below .level-below .ensures nd (e ∙ sym code))
+    (after-visit .visit .ensures) (c .before .before .follow-all .ensures)
 
 -- the operands from here on go on where those before them ended, and what they come to is what all of them do
 abbrev follow-all-Inv-loop : follow-all-lts.InvT-loop
 follow-all-Inv-loop s at left many b of m tree dry level out₀ sofar₀ p₀ more₀ i₀ n₀ out sofar p more i n =
-    RouteAll s p left more (mapIn m) i n tree level (sofar .to) (roomOf dry out) × (sofar .things ≤ sofar .to)
-    × ((d : List ℕ) (z : Pen) → FollowsAll s p more (mapIn m) i n tree level dry sofar out d z →
-    FollowsAll s at many (mapIn m) b of tree level dry sofar₀ out₀ d z)
+    RouteAll s p left more m i n tree level sofar (roomOf dry out)
+    × ((d : List ℕ) (z : Pen) → FollowsAll s p more m i n tree level dry sofar out d z →
+    FollowsAll s at many m b of tree level dry sofar₀ out₀ d z)
     × (length out ≡ length out₀)
 
 abbrev follow-all-μ-loop : follow-all-lts.MeasureT-loop
@@ -335,76 +279,48 @@ follow-all-μ-loop s at left many b of m tree dry level out₀ sofar₀ p₀ mor
 
 follow-all-loop-holds : (t : ℕ) → follow-all-lts.Need-loop-holds (follow-all-uses t) (follow-all-at t)
     follow-all.Post follow-all-Inv-loop follow-all-μ-loop
-follow-all-loop-holds t c =
-    let s = c .before .before in
-    (s .pre .1 .0, s .pre .1 .4, (λ d z h. h), refl)
+follow-all-loop-holds t c = (c .before .before .pre .1, (λ d z h. h), refl)
 
 follow-all-split-requires : (t : ℕ) → follow-all-lts.Need-split-requires (follow-all-uses t) (follow-all-at t)
     follow-all.Post follow-all-Inv-loop follow-all-μ-loop
 follow-all-split-requires t c κs =
     let at-loop = c .before in
-    let s = at-loop .before .before .before in
     let some : 1 ≤ at-loop .loop .more = omega (arith, c .loop-test .taken) in
-    (route-operand _ _ _ _ _ _ _ _ _ _ _ some (at-loop .loop .inv .0), s .pre .1 .1)
-
-follow-all-handed-requires : (t : ℕ) → follow-all-lts.Need-handed-requires (follow-all-uses t) (follow-all-at t)
-    follow-all.Post follow-all-Inv-loop follow-all-μ-loop
-follow-all-handed-requires t c κs = search needs
+    let route = at-loop .loop .inv .0 in
+    (route-operand _ _ _ _ _ _ _ _ _ _ _ some route, route .left-low)
 
 follow-all-follow-requires : (t : ℕ) → follow-all-lts.Need-follow-requires (follow-all-uses t) (follow-all-at t)
     follow-all.Post follow-all-Inv-loop follow-all-μ-loop
 follow-all-follow-requires t c κs =
-    let after-split = c .before .before in
+    let after-split = c .before in
     let at-loop = after-split .before .before in
     let s = at-loop .before .before .before in
-    let inv = at-loop .loop .inv in
     let some : 1 ≤ at-loop .loop .more = omega (arith, after-split .before .loop-test .taken) in
     let is = s .pre .0 in
-    rw (c .before .handed .ensures) (
-      omega arith,
-      (
-        route-first _ _ _ _ _ _ _ _ _ _ _ some (inv .0) _ (after-split .split .ensures),
-        s .pre .1 .1,
-        s .pre .1 .2,
-        inv .1,
-      ),
-    )
-
-follow-all-handed-requires-2 : (t : ℕ) → follow-all-lts.Need-handed-requires-2 (follow-all-uses t) (follow-all-at t)
-    follow-all.Post follow-all-Inv-loop follow-all-μ-loop
-follow-all-handed-requires-2 t c κs = search needs
+    (omega arith, route-first _ _ _ _ _ _ _ _ _ _ _ some (at-loop .loop .inv .0) _ (after-split .split .ensures))
 
 follow-all-sub-more : (t : ℕ) → follow-all-lts.Need-sub-more (follow-all-uses t) (follow-all-at t)
     follow-all.Post follow-all-Inv-loop follow-all-μ-loop
-follow-all-sub-more t c =
-    let in-loop = c .before .before .before .before .before .before .before in
-    omega (arith, in-loop .loop-test .taken)
+follow-all-sub-more t c = omega (arith, c .before .before .before .before .before .loop-test .taken)
 
 follow-all-loop-less : (t : ℕ) → follow-all-lts.Need-loop-less (follow-all-uses t) (follow-all-at t)
     follow-all.Post follow-all-Inv-loop follow-all-μ-loop
-follow-all-loop-less t c =
-    let in-loop = c .before .before .before .before .before .before .before in
-    omega (arith, in-loop .loop-test .taken)
+follow-all-loop-less t c = omega (arith, c .before .before .before .before .before .loop-test .taken)
 
 follow-all-loop-again : (t : ℕ) → follow-all-lts.Need-loop-again (follow-all-uses t) (follow-all-at t)
     follow-all.Post follow-all-Inv-loop follow-all-μ-loop
 follow-all-loop-again t c =
-    let after-follow = c .before .before .before in
-    let after-handed = after-follow .before .before in
-    let after-split = after-handed .before in
+    let after-follow = c .before .before in
+    let after-split = after-follow .before .before in
     let in-loop = after-split .before in
     let at-loop = in-loop .before in
-    let s = at-loop .before .before .before in
-    let a = s .args in
+    let a = at-loop .before .before .before .args in
     let loop = at-loop .loop in
-    let inv = loop .inv in
     let some : 1 ≤ loop .more = omega (arith, in-loop .loop-test .taken) in
     let splits = after-split .split .ensures in
-    let followed = rw (after-handed .handed .ensures) at (after-follow .follow .ensures) in
-    rw (c .handed2 .ensures) (
-      route-next _ _ _ _ _ _ _ _ _ _ _ some (inv .0) _ splits _ _ _ _ _ refl followed refl,
-      followed-things _ _ _ _ _ _ _ _ _ _ _ some (inv .0) _ splits _ _ _ _ _ refl followed (inv .1),
-      (λ d z h. inv .2 d z (more-way _ _ (mapIn (a .m .now)) (loop .i) (loop .n) (a .tree) (a .level) (a .dry) (loop .sofar) _ _ _ some splits followed h)),
+    let followed = after-follow .follow .ensures in (
+      route-next _ _ _ _ _ _ _ _ _ _ _ some (loop .inv .0) _ splits _ _ _ _ followed refl,
+      (λ d z h. loop .inv .1 d z (more-way _ _ (a .m) (loop .i) (loop .n) (a .tree) (a .level) (a .dry) (loop .sofar) _ _ _ some splits followed h)),
       search needs,
     )
 
@@ -416,37 +332,19 @@ follow-all-returns : (t : ℕ) → follow-all-lts.Need-returns (follow-all-uses 
     follow-all.Post follow-all-Inv-loop follow-all-μ-loop
 follow-all-returns t c =
     let at-loop = c .before .before in
-    let s = at-loop .before .before .before in
-    let a = s .args in
+    let a = at-loop .before .before .before .args in
     let loop = at-loop .loop in
-    loop .inv .2 _ _ (none-way _ _ (mapIn (a .m .now)) (loop .i) (loop .n) (a .tree) (a .level) (a .dry) (loop .sofar) _ _ (c .if1 .taken))
-
-follow-all-handed-requires-3 : (t : ℕ) → follow-all-lts.Need-handed-requires-3 (follow-all-uses t) (follow-all-at t)
-    follow-all.Post follow-all-Inv-loop follow-all-μ-loop
-follow-all-handed-requires-3 t c κs = search needs
+    loop .inv .1 _ _ (none-way _ _ (a .m) (loop .i) (loop .n) (a .tree) (a .level) (a .dry) (loop .sofar) _ _ (c .if1 .taken))
 
 follow-all-follow-requires-2 : (t : ℕ) → follow-all-lts.Need-follow-requires-2 (follow-all-uses t) (follow-all-at t)
     follow-all.Post follow-all-Inv-loop follow-all-μ-loop
 follow-all-follow-requires-2 t c κs =
-    let else1 = c .before .before in
+    let else1 = c .before in
     let at-loop = else1 .before .before in
     let s = at-loop .before .before .before in
-    let inv = at-loop .loop .inv in
     let few : at-loop .loop .more < 2 = omega (arith, else1 .before .loop-test .left) in
     let is = s .pre .0 in
-    rw (c .before .handed3 .ensures) (
-      omega arith,
-      (
-        route-only _ _ _ _ _ _ _ _ _ _ _ (else1 .if1 .left) (inv .0) few,
-        s .pre .1 .1,
-        s .pre .1 .2,
-        inv .1,
-      ),
-    )
-
-follow-all-handed-requires-4 : (t : ℕ) → follow-all-lts.Need-handed-requires-4 (follow-all-uses t) (follow-all-at t)
-    follow-all.Post follow-all-Inv-loop follow-all-μ-loop
-follow-all-handed-requires-4 t c κs = search needs
+    (omega arith, route-only _ _ _ _ _ _ _ _ _ _ _ (else1 .if1 .left) (at-loop .loop .inv .0) few)
 
 follow-all-same-length-2 : (t : ℕ) → follow-all-lts.Need-same-length-2 (follow-all-uses t) (follow-all-at t)
     follow-all.Post follow-all-Inv-loop follow-all-μ-loop
@@ -455,17 +353,14 @@ follow-all-same-length-2 t c = search needs
 follow-all-returns-2 : (t : ℕ) → follow-all-lts.Need-returns-2 (follow-all-uses t) (follow-all-at t)
     follow-all.Post follow-all-Inv-loop follow-all-μ-loop
 follow-all-returns-2 t c =
-    let after-follow = c .before .before .before in
-    let after-handed = after-follow .before .before in
-    let else1 = after-handed .before in
+    let after-follow = c .before .before in
+    let else1 = after-follow .before .before in
     let at-loop = else1 .before .before in
-    let s = at-loop .before .before .before in
-    let a = s .args in
+    let a = at-loop .before .before .before .args in
     let loop = at-loop .loop in
     let few : loop .more < 2 = omega (arith, else1 .before .loop-test .left) in
-    let followed = rw (after-handed .handed3 .ensures) at (after-follow .follow2 .ensures) in
-    rw (c .handed4 .ensures)
-    (loop .inv .2 _ _ (one-way _ _ (mapIn (a .m .now)) (loop .i) (loop .n) (a .tree) (a .level) (a .dry) (loop .sofar) _ _ (else1 .if1 .left) few followed))
+    loop .inv .1 _ _ (one-way _ _ (a .m) (loop .i) (loop .n) (a .tree) (a .level) (a .dry) (loop .sofar) _ _ (else1 .if1 .left) few
+    (after-follow .follow2 .ensures))
 
 pub +follow+follow-all-spec : {M : Type 1} → statement M
 +follow+follow-all-spec = close μ-follow μ-follow-all (λ t. follow-lts.spec (follow-uses t) (follow-at t)
@@ -476,18 +371,14 @@ pub +follow+follow-all-spec : {M : Type 1} → statement M
     (follow-children-requires t)
     (follow-sub-choose t)
     (follow-choose-requires t)
-    (follow-handed-requires t)
     (follow-sub-follow t)
     (follow-follow-requires t)
-    (follow-handed-requires-2 t)
     (follow-same-length t)
     (follow-returns t)
     (follow-add-map-below t)
     (follow-map-below-requires t)
-    (follow-handed-requires-3 t)
     (follow-sub-follow-2 t)
     (follow-follow-requires-2 t)
-    (follow-handed-requires-4 t)
     (follow-same-length-2 t)
     (follow-returns-2 t)
     (follow-visit-requires t)
@@ -502,16 +393,12 @@ pub +follow+follow-all-spec : {M : Type 1} → statement M
     follow-all-μ-loop
     (follow-all-loop-holds t)
     (follow-all-split-requires t)
-    (follow-all-handed-requires t)
     (follow-all-follow-requires t)
-    (follow-all-handed-requires-2 t)
     (follow-all-sub-more t)
     (follow-all-loop-less t)
     (follow-all-loop-again t)
     (follow-all-same-length t)
     (follow-all-returns t)
-    (follow-all-handed-requires-3 t)
     (follow-all-follow-requires-2 t)
-    (follow-all-handed-requires-4 t)
     (follow-all-same-length-2 t)
     (follow-all-returns-2 t)

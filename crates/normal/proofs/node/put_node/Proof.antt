@@ -8,110 +8,80 @@ use lib.Seq.{length-sets}
 use Rattle.affine.specs.Value.{mapOf}
 use Rattle.tree.proofs.Noding.{code-there}
 use Rattle.normal.specs.Part.{mapBytes}
-use Rattle.normal.specs.Packed.{mapIn}
 use Rattle.normal.proofs.Spots.{noded, other-stores, leaf-stores, operator-stores, leaf-room, operator-room}
 use borrow.Author.Needs.{needs}
 use Rattle.normal.proofs.node.put_node.Statement.{statement}
 use Rattle.normal.proofs.node.put_node.Tie as tie
 
 natural-requires : tie.Need-natural-requires
-natural-requires c κs = code-there _ _ _ (noded _ _ (mapIn (c .before .before .args .m .now)) _ _ _ (c .before .before .pre))
+natural-requires c κs = code-there _ _ _ (noded _ _ (c .before .before .args .m) _ _ _ (c .before .before .pre))
 
 returns : tie.Need-returns
 returns c =
     let s = c .before .before .before .before in
-    let m = mapIn (s .args .m .now) in
-    other-stores _ _ m (s .args .to) (s .args .out .now) (omega (arith, c .if1 .taken, c .before .natural .ensures))
-
-map-in-requires : tie.Need-map-in-requires
-map-in-requires c κs = search needs
+    other-stores _ _ (s .args .m) (s .args .to) (s .args .out .now) (omega (arith, c .if1 .taken, c .before .natural .ensures))
 
 put-map-requires : tie.Need-put-map-requires
 put-map-requires c κs =
-    let then2 = c .before .before in
-    let after-natural = then2 .before .before in
+    let after-natural = c .before .before .before in
     let s = after-natural .before .before .before in
-    let m = mapIn (s .args .m .now) in
     let code = after-natural .natural .ensures in
-    rw (c .before .map-in .ensures) (s .pre .neat, omega (arith, leaf-room _ _ m _ _ (s .pre) (omega (arith, then2 .if2 .taken))))
+    (s .pre .neat, omega (arith, leaf-room _ _ (s .args .m) _ _ (s .pre) (omega (arith, c .before .if2 .taken))))
 
 mul-put-head : tie.Need-mul-put-head
-mul-put-head c =
-    let after-map-in = c .before .before .before .before .before .before in
-    let s = after-map-in .before .before .before .before .before .before in
-    rw (after-map-in .map-in .ensures) (omega (arith, s .pre .neat .cols-few))
+mul-put-head c = search needs
 
 add-put-head : tie.Need-add-put-head
-add-put-head c =
-    let after-map-in = c .before .before .before .before .before .before in
-    let s = after-map-in .before .before .before .before .before .before in
-    rw (after-map-in .map-in .ensures) (omega (arith, s .pre .neat .cols-few))
+add-put-head c = search needs
 
 mul-put-head-2 : tie.Need-mul-put-head-2
 mul-put-head-2 c =
-    let after-map-in = c .before .before .before .before .before .before .before in
-    let s = after-map-in .before .before .before .before .before .before in
-    let m = mapIn (s .args .m .now) in
-    rw (after-map-in .map-in .ensures)
-    (omega (arith, mul-le-mul-right (8 * m .width + 8) (s .pre .neat .rows-few), s .pre .neat .cols-few))
+    let s = c .before .before .before .before .before .before .before .before .before .before .before .before in
+    omega (arith, mul-le-mul-right (8 * s .args .m .width + 8) (s .pre .neat .rows-few), s .pre .neat .cols-few)
 
 add-put-head-2 : tie.Need-add-put-head-2
 add-put-head-2 c =
-    let after-map-in = c .before .before .before .before .before .before .before in
-    let s = after-map-in .before .before .before .before .before .before in
-    let m = mapIn (s .args .m .now) in
-    rw (after-map-in .map-in .ensures)
-    (omega (arith, mul-le-mul-right (8 * m .width + 8) (s .pre .neat .rows-few), s .pre .neat .cols-few))
+    let s = c .before .before .before .before .before .before .before .before .before .before .before .before in
+    omega (arith, mul-le-mul-right (8 * s .args .m .width + 8) (s .pre .neat .rows-few), s .pre .neat .cols-few)
 
 add-put-head-3 : tie.Need-add-put-head-3
 add-put-head-3 c =
-    let after-map-in = c .before .before .before .before .before .before .before in
-    let then2 = after-map-in .before in
+    let then2 = c .before .before .before .before .before .before .before in
     let after-natural = then2 .before .before in
     let s = after-natural .before .before .before in
-    let m = mapIn (s .args .m .now) in
     let code = after-natural .natural .ensures in
-    rw (after-map-in .map-in .ensures) (omega (arith, leaf-room _ _ m _ _ (s .pre) (omega (arith, then2 .if2 .taken))))
+    omega (arith, leaf-room _ _ (s .args .m) _ _ (s .pre) (omega (arith, then2 .if2 .taken)))
 
 put-head-requires : tie.Need-put-head-requires
 put-head-requires c κs =
     let after-put-map = c .before .before .before .before .before in
-    let after-map-in = after-put-map .before .before in
-    let then2 = after-map-in .before in
+    let then2 = after-put-map .before .before in
     let after-natural = then2 .before .before in
     let s = after-natural .before .before .before in
-    let m = mapIn (s .args .m .now) in
     let code = after-natural .natural .ensures in
-    let stored = rw (after-map-in .map-in .ensures) at (after-put-map .put-map .ensures) in
-    let same = ap length stored ∙ length-sets (s .args .out .now) (s .args .to) (mapBytes (mapOf m)) in
-    rw (after-map-in .map-in .ensures)
-    (noded _ _ m _ _ _ (s .pre), omega (arith, same, leaf-room _ _ m _ _ (s .pre) (omega (arith, then2 .if2 .taken))))
+    let same = ap length (after-put-map .put-map .ensures) ∙ length-sets (s .args .out .now) (s .args .to) (mapBytes (mapOf (s .args .m))) in
+    (noded _ _ (s .args .m) _ _ _ (s .pre), omega (arith, same, leaf-room _ _ (s .args .m) _ _ (s .pre) (omega (arith, then2 .if2 .taken))))
 
 same-length : tie.Need-same-length
 same-length c = search needs
 
 returns-2 : tie.Need-returns-2
 returns-2 c =
-    let after-put-head = c .before .before in
-    let after-put-map = after-put-head .before .before .before .before .before .before in
-    let after-map-in = after-put-map .before .before in
-    let then2 = after-map-in .before in
+    let after-put-map = c .before .before .before .before .before .before .before .before in
+    let then2 = after-put-map .before .before in
     let after-natural = then2 .before .before in
     let s = after-natural .before .before .before in
-    let m = mapIn (s .args .m .now) in
     let code = after-natural .natural .ensures in
-    let is = after-map-in .map-in .ensures in
-    leaf-stores _ _ m (s .args .to) (s .args .out .now) (omega (arith, then2 .if2 .taken)) (rw is at (after-put-map .put-map .ensures))
-    (rw is at (after-put-head .put-head .ensures))
+    leaf-stores _ _ (s .args .m) (s .args .to) (s .args .out .now) (omega (arith, then2 .if2 .taken)) (after-put-map .put-map .ensures)
+    (c .before .before .put-head .ensures)
 
 put-head-requires-2 : tie.Need-put-head-requires-2
 put-head-requires-2 c κs =
     let after-natural = c .before .before .before in
     let s = after-natural .before .before .before in
-    let m = mapIn (s .args .m .now) in
     let code = after-natural .natural .ensures in (
-      noded _ _ m _ _ _ (s .pre),
-      operator-room _ _ m _ _ (s .pre) (omega (arith, c .before .if2 .left)) (omega (arith, c .before .before .if1 .left)),
+      noded _ _ (s .args .m) _ _ _ (s .pre),
+      operator-room _ _ (s .args .m) _ _ (s .pre) (omega (arith, c .before .if2 .left)) (omega (arith, c .before .before .if1 .left)),
     )
 
 same-length-2 : tie.Need-same-length-2
@@ -123,9 +93,8 @@ returns-3 c =
     let else1 = else2 .before in
     let after-natural = else1 .before in
     let s = after-natural .before .before .before in
-    let m = mapIn (s .args .m .now) in
     let code = after-natural .natural .ensures in
-    operator-stores _ _ m (s .args .to) (s .args .out .now) (omega (arith, else2 .if2 .left)) (omega (arith, else1 .if1 .left))
+    operator-stores _ _ (s .args .m) (s .args .to) (s .args .out .now) (omega (arith, else2 .if2 .left)) (omega (arith, else1 .if1 .left))
     (c .before .before .put-head2 .ensures)
 
 pub put-node-spec : {M : Type 1} → statement M
@@ -134,7 +103,6 @@ put-node-spec =
     (tie.spec
     natural-requires
     returns
-    map-in-requires
     put-map-requires
     mul-put-head
     add-put-head

@@ -1,7 +1,6 @@
 -- `normal::size_of` meets its contract: as the tree's, or as the constraints'. Assumes nothing.
 use mathlib.Core.Path.{sym, subst}
 use Rattle.tree.proofs.Noding.{code-there}
-use Rattle.normal.specs.Packed.{mapIn}
 use Rattle.normal.specs.Spot.{Sizes}
 use Rattle.normal.proofs.Spots.{tree-sizes}
 use borrow.Author.Needs.{needs}
@@ -20,16 +19,14 @@ limits-size-requires c κs = search needs
 returns : tie.Need-returns
 returns c =
     let s = c .before .before .before .before in
-    let m = mapIn (s .args .m .now) in
     let size = c .node-size in
-    subst (λ t. Sizes (s .args .s .now) (s .args .at) m t (s .args .level) (size .result)) (sym (c .before .before .if1 .taken))
-    (tree-sizes _ _ m _ (s .args .level) (size .result) (c .before .natural .ensures) (size .ensures))
+    subst (λ t. Sizes (s .args .s .now) (s .args .at) (s .args .m) t (s .args .level) (size .result)) (sym (c .before .before .if1 .taken))
+    (tree-sizes _ _ (s .args .m) _ (s .args .level) (size .result) (c .before .natural .ensures) (size .ensures))
 
 returns-2 : tie.Need-returns-2
 returns-2 c =
     let s = c .before .before .before in
-    let m = mapIn (s .args .m .now) in
-    subst (λ t. Sizes (s .args .s .now) (s .args .at) m t (s .args .level) (c .limits-size .result)) (sym (c .before .if1 .left))
+    subst (λ t. Sizes (s .args .s .now) (s .args .at) (s .args .m) t (s .args .level) (c .limits-size .result)) (sym (c .before .if1 .left))
     (c .limits-size .ensures)
 
 pub size-of-spec : {M : Type 1} → statement M
