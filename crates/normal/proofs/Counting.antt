@@ -150,17 +150,6 @@ module _ (bs : List ℕ) (p : ℕ) where
         ∙ ap (λ l. capped (joined t sofar (countsOf t l))) (sym (x .is)),
   )
 
-  -- one tree is one operand
-  pub one-way : (r : ℕ) → CountsAll bs p 1 false 1 r → Counts bs p r
-  unfolding At
-  one-way r h = (
-    h .0,
-    λ e q at.
-        h .1 (more e none) q (record { middle = q; before = at; after = refl }) refl
-        ∙ ap capped (alone-joined false (countsOf false (more e none)))
-        ∙ ap capped (counts-more false e none ∙ ap (joined false (countOf e)) (counts-none false) ∙ joined-alone false (countOf e)),
-  )
-
   -- ---- where they end
 
   pub leaf-ends : (code k : ℕ) → code ≡ natAbs (field bs p) → code < 3 → k ≡ nodeLen bs p → EndsAt (varsOf bs) bs p (p + k)

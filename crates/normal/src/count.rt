@@ -84,13 +84,3 @@ fn count_trees(
     }
     Branches { many: sum, next }
 }
-
-// How many branches the tree at `at` has: it is one operand. So `count_trees` is called from two places, and the compiler puts `count_tree`,
-// which answers for a leaf by itself, into its loop.
-pub fn count(s: &[u8], at: usize, left: usize) -> usize
-    requires { ⌜ Standing (varsOf (now s)) (now s) at left × (left ≤ 2048) ⌝ }
-    ensures { λ r. ⌜ Counts (now (s .entry)) at r ⌝ }
-{
-    let c = count_trees(s, at, left, 1, false, 1);
-    c.many
-}

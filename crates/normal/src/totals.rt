@@ -1,7 +1,7 @@
 // The totals of the normal form, variable by variable, against the limits of document 01. Assumes nothing.
 use super::Plan;
 use super::Taken;
-use super::count::count;
+use super::count::count_tree;
 use super::turn::measure_tree;
 use sheet::table::body_place;
 use sheet::table::variable_count;
@@ -21,7 +21,8 @@ fn grow(s: &[u8], tab: &[usize; 102], v: usize, nodes: usize, size: usize) -> Pl
     ensures { λ r. ⌜ Grows (now (s .entry)) v nodes size r ⌝ }
 {
     let at = body_place(tab, v);
-    let many = count(s, at, 2048);
+    let counted = count_tree(s, at, 2048);
+    let many = counted.many;
     if 64 < many {
         return Plan::WideAt(v);
     }
