@@ -26,6 +26,7 @@ use Rattle.tree.proofs.Standings.{children-at, children-counted, one-more}
 use Rattle.normal.specs.declared.Taken.{Taken}
 use Rattle.normal.specs.Count.{countOf, sumOf}
 use Rattle.tree.specs.Ends.{EndsAt}
+use Rattle.tree.specs.Standing.{StandingAll}
 use Rattle.normal.specs.Counted.{Counts}
 use Rattle.normal.specs.Body.{takenBy, both, total, branchesIn, allBranchesIn, BodyAt, IsBody, BodiesAt, AreBodies}
 use Rattle.normal.specs.Body.{TakesFrom, TakesAll, RoomFrom, RoomAll, StoresFrom, StoresAll}
@@ -92,21 +93,23 @@ module _ (bs : List ℕ) (p n of k many : ℕ) (six : natAbs (field bs p) ≡ 6)
       let same = sym (branches-are e i) in
       (here .0 ∙ ap (λ x. sets l to (allBytes (asExprs n x))) same, here .1 ∙ ap (λ x. to + length (allBytes (asExprs n x))) same)
 
-  module _ (h : BodyAt bs p n of) where
-    pub case-some : 1 ≤ many
+  module _ (left : ℕ) (h : BodyAt bs p left n of) where
+    case-some : 1 ≤ many
     case-some =
-        let tree = is-body bs p n of h in
+        let tree = is-body bs p left n of h in
         omega (arith, opened-some (h .tree) tree, opened-count (h .tree) tree)
 
-    pub case-bodies : BodiesAt bs (p + k) n many of
+    pub case-bodies : BodiesAt bs (p + k) (left - 1) n many of
     unfolding nodeCount reach
     case-bodies =
-        let is = opened-is (h .tree) (is-body bs p n of h) in
-        let nodes : nodeCount (h .tree) ≡ suc (nodeCounts (opened (h .tree) (is-body bs p n of h))) = ap nodeCount is in
+        let is = opened-is (h .tree) (is-body bs p left n of h) in
+        let nodes : nodeCount (h .tree) ≡ suc (nodeCounts (opened (h .tree) (is-body bs p left n of h))) = ap nodeCount is in
         record {
-          trees = opened (h .tree) (is-body bs p n of h);
-          are = children-are (h .tree) (is-body bs p n of h);
+          trees = opened (h .tree) (is-body bs p left n of h);
+          are = children-are (h .tree) (is-body bs p left n of h);
+          some = case-some;
           few = omega (arith, h .few, nodes);
+          left-low = omega (arith, h .left-low);
           reaches = subst (λ f. reach f topReach ≡ true) is (h .reaches);
           narrow = h .narrow;
           low = h .low;
@@ -116,7 +119,7 @@ module _ (bs : List ℕ) (p n of k many : ℕ) (six : natAbs (field bs p) ≡ 6)
     kase-there : (es : Exprs) → AreBodies bs (p + k) n many of es → IsBody bs p n of (kase es)
     unfolding At fits countOf
     kase-there es i =
-        let tree = is-body bs p n of h in
+        let tree = is-body bs p left n of h in
         let read = at-got (varsOf bs) bs (h .tree) p (h .end) (h .at) in
         let counts = opened-count (h .tree) tree ∙ sym (i .count) in
         record {
@@ -155,9 +158,12 @@ module _ (bs : List ℕ) (p n many of : ℕ) (few : many < 1) where
 
 -- ---- trees one after another
 
-module _ (bs : List ℕ) (p n many of : ℕ) (some : 1 ≤ many) (h : BodiesAt bs p n many of) where
+module _ (bs : List ℕ) (p left n many of : ℕ) (h : BodiesAt bs p left n many of) where
+  pub trees-standing : StandingAll (varsOf bs) bs p left many
+  trees-standing = record { trees = h .trees; end = h .are .end; at = h .are .at; few = h .few; many = h .are .count }
+
   split : MoreAt (h .trees) (varsOf bs) bs p (h .are .end) (many - 1)
-  split = one-more (varsOf bs) bs (h .trees) p (h .are .end) many some (h .are .at) (h .are .count)
+  split = one-more (varsOf bs) bs (h .trees) p (h .are .end) many (h .some) (h .are .at) (h .are .count)
 
   sums : countOf (split .first) + sumOf (split .rest) ≡ of
   sums = sym (sum-more (h .trees) (split .first) (split .rest) (split .is)) ∙ h .are .sum
@@ -183,7 +189,7 @@ module _ (bs : List ℕ) (p n many of : ℕ) (some : 1 ≤ many) (h : BodiesAt b
     in-turns : (es : Exprs) → AreBodies bs p n many of es → InTurn es
     unfolding allFit norm
     in-turns es i =
-        let x = one-more (varsOf bs) bs es p (i .end) many some (i .at) (i .count) in
+        let x = one-more (varsOf bs) bs es p (i .end) many (h .some) (i .at) (i .count) in
         let fit = subst (λ f. allFit f (headsOf bs) n ≡ true) (x .is) (i .fitting) in
         let count = exact (x .first) (x .middle) (x .before) in
         record {
@@ -228,12 +234,13 @@ module _ (bs : List ℕ) (p n many of : ℕ) (some : 1 ≤ many) (h : BodiesAt b
     unfolding reachAll
     all-reach = subst (λ f. reachAll f topReach ≡ true) (whole .is) (h .reaches)
 
-    pub first-body : BodyAt bs p n k
+    pub first-body : BodyAt bs p left n k
     first-body = record {
       tree = whole .first;
       end = whole .is-first .end;
       at = whole .is-first .at;
       few = omega (arith, h .few, nodes);
+      left-low = h .left-low;
       fitting = whole .is-first .fitting;
       reaches = &&-left (reach (whole .first) topReach) (reachAll (whole .others) topReach) all-reach;
       narrow = h .narrow;
@@ -241,11 +248,13 @@ module _ (bs : List ℕ) (p n many of : ℕ) (some : 1 ≤ many) (h : BodiesAt b
       low = omega (arith, first-low, h .low);
     }
 
-    pub rest-bodies : BodiesAt bs next n (many - 1) (of - k)
-    rest-bodies = record {
+    pub rest-bodies : 1 < many → BodiesAt bs next left n (many - 1) (of - k)
+    rest-bodies others = record {
       trees = whole .others;
       are = whole .are-others;
+      some = omega arith;
       few = omega (arith, h .few, nodes);
+      left-low = h .left-low;
       reaches = &&-right (reach (whole .first) topReach) (reachAll (whole .others) topReach) all-reach;
       narrow = h .narrow;
       low = omega (arith, h .low);
@@ -317,7 +326,7 @@ module _ (bs : List ℕ) (p n many of : ℕ) (some : 1 ≤ many) (h : BodiesAt b
     last-ends : EndsAt (varsOf bs) bs p (split .middle)
     last-ends e q at = at-unique (varsOf bs) bs p (split .first) e (split .middle) q (split .before) at .end-is
 
-    pub last-body : BodyAt bs p n of
+    pub last-body : BodyAt bs p left n of
     last-body = first-body of (split .middle) last-exact last-ends
 
     pub last-takes : (sofar r : Taken) → TakesFrom bs p n of 0 sofar r → TakesAll bs p n many of sofar r

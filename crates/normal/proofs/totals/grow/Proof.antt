@@ -30,8 +30,6 @@ measure-tree-requires c κs =
     let s = after-body-place .before .before in
     let dim = c .dimension-of .ensures in
     let low = c .before .if1 .left in (
-      body-standing _ _ (s .pre .0) _ (s .pre .1) (s .pre .2) _ _ (after-body-place .body-place .ensures) refl,
-      omega arith,
       body-at _ _ (s .pre .0) _ (s .pre .1) (s .pre .2) _ _ (after-body-place .body-place .ensures) (dim .0) _ (c .before .before .count-tree .ensures .0)
           low (dim .1),
       (omega arith, omega arith),

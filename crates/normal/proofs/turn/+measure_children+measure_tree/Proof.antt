@@ -18,13 +18,12 @@ use Rattle.normal.proofs.turn.+measure_children+measure_tree.Tie.{close
 use Prim.Native.Nat.{ℕ, _+_, _*_, _≤_, _<_}
 use mathlib.Core.Path.{sym, _∙_}
 use native.Mathlib.Omega.{arith}
-use Rattle.laws.specs.Sheets.{varsOf}
-use Rattle.tree.specs.Standing.{StandingAll}
 use Rattle.tree.proofs.Noding.{code-there}
-use Rattle.tree.proofs.Standings.{standing-noded, standing-some, standing-there, standing-children, first-standing, rest-standing}
+use Rattle.tree.proofs.Standings.{standing-noded, standing-some, standing-there, first-standing}
 use Rattle.normal.specs.declared.Taken.{Taken}
 use Rattle.normal.specs.Body.{BodiesAt, Spare, TakesAll}
-use Rattle.normal.proofs.Turns.{case-some, case-bodies, case-takes, counted-exact, first-low, first-body, rest-bodies, more-takes}
+use Rattle.normal.proofs.Bodies.{tree-standing}
+use Rattle.normal.proofs.Turns.{case-bodies, case-takes, trees-standing, counted-exact, first-low, first-body, rest-bodies, more-takes}
 use Rattle.normal.proofs.Turns.{last-body, last-takes}
 
 abbrev μ-measure-children : Measures 1 measure-children-kinds.ps ℕ
@@ -65,7 +64,7 @@ measure-tree-uses t = (
 -- what the trees from here on come to with those so far is what all of them do
 abbrev measure-children-Inv-loop : measure-children-lts.InvT-loop
 measure-children-Inv-loop s at left many n of sofar next₀ more₀ rest₀ sum next more rest =
-    StandingAll (varsOf s) s next left more × (1 ≤ more) × BodiesAt s next n more rest × Spare rest sum
+    BodiesAt s next left n more rest × Spare rest sum
     × ((r : Taken) → TakesAll s next n more rest sum r → TakesAll s at n many of sofar r)
 
 abbrev measure-children-μ-loop : measure-children-lts.MeasureT-loop
@@ -75,14 +74,13 @@ measure-children-loop-holds : (t : ℕ) → measure-children-lts.Need-loop-holds
     measure-children.Post measure-children-Inv-loop measure-children-μ-loop
 measure-children-loop-holds t c =
     let s = c .before in
-    (s .pre .1 .0, s .pre .1 .2, s .pre .1 .3, s .pre .1 .4, λ r h. h)
+    (s .pre .1 .0, s .pre .1 .1, λ r h. h)
 
 measure-children-count-tree-requires : (t : ℕ) → measure-children-lts.Need-count-tree-requires (measure-children-uses t) (measure-children-at t)
     measure-children.Post measure-children-Inv-loop measure-children-μ-loop
 measure-children-count-tree-requires t c κs =
-    let at-loop = c .before in
-    let s = at-loop .before .before in
-    (first-standing _ _ _ _ _ (at-loop .loop .inv .1) (at-loop .loop .inv .0), s .pre .1 .1)
+    let h = c .before .loop .inv .0 in
+    (first-standing _ _ _ _ _ (h .some) (trees-standing _ _ _ _ _ _ h), h .left-low)
 
 measure-children-measure-tree-requires : (t : ℕ) → measure-children-lts.Need-measure-tree-requires (measure-children-uses t) (measure-children-at t)
     measure-children.Post measure-children-Inv-loop measure-children-μ-loop
@@ -91,15 +89,13 @@ measure-children-measure-tree-requires t c κs =
     let s = at-loop .before .before in
     let inv = at-loop .loop .inv in
     let found = c .count-tree .ensures in
-    let exact = counted-exact _ _ _ _ _ (inv .1) (inv .2) _ (found .0) in
-    let low = first-low _ _ _ _ _ (inv .1) (inv .2) _ _ exact (found .1) in
+    let exact = counted-exact _ _ _ _ _ _ (inv .0) _ (found .0) in
+    let low = first-low _ _ _ _ _ _ (inv .0) _ _ exact (found .1) in
     let is = s .pre .0 in (
       omega arith,
       (
-        first-standing _ _ _ _ _ (inv .1) (inv .0),
-        s .pre .1 .1,
-        first-body _ _ _ _ _ (inv .1) (inv .2) _ _ exact (found .1),
-        (omega (arith, inv .3), omega (arith, inv .3)),
+        first-body _ _ _ _ _ _ (inv .0) _ _ exact (found .1),
+        (omega (arith, inv .1), omega (arith, inv .1)),
       ),
     )
 
@@ -108,7 +104,7 @@ measure-children-sub-rest : (t : ℕ) → measure-children-lts.Need-sub-rest (me
 measure-children-sub-rest t c =
     let inv = c .before .before .before .loop .inv in
     let found = c .before .count-tree .ensures in
-    omega (arith, first-low _ _ _ _ _ (inv .1) (inv .2) _ _ (counted-exact _ _ _ _ _ (inv .1) (inv .2) _ (found .0)) (found .1))
+    omega (arith, first-low _ _ _ _ _ _ (inv .0) _ _ (counted-exact _ _ _ _ _ _ (inv .0) _ (found .0)) (found .1))
 
 measure-children-sub-more : (t : ℕ) → measure-children-lts.Need-sub-more (measure-children-uses t) (measure-children-at t)
     measure-children.Post measure-children-Inv-loop measure-children-μ-loop
@@ -126,14 +122,12 @@ measure-children-loop-again t c =
     let inv = loop .inv in
     let more = in-loop .loop-test .taken in
     let found = c .before .count-tree .ensures in
-    let exact = counted-exact _ _ _ _ _ (inv .1) (inv .2) _ (found .0) in
-    let low = first-low _ _ _ _ _ (inv .1) (inv .2) _ _ exact (found .1) in
+    let exact = counted-exact _ _ _ _ _ _ (inv .0) _ (found .0) in
+    let low = first-low _ _ _ _ _ _ (inv .0) _ _ exact (found .1) in
     let took = c .measure-tree .ensures in (
-      rest-standing _ _ _ _ _ (inv .1) (inv .0) _ (found .1),
-      omega arith,
-      rest-bodies _ _ _ _ _ (inv .1) (inv .2) _ _ exact (found .1),
-      (omega (arith, inv .3, took .few), omega (arith, inv .3, took .few)),
-      λ r h. inv .4 r (more-takes _ _ _ _ _ (inv .1) (inv .2) _ _ exact (found .1) (loop .sum) _ r took h),
+      rest-bodies _ _ _ _ _ _ (inv .0) _ _ exact (found .1) more,
+      (omega (arith, inv .1, took .few), omega (arith, inv .1, took .few)),
+      λ r h. inv .2 r (more-takes _ _ _ _ _ _ (inv .0) _ _ exact (found .1) (loop .sum) _ r took h),
     )
 
 measure-children-measure-tree-requires-2 : (t : ℕ) → measure-children-lts.Need-measure-tree-requires-2 (measure-children-uses t) (measure-children-at t)
@@ -144,7 +138,7 @@ measure-children-measure-tree-requires-2 t c κs =
     let inv = at-loop .loop .inv in
     let is = s .pre .0 in (
       omega arith,
-      (first-standing _ _ _ _ _ (inv .1) (inv .0), s .pre .1 .1, last-body _ _ _ _ _ (inv .1) (inv .2) (omega (arith, c .loop-test .left)), inv .3),
+      (last-body _ _ _ _ _ _ (inv .0) (omega (arith, c .loop-test .left)), inv .1),
     )
 
 measure-children-returns : (t : ℕ) → measure-children-lts.Need-returns (measure-children-uses t) (measure-children-at t)
@@ -153,42 +147,38 @@ measure-children-returns t c =
     let after-loop = c .before in
     let loop = after-loop .before .loop in
     let few = after-loop .loop-test .left in
-    loop .inv .4 _ (last-takes _ _ _ _ _ (loop .inv .1) (loop .inv .2) (omega (arith, few)) (loop .sum) _ (c .measure-tree2 .ensures))
+    loop .inv .2 _ (last-takes _ _ _ _ _ _ (loop .inv .0) (omega (arith, few)) (loop .sum) _ (c .measure-tree2 .ensures))
 
 measure-tree-natural-requires : (t : ℕ) → measure-tree-lts.Need-natural-requires (measure-tree-uses t) (measure-tree-at t) measure-tree.Post
-measure-tree-natural-requires t c κs = code-there _ _ _ (standing-noded _ _ _ _ (c .before .pre .1 .0))
+measure-tree-natural-requires t c κs = code-there _ _ _ (standing-noded _ _ _ _ (tree-standing _ _ _ _ _ (c .before .pre .1 .0)))
 
 measure-tree-node-len-requires : (t : ℕ) → measure-tree-lts.Need-node-len-requires (measure-tree-uses t) (measure-tree-at t) measure-tree.Post
-measure-tree-node-len-requires t c κs = standing-noded _ _ _ _ (c .before .before .before .pre .1 .0)
+measure-tree-node-len-requires t c κs = standing-noded _ _ _ _ (tree-standing _ _ _ _ _ (c .before .before .before .pre .1 .0))
 
 measure-tree-add-next : (t : ℕ) → measure-tree-lts.Need-add-next (measure-tree-uses t) (measure-tree-at t) measure-tree.Post
 measure-tree-add-next t c =
     let s = c .before .before .before .before in
-    omega (arith, standing-there _ _ _ _ (s .pre .1 .0), c .node-len .ensures)
+    omega (arith, standing-there _ _ _ _ (tree-standing _ _ _ _ _ (s .pre .1 .0)), c .node-len .ensures)
 
 measure-tree-children-requires : (t : ℕ) → measure-tree-lts.Need-children-requires (measure-tree-uses t) (measure-tree-at t) measure-tree.Post
-measure-tree-children-requires t c κs = standing-noded _ _ _ _ (c .before .before .before .before .pre .1 .0)
+measure-tree-children-requires t c κs = standing-noded _ _ _ _ (tree-standing _ _ _ _ _ (c .before .before .before .before .pre .1 .0))
 
 measure-tree-sub-measure-children : (t : ℕ) → measure-tree-lts.Need-sub-measure-children (measure-tree-uses t) (measure-tree-at t) measure-tree.Post
-measure-tree-sub-measure-children t c = omega (arith, standing-some _ _ _ _ (c .before .before .before .before .before .pre .1 .0))
+measure-tree-sub-measure-children t c = omega (arith, standing-some _ _ _ _ (tree-standing _ _ _ _ _ (c .before .before .before .before .before .pre .1 .0)))
 
 measure-tree-measure-children-requires : (t : ℕ) → measure-tree-lts.Need-measure-children-requires (measure-tree-uses t) (measure-tree-at t) measure-tree.Post
 measure-tree-measure-children-requires t c κs =
     let then1 = c .before .before in
     let s = then1 .before .before .before in
-    let h = s .pre .1 .0 in
-    let some = standing-some _ _ _ _ h in
+    let some = standing-some _ _ _ _ (tree-standing _ _ _ _ _ (s .pre .1 .0)) in
     let long = c .before .node-len .ensures in
     let many = c .children .ensures in
     let six = sym (then1 .before .natural .ensures) ∙ then1 .if1 .taken in
     let is = s .pre .0 in (
       omega arith,
       (
-        standing-children _ _ _ _ h _ _ long many,
-        omega (arith, s .pre .1 .1),
-        case-some _ _ _ _ _ _ six long many (s .pre .1 .2),
-        case-bodies _ _ _ _ _ _ six long many (s .pre .1 .2),
-        s .pre .1 .3,
+        case-bodies _ _ _ _ _ _ six long many _ (s .pre .1 .0),
+        s .pre .1 .1,
       ),
     )
 
@@ -204,8 +194,8 @@ measure-tree-returns t c =
 measure-tree-measure-from-requires : (t : ℕ) → measure-tree-lts.Need-measure-from-requires (measure-tree-uses t) (measure-tree-at t) measure-tree.Post
 measure-tree-measure-from-requires t c κs =
     let s = c .before .before .before in
-    let spare = s .pre .1 .3 in
-    (s .pre .1 .2, omega arith, (omega (arith, spare), omega (arith, spare)))
+    let spare = s .pre .1 .1 in
+    (record { body = s .pre .1 .0; start = omega arith }, (omega (arith, spare), omega (arith, spare)))
 
 measure-tree-returns-2 : (t : ℕ) → measure-tree-lts.Need-returns-2 (measure-tree-uses t) (measure-tree-at t) measure-tree.Post
 measure-tree-returns-2 t c = c .measure-from .ensures

@@ -21,12 +21,11 @@ use native.Mathlib.Omega.{arith}
 use borrow.Author.Needs.{needs}
 use mathlib.Core.List.{List}
 use lib.ListN.{length}
-use Rattle.laws.specs.Sheets.{varsOf}
-use Rattle.tree.specs.Standing.{StandingAll}
 use Rattle.tree.proofs.Noding.{code-there}
-use Rattle.tree.proofs.Standings.{standing-noded, standing-some, standing-there, standing-children, first-standing, rest-standing}
+use Rattle.tree.proofs.Standings.{standing-noded, standing-some, standing-there, first-standing}
 use Rattle.normal.specs.Body.{BodiesAt, RoomAll, StoresAll}
-use Rattle.normal.proofs.Turns.{case-some, case-bodies, case-room, case-stores, counted-exact, first-low, first-body, rest-bodies}
+use Rattle.normal.proofs.Bodies.{tree-standing}
+use Rattle.normal.proofs.Turns.{case-bodies, case-room, case-stores, trees-standing, counted-exact, first-low, first-body, rest-bodies}
 use Rattle.normal.proofs.Turns.{first-room, stored-long, rest-room, more-stores, last-body, last-room, last-stores}
 
 abbrev μ-put-children : Measures 2 put-children-kinds.ps ℕ
@@ -67,7 +66,7 @@ put-tree-uses t = (
 -- storing the trees from here on is storing all of them from the start
 abbrev put-children-Inv-loop : put-children-lts.InvT-loop
 put-children-Inv-loop s at left many n of out₀ to p₀ next₀ more₀ rest₀ out p next more rest =
-    StandingAll (varsOf s) s next left more × (1 ≤ more) × BodiesAt s next n more rest × RoomAll s next n more rest p (min (2 ^ 40) (length out))
+    BodiesAt s next left n more rest × RoomAll s next n more rest p (min (2 ^ 40) (length out))
     × ((d : List ℕ) (r : ℕ) → StoresAll s next n more rest p out d r → StoresAll s at n many of to out₀ d r) × (length out ≡ length out₀)
 
 abbrev put-children-μ-loop : put-children-lts.MeasureT-loop
@@ -77,14 +76,13 @@ put-children-loop-holds : (t : ℕ) → put-children-lts.Need-loop-holds (put-ch
     put-children.Post put-children-Inv-loop put-children-μ-loop
 put-children-loop-holds t c =
     let s = c .before .before in
-    (s .pre .1 .0, s .pre .1 .2, s .pre .1 .3, s .pre .1 .4, (λ d r h. h), refl)
+    (s .pre .1 .0, s .pre .1 .1, (λ d r h. h), refl)
 
 put-children-count-tree-requires : (t : ℕ) → put-children-lts.Need-count-tree-requires (put-children-uses t) (put-children-at t)
     put-children.Post put-children-Inv-loop put-children-μ-loop
 put-children-count-tree-requires t c κs =
-    let at-loop = c .before in
-    let s = at-loop .before .before .before in
-    (first-standing _ _ _ _ _ (at-loop .loop .inv .1) (at-loop .loop .inv .0), s .pre .1 .1)
+    let h = c .before .loop .inv .0 in
+    (first-standing _ _ _ _ _ (h .some) (trees-standing _ _ _ _ _ _ h), h .left-low)
 
 put-children-put-tree-requires : (t : ℕ) → put-children-lts.Need-put-tree-requires (put-children-uses t) (put-children-at t)
     put-children.Post put-children-Inv-loop put-children-μ-loop
@@ -94,14 +92,12 @@ put-children-put-tree-requires t c κs =
     let loop = at-loop .loop in
     let inv = loop .inv in
     let found = c .before .count-tree .ensures in
-    let exact = counted-exact _ _ _ _ _ (inv .1) (inv .2) _ (found .0) in
+    let exact = counted-exact _ _ _ _ _ _ (inv .0) _ (found .0) in
     let is = s .pre .0 in (
       omega arith,
       (
-        first-standing _ _ _ _ _ (inv .1) (inv .0),
-        s .pre .1 .1,
-        first-body _ _ _ _ _ (inv .1) (inv .2) _ _ exact (found .1),
-        first-room _ _ _ _ _ (inv .1) (inv .2) _ _ exact (found .1) _ (loop .out) _ (inv .3),
+        first-body _ _ _ _ _ _ (inv .0) _ _ exact (found .1),
+        first-room _ _ _ _ _ _ (inv .0) _ _ exact (found .1) _ (loop .out) _ (inv .1),
       ),
     )
 
@@ -111,7 +107,7 @@ put-children-sub-rest t c =
     let after-count-tree = c .before .before .before .before in
     let inv = after-count-tree .before .before .loop .inv in
     let found = after-count-tree .count-tree .ensures in
-    omega (arith, first-low _ _ _ _ _ (inv .1) (inv .2) _ _ (counted-exact _ _ _ _ _ (inv .1) (inv .2) _ (found .0)) (found .1))
+    omega (arith, first-low _ _ _ _ _ _ (inv .0) _ _ (counted-exact _ _ _ _ _ _ (inv .0) _ (found .0)) (found .1))
 
 put-children-sub-more : (t : ℕ) → put-children-lts.Need-sub-more (put-children-uses t) (put-children-at t)
     put-children.Post put-children-Inv-loop put-children-μ-loop
@@ -131,14 +127,12 @@ put-children-loop-again t c =
     let inv = loop .inv in
     let more = in-loop .loop-test .taken in
     let found = after-count-tree .count-tree .ensures in
-    let exact = counted-exact _ _ _ _ _ (inv .1) (inv .2) _ (found .0) in
+    let exact = counted-exact _ _ _ _ _ _ (inv .0) _ (found .0) in
     let stored = after-put-tree .put-tree .ensures in (
-      rest-standing _ _ _ _ _ (inv .1) (inv .0) _ (found .1),
-      omega arith,
-      rest-bodies _ _ _ _ _ (inv .1) (inv .2) _ _ exact (found .1),
-      rest-room _ _ _ _ _ (inv .1) (inv .2) _ _ exact (found .1) _ (loop .out) _ _ stored (inv .3),
-      (λ d r h. inv .4 d r (more-stores _ _ _ _ _ (inv .1) (inv .2) _ _ exact (found .1) _ (loop .out) _ _ stored d r h)),
-      stored-long _ _ _ _ _ (inv .1) (inv .2) _ _ exact (found .1) _ (loop .out) _ _ stored ∙ inv .5,
+      rest-bodies _ _ _ _ _ _ (inv .0) _ _ exact (found .1) more,
+      rest-room _ _ _ _ _ _ (inv .0) _ _ exact (found .1) _ (loop .out) _ _ stored (inv .1),
+      (λ d r h. inv .2 d r (more-stores _ _ _ _ _ _ (inv .0) _ _ exact (found .1) _ (loop .out) _ _ stored d r h)),
+      stored-long _ _ _ _ _ _ (inv .0) _ _ exact (found .1) _ (loop .out) _ _ stored ∙ inv .3,
     )
 
 put-children-put-tree-requires-2 : (t : ℕ) → put-children-lts.Need-put-tree-requires-2 (put-children-uses t) (put-children-at t)
@@ -152,10 +146,8 @@ put-children-put-tree-requires-2 t c κs =
     let is = s .pre .0 in (
       omega arith,
       (
-        first-standing _ _ _ _ _ (inv .1) (inv .0),
-        s .pre .1 .1,
-        last-body _ _ _ _ _ (inv .1) (inv .2) (omega (arith, last)),
-        last-room _ _ _ _ _ (inv .1) (inv .2) (omega (arith, last)) _ (loop .out) _ (inv .3),
+        last-body _ _ _ _ _ _ (inv .0) (omega (arith, last)),
+        last-room _ _ _ _ _ _ (inv .0) (omega (arith, last)) _ (loop .out) _ (inv .1),
       ),
     )
 
@@ -170,44 +162,40 @@ put-children-returns t c =
     let after-loop = after-put-tree2 .before .before in
     let loop = after-loop .before .loop in
     let few = after-loop .loop-test .left in
-    loop .inv .4 _ _
-    (last-stores _ _ _ _ _ (loop .inv .1) (loop .inv .2) (omega (arith, few)) _ (loop .out) _ _ (after-put-tree2 .put-tree2 .ensures))
+    loop .inv .2 _ _
+    (last-stores _ _ _ _ _ _ (loop .inv .0) (omega (arith, few)) _ (loop .out) _ _ (after-put-tree2 .put-tree2 .ensures))
 
 put-tree-natural-requires : (t : ℕ) → put-tree-lts.Need-natural-requires (put-tree-uses t) (put-tree-at t) put-tree.Post
-put-tree-natural-requires t c κs = code-there _ _ _ (standing-noded _ _ _ _ (c .before .before .pre .1 .0))
+put-tree-natural-requires t c κs = code-there _ _ _ (standing-noded _ _ _ _ (tree-standing _ _ _ _ _ (c .before .before .pre .1 .0)))
 
 put-tree-node-len-requires : (t : ℕ) → put-tree-lts.Need-node-len-requires (put-tree-uses t) (put-tree-at t) put-tree.Post
-put-tree-node-len-requires t c κs = standing-noded _ _ _ _ (c .before .before .before .before .pre .1 .0)
+put-tree-node-len-requires t c κs = standing-noded _ _ _ _ (tree-standing _ _ _ _ _ (c .before .before .before .before .pre .1 .0))
 
 put-tree-add-next : (t : ℕ) → put-tree-lts.Need-add-next (put-tree-uses t) (put-tree-at t) put-tree.Post
 put-tree-add-next t c =
     let s = c .before .before .before .before .before in
-    omega (arith, standing-there _ _ _ _ (s .pre .1 .0), c .node-len .ensures)
+    omega (arith, standing-there _ _ _ _ (tree-standing _ _ _ _ _ (s .pre .1 .0)), c .node-len .ensures)
 
 put-tree-children-requires : (t : ℕ) → put-tree-lts.Need-children-requires (put-tree-uses t) (put-tree-at t) put-tree.Post
-put-tree-children-requires t c κs = standing-noded _ _ _ _ (c .before .before .before .before .before .pre .1 .0)
+put-tree-children-requires t c κs = standing-noded _ _ _ _ (tree-standing _ _ _ _ _ (c .before .before .before .before .before .pre .1 .0))
 
 put-tree-sub-put-children : (t : ℕ) → put-tree-lts.Need-sub-put-children (put-tree-uses t) (put-tree-at t) put-tree.Post
-put-tree-sub-put-children t c = omega (arith, standing-some _ _ _ _ (c .before .before .before .before .before .before .pre .1 .0))
+put-tree-sub-put-children t c = omega (arith, standing-some _ _ _ _ (tree-standing _ _ _ _ _ (c .before .before .before .before .before .before .pre .1 .0)))
 
 put-tree-put-children-requires : (t : ℕ) → put-tree-lts.Need-put-children-requires (put-tree-uses t) (put-tree-at t) put-tree.Post
 put-tree-put-children-requires t c κs =
     let after-children = c .before in
     let then1 = after-children .before .before in
     let s = then1 .before .before .before .before in
-    let h = s .pre .1 .0 in
-    let some = standing-some _ _ _ _ h in
+    let some = standing-some _ _ _ _ (tree-standing _ _ _ _ _ (s .pre .1 .0)) in
     let long = after-children .before .node-len .ensures in
     let many = after-children .children .ensures in
     let six = sym (then1 .before .natural .ensures) ∙ then1 .if1 .taken in
     let is = s .pre .0 in (
       omega arith,
       (
-        standing-children _ _ _ _ h _ _ long many,
-        omega (arith, s .pre .1 .1),
-        case-some _ _ _ _ _ _ six long many (s .pre .1 .2),
-        case-bodies _ _ _ _ _ _ six long many (s .pre .1 .2),
-        case-room _ _ _ _ _ _ six long many (s .pre .1 .2) _ _ (s .pre .1 .3),
+        case-bodies _ _ _ _ _ _ six long many _ (s .pre .1 .0),
+        case-room _ _ _ _ _ _ six long many _ (s .pre .1 .0) _ _ (s .pre .1 .1),
       ),
     )
 
@@ -226,7 +214,7 @@ put-tree-returns t c =
 put-tree-put-from-requires : (t : ℕ) → put-tree-lts.Need-put-from-requires (put-tree-uses t) (put-tree-at t) put-tree.Post
 put-tree-put-from-requires t c κs =
     let s = c .before .before .before .before .before in
-    (s .pre .1 .2, omega arith, s .pre .1 .3)
+    (record { body = s .pre .1 .0; start = omega arith }, s .pre .1 .1)
 
 put-tree-same-length-2 : (t : ℕ) → put-tree-lts.Need-same-length-2 (put-tree-uses t) (put-tree-at t) put-tree.Post
 put-tree-same-length-2 t c = search needs

@@ -86,8 +86,6 @@ put-tree-requires c κs =
     sets-after (s .args .out .now) (s .args .to) 8 (nat 6) (nat many) (length-nat 6) (after-put-nat .put-nat .ensures)
     (after-put-nat2 .put-nat2 .ensures) in
     let same = ap length two ∙ length-sets (s .args .out .now) (s .args .to) (nat 6 ++ nat many) in (
-      body-standing _ _ (w .formed) _ (w .known) (w .body) _ _ place refl,
-      omega arith,
       body-at _ _ (w .formed) _ (w .known) (w .body) _ _ place (dim .0) _ counted (few-branches _ _ _ w _ _ place (dim .0) _ counted) (dim .1),
       branch-rooms _ _ _ w _ _ place (dim .0) _ counted (s .args .out .now) (after-put-nat2 .put-nat2 .last .0) (s .args .to) same (s .pre .1),
     )
