@@ -238,6 +238,7 @@ module _ (bs : List ℕ) (p left many b of : ℕ) (h : ChildrenAt bs p left many
             end = h .end;
             at = rw (ends (split .first) (split .middle) (split .before)) (split .after);
             few = omega (arith, nodes, h .few);
+            left-low = h .left-low;
             count = split .many;
             sum = omega (arith, sum, h .sum, exact (split .first) (split .middle) (split .before));
             low = omega (arith, h .low);

@@ -45,7 +45,7 @@ use Rattle.normal.specs.Count.{countOf, sumOf, productOf, pick}
 use Rattle.normal.specs.Counted.{ChildrenAt, Picks, OperandAt, SplitsOf, Splits}
 use Rattle.normal.specs.Part.{nothing, beside, own, levelBelow, partOf, chosenOf, partsOf}
 use Rattle.normal.specs.Rows.{AllComposable}
-use Rattle.normal.specs.Spot.{Limits, Spot}
+use Rattle.normal.specs.Spot.{Limits, Spot, Stop}
 use Rattle.normal.specs.Followed.{roomOf, Composes, Lowers, Route, RouteAll, Wrote, Visits, Follows, FollowsAll}
 use Rattle.normal.proofs.Counting.{Factors, factors, only-split}
 use Rattle.normal.proofs.Parts.{part-children, count-operands, pick-kept, wrote-nothing, wrote-then, room-same, things-low, part-things, level-next}
@@ -122,6 +122,7 @@ module _ (bs : List ℕ) where
           end = h .end;
           at = case-at;
           few = omega (arith, h .few, case-nodes);
+          left-low = omega (arith, h .left-low);
           count = case-many;
           sum = sym case-count ∙ h .branches;
           low = h .low;
@@ -275,7 +276,7 @@ module _ (bs : List ℕ) where
           restr-reaches : (x : RestrAt (h .tree) (varsOf bs) bs p (h .end)) → allReach (h .bound) (x .given) && reach (x .child) (h .bound) ≡ true
           restr-reaches x = unfold reach in rw (x .is) at (h .reaches)
 
-      pub route-spot : Spot bs p m t (pen .to) room
+      route-spot : Spot bs p m t (pen .to) room
       route-spot = record {
         what = nodeOf (h .tree);
         next = p + nodeLen bs p;
@@ -284,6 +285,9 @@ module _ (bs : List ℕ) where
         limits = spot-limits;
         fits-room = omega (arith, h .fits-room, lengths, ap length (own-out t (nodeOf (h .tree)) (mapOf m) level));
       }
+
+      pub route-stop : Stop bs p m t level pen room
+      route-stop = record { spot = route-spot; level-low = omega (arith, h .level-low); things-low = h .things-low }
 
       module _ (k n : ℕ) (long : k ≡ nodeLen bs p) (many : (nd : Node) (q : ℕ) → node (varsOf bs) bs p ≡ got nd q → n ≡ arity nd) (l : ℕ)
           (level-is : (nd : Node) → codeOf nd ≡ natAbs (field bs p) → l ≡ levelBelow nd level) (dry : Bool) (after : Pen) (out out′ : List ℕ)
@@ -352,6 +356,7 @@ module _ (bs : List ℕ) where
       end = split .middle;
       at = split .before;
       few = omega (arith, nodes, h .few);
+      left-low = h .left-low;
       product = product;
       low = h .low;
       some = h .some;

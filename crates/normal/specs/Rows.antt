@@ -1,4 +1,5 @@
 -- What a function that writes constraints where they stand requires. Assumes nothing.
+use mathlib.Core.Path.{_≡_}
 use Prim.Native.Nat.{ℕ, zero, suc, _+_, _*_, _≤_}
 use mathlib.Core.List.{List}
 use lib.ListN.{length}
@@ -6,7 +7,7 @@ use lib.IntN.{natAbs}
 use Rattle.alpha.specs.Field.{field}
 use Rattle.alpha.specs.Reach.{limit, topReach, rowReach, mapReach}
 use Rattle.affine.specs.declared.Map.{Map}
-use Rattle.affine.specs.Value.{mapOf}
+use Rattle.affine.specs.Value.{mapOf, Neat}
 use Rattle.affine.specs.Reading.{rowFields}
 
 -- the constraint of n coefficients at p can be composed with m, with no sum leaving an i64
@@ -19,3 +20,17 @@ pub record Composable (bs : List ℕ) (p n : ℕ) (m : Map) : Type 0 where
 unfoldable pub AllComposable : ℕ → List ℕ → ℕ → ℕ → Map → Type 0
 AllComposable zero bs p n m = Unit {0}
 AllComposable (suc k) bs p n m = Composable bs p n m × AllComposable k bs (p + (16 + 8 * n)) n m
+
+-- the constraint at p has as many coefficients as m has rows, and there is room for it after m
+pub record PutsConstraint (bs : List ℕ) (p n : ℕ) (m : Map) (to : ℕ) (out : List ℕ) : Type 0 where
+  pub neat : Neat m
+  pub dims : n ≡ m .height
+  pub composable : Composable bs p n m
+  pub room : to + (16 + 8 * m .width) ≤ length out
+
+-- so has each of k constraints from p on, and there is room for all of them
+pub record PutsConstraints (bs : List ℕ) (p k n : ℕ) (m : Map) (to : ℕ) (out : List ℕ) : Type 0 where
+  pub neat : Neat m
+  pub dims : n ≡ m .height
+  pub composable : AllComposable k bs p n m
+  pub room : to + k * (16 + 8 * m .width) ≤ length out

@@ -14,6 +14,7 @@ use Rattle.alpha.specs.Read.{got, node}
 use Rattle.laws.specs.Sheets.{varsOf}
 use Rattle.affine.specs.declared.Map.{Map}
 use Rattle.affine.specs.Value.{mapOf, Neat}
+use Rattle.tree.specs.Standing.{Noded}
 use Rattle.normal.specs.declared.Pen.{Pen}
 use Rattle.normal.specs.Part.{Part, own}
 use Rattle.normal.specs.Rows.{AllComposable}
@@ -34,6 +35,18 @@ pub record Spot (bs : List ℕ) (p : ℕ) (m : Map) (t : Bool) (to room : ℕ) :
   pub neat : Neat m
   pub limits : natAbs (field bs p) ≡ 7 → Limits bs p m
   pub fits-room : to + length (own t what (mapOf m) 0 .out) ≤ room
+
+-- it is visited with the pen, below so many nodes of the tree
+pub record Stop (bs : List ℕ) (p : ℕ) (m : Map) (t : Bool) (level : ℕ) (pen : Pen) (room : ℕ) : Type 0 where
+  pub spot : Spot bs p m t (pen .to) room
+  pub level-low : level ≤ 4096
+  pub things-low : pen .things ≤ pen .to
+
+-- it is measured there
+pub record Sized (bs : List ℕ) (p : ℕ) (m : Map) (level : ℕ) : Type 0 where
+  pub noded : Noded (varsOf bs) bs p
+  pub neat : Neat m
+  pub level-low : level ≤ 4096
 
 -- its own bytes are stored
 abbrev pub Stores : List ℕ → ℕ → Map → Bool → ℕ → List ℕ → List ℕ → Type 0

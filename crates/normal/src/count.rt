@@ -69,7 +69,7 @@ fn count_trees(
     branches: bool,
     sofar: usize,
 ) -> Branches
-    requires { ⌜ StandingAll (varsOf (now s)) (now s) at left many × (left ≤ 2048) × (many ≤ 64) × (sofar ≤ 65) ⌝ }
+    requires { ⌜ StandingAll (varsOf (now s)) (now s) at left many × (left ≤ 2048) × (sofar ≤ 65) ⌝ }
     ensures { λ r. ⌜ CountsAll (now (s .entry)) at many branches sofar (r .many) × AllEnd (varsOf (now (s .entry))) (now (s .entry)) at many (r .next) ⌝ }
 {
     let mut sum = sofar;

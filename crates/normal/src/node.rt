@@ -19,7 +19,7 @@ ghost use Rattle.affine.specs.Value.{mapOf, Neat};
 ghost use Rattle.tree.specs.Standing.{Noded};
 ghost use Rattle.normal.specs.Part.{ofTree};
 ghost use Rattle.normal.specs.Followed.{roomOf, Visits};
-ghost use Rattle.normal.specs.Spot.{headBytes, Spot, Stores, moves, Sizes};
+ghost use Rattle.normal.specs.Spot.{headBytes, Spot, Stop, Sized, Stores, moves, Sizes};
 
 // ---- stored
 
@@ -138,7 +138,7 @@ fn put_own(s: &[u8], at: usize, m: Map, tree: bool, out: &mut [u8], to: usize)
 }
 
 fn size_of(s: &[u8], at: usize, m: Map, tree: bool, level: usize) -> Pen
-    requires { ⌜ Noded (varsOf (now s)) (now s) at × Neat m × (level ≤ 4096) ⌝ }
+    requires { ⌜ Sized (now s) at m level ⌝ }
     ensures { λ r. ⌜ Sizes (now (s .entry)) at m tree level r ⌝ }
 {
     if tree {
@@ -178,7 +178,7 @@ pub fn visit(
     out: &mut [u8],
     pen: Pen,
 ) -> Pen
-    requires { ⌜ Spot (now s) at m tree (pen .to) (roomOf dry (now out)) × (level ≤ 4096) × (pen .things ≤ pen .to) ⌝ }
+    requires { ⌜ Stop (now s) at m tree level pen (roomOf dry (now out)) ⌝ }
     ensures { λ r. ⌜ Visits (now (s .entry)) at m tree level dry pen (now (out .entry)) (now (out .exit)) r ⌝ }
 {
     let size = size_of(s, at, m, tree, level);

@@ -85,7 +85,8 @@ same-length c =
     let m = after-identity .identity .ensures in
     stored-long _ _ _ _ _ _ (s .pre .0) (s .args .to) (s .args .out .now) _ _
     (branch-stored _ _ _ _ _ _ (s .pre .0) _ (m .0) (m .1) (m .2) (s .args .out .now) (s .args .to) (s .pre .1)
-    (after-put-nat2 .put-nat2 .last .0) (same after-put-nat2) _ _ (after-follow .follow .ensures) _ _ _ (head after-put-nat2) (after-put-nat3 .put-nat3 .ensures) (after-follow2 .follow2 .ensures))
+    (after-put-nat2 .put-nat2 .last .0) (same after-put-nat2) _ _ (after-follow .follow .ensures) _ _ _
+    (head after-put-nat2) (after-put-nat3 .put-nat3 .ensures) (after-follow2 .follow2 .ensures))
 
 returns : tie.Need-returns
 returns c =
@@ -97,7 +98,8 @@ returns c =
     let s = start after-put-nat2 in
     let m = after-identity .identity .ensures in
     branch-stored _ _ _ _ _ _ (s .pre .0) _ (m .0) (m .1) (m .2) (s .args .out .now) (s .args .to) (s .pre .1)
-    (after-put-nat2 .put-nat2 .last .0) (same after-put-nat2) _ _ (after-follow .follow .ensures) _ _ _ (head after-put-nat2) (after-put-nat3 .put-nat3 .ensures) (after-follow2 .follow2 .ensures)
+    (after-put-nat2 .put-nat2 .last .0) (same after-put-nat2) _ _ (after-follow .follow .ensures) _ _ _
+    (head after-put-nat2) (after-put-nat3 .put-nat3 .ensures) (after-follow2 .follow2 .ensures)
 
 pub put-branch-spec : {M : Type 1} → statement M
 put-branch-spec =

@@ -23,7 +23,7 @@ use Rattle.laws.specs.Sheets.{varsOf}
 use Rattle.tree.specs.Standing.{StandingAll}
 use Rattle.tree.specs.Ends.{AllEnd}
 use Rattle.tree.proofs.Noding.{code-there}
-use Rattle.tree.proofs.Standings.{standing-noded, standing-some, standing-there, standing-children, children-few, first-standing, rest-standing}
+use Rattle.tree.proofs.Standings.{standing-noded, standing-some, standing-there, standing-children, first-standing, rest-standing}
 use Rattle.tree.proofs.Standings.{node-ends, none-ends, more-ends}
 use Rattle.normal.specs.Counted.{CountsAll}
 use Rattle.normal.proofs.Counting.{alone-low, leaf-way, node-way, none-way, more-way, leaf-ends}
@@ -107,14 +107,12 @@ count-tree-count-trees-requires t c κs =
     let some = standing-some _ _ _ _ h in
     let long = after-node-len .node-len .ensures in
     let many = c .before .children .ensures in
-    let few = children-few _ _ _ _ h _ _ long many in
     let is = s .pre .0 in
     let start = c .alone .ensures in (
       omega arith,
       (
         standing-children _ _ _ _ h _ _ long many,
         omega (arith, s .pre .1 .1),
-        few,
         alone-low (eqb (after-natural .natural .result) 6) _ start,
       ),
     )
@@ -140,7 +138,7 @@ count-trees-μ-loop s at left many branches sofar sum₀ next₀ more₀ sum nex
 
 count-trees-loop-holds : (t : ℕ) → count-trees-lts.Need-loop-holds (count-trees-uses t) (count-trees-at t)
     count-trees.Post count-trees-Inv-loop count-trees-μ-loop
-count-trees-loop-holds t c = (c .before .pre .1 .0, c .before .pre .1 .3, (λ r h. h), (λ r h. h))
+count-trees-loop-holds t c = (c .before .pre .1 .0, c .before .pre .1 .2, (λ r h. h), (λ r h. h))
 
 count-trees-count-tree-requires : (t : ℕ) → count-trees-lts.Need-count-tree-requires (count-trees-uses t) (count-trees-at t)
     count-trees.Post count-trees-Inv-loop count-trees-μ-loop

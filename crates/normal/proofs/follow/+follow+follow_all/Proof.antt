@@ -31,7 +31,7 @@ use Rattle.tree.proofs.Noding.{code-there}
 use Rattle.tree.proofs.Standings.{standing-noded, standing-some, standing-there}
 use Rattle.normal.specs.declared.Pen.{Pen}
 use Rattle.normal.specs.Followed.{roomOf, RouteAll, FollowsAll}
-use Rattle.normal.proofs.Routes.{route-standing, route-choice, route-chosen, route-composes, route-below, route-spot, route-after}
+use Rattle.normal.proofs.Routes.{route-standing, route-choice, route-chosen, route-composes, route-below, route-stop, route-after}
 use Rattle.normal.proofs.Routes.{route-operand, route-first, route-next, case-way, node-way, dep-way}
 use Rattle.normal.proofs.Routes.{none-way, one-way, more-way, route-only}
 
@@ -115,10 +115,8 @@ follow-choose-requires : (t : ℕ) → follow-lts.Need-choose-requires (follow-u
 follow-choose-requires t c κs =
     let after-natural = c .before .before .before in
     let s = after-natural .before .before .before in
-    let six = sym (after-natural .natural .ensures) ∙ c .if1 .taken in (
-      route-choice _ _ _ _ _ _ _ _ _ _ (s .pre .1) six _ _ (c .before .before .node-len .ensures) (c .before .children .ensures),
-      omega (arith, s .pre .1 .left-low),
-    )
+    let six = sym (after-natural .natural .ensures) ∙ c .if1 .taken in
+    route-choice _ _ _ _ _ _ _ _ _ _ (s .pre .1) six _ _ (c .before .before .node-len .ensures) (c .before .children .ensures)
 
 follow-sub-follow : (t : ℕ) → follow-lts.Need-sub-follow (follow-uses t) (follow-at t) follow.Post
 follow-sub-follow t c = omega (arith, some t (c .before .before .before .before .before .before .before))
@@ -219,8 +217,7 @@ eight t c e =
 follow-visit-requires : (t : ℕ) → follow-lts.Need-visit-requires (follow-uses t) (follow-at t) follow.Post
 follow-visit-requires t c κs =
     let s = c .before .before .before .before .before .before .before .before in
-    let h = s .pre .1 in
-    (route-spot _ _ _ _ _ _ _ _ _ _ h (six t (c .before)) (eight t (c .before)), omega (arith, h .level-low), h .things-low)
+    route-stop _ _ _ _ _ _ _ _ _ _ (s .pre .1) (six t (c .before)) (eight t (c .before))
 
 follow-level-below-requires : (t : ℕ) → follow-lts.Need-level-below-requires (follow-uses t) (follow-at t) follow.Post
 follow-level-below-requires t c κs =
@@ -286,8 +283,7 @@ follow-all-split-requires : (t : ℕ) → follow-all-lts.Need-split-requires (fo
 follow-all-split-requires t c κs =
     let at-loop = c .before in
     let some : 1 ≤ at-loop .loop .more = omega (arith, c .loop-test .taken) in
-    let route = at-loop .loop .inv .0 in
-    (route-operand _ _ _ _ _ _ _ _ _ _ _ some route, route .left-low)
+    route-operand _ _ _ _ _ _ _ _ _ _ _ some (at-loop .loop .inv .0)
 
 follow-all-follow-requires : (t : ℕ) → follow-all-lts.Need-follow-requires (follow-all-uses t) (follow-all-at t)
     follow-all.Post follow-all-Inv-loop follow-all-μ-loop

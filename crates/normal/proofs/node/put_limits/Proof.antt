@@ -55,7 +55,12 @@ put-constraints-requires c κs =
     let dim = c .before .before .natural2 .ensures in
     let many = c .before .natural3 .ensures in
     let h = s .pre .limits seven in
-    (s .pre .neat, dim ∙ h .0, rw (many, dim) (h .1), rw many (limits-room _ _ (s .args .m) _ _ (s .pre) seven))
+    record {
+      neat = s .pre .neat;
+      dims = dim ∙ h .0;
+      composable = rw (many, dim) (h .1);
+      room = rw many (limits-room _ _ (s .args .m) _ _ (s .pre) seven);
+    }
 
 same-length : tie.Need-same-length
 same-length c = search needs

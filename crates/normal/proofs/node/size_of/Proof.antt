@@ -8,7 +8,7 @@ use Rattle.normal.proofs.node.size_of.Statement.{statement}
 use Rattle.normal.proofs.node.size_of.Tie as tie
 
 natural-requires : tie.Need-natural-requires
-natural-requires c κs = code-there _ _ _ (c .before .before .pre .0)
+natural-requires c κs = code-there _ _ _ (c .before .before .pre .noded)
 
 node-size-requires : tie.Need-node-size-requires
 node-size-requires c κs = search needs

@@ -7,13 +7,13 @@ use Rattle.normal.proofs.node.visit.Tie as tie
 size-of-requires : tie.Need-size-of-requires
 size-of-requires c κs =
     let s = c .before .before in
-    (noded _ _ (s .args .m) _ _ _ (s .pre .0), s .pre .0 .neat, s .pre .1)
+    record { noded = noded _ _ (s .args .m) _ _ _ (s .pre .spot); neat = s .pre .spot .neat; level-low = s .pre .level-low }
 
 moved-requires : tie.Need-moved-requires
 moved-requires c κs =
     let s = c .before .before .before .before in
     visit-room _ _ (s .args .m) (s .args .tree) (s .args .level) (s .args .pen) _ (c .before .size-of .ensures) (s .args .dry) (s .args .out .now)
-    (s .pre .0) (s .pre .2)
+    (s .pre .spot) (s .pre .things-low)
 
 returns : tie.Need-returns
 returns c =
@@ -25,14 +25,14 @@ returns c =
 put-own-requires : tie.Need-put-own-requires
 put-own-requires c κs =
     let s = c .before .before .before .before .before in
-    stored-spot _ _ (s .args .m) (s .args .tree) (s .args .dry) (s .args .pen .to) (s .args .out .now) (c .before .if1 .left) (s .pre .0)
+    stored-spot _ _ (s .args .m) (s .args .tree) (s .args .dry) (s .args .pen .to) (s .args .out .now) (c .before .if1 .left) (s .pre .spot)
 
 moved-requires-2 : tie.Need-moved-requires-2
 moved-requires-2 c κs =
     let after-size-of = c .before .before .before .before .before in
     let s = after-size-of .before .before .before in
     visit-room _ _ (s .args .m) (s .args .tree) (s .args .level) (s .args .pen) _ (after-size-of .size-of .ensures) (s .args .dry) (s .args .out .now)
-    (s .pre .0) (s .pre .2)
+    (s .pre .spot) (s .pre .things-low)
 
 same-length : tie.Need-same-length
 same-length c = search needs

@@ -8,17 +8,17 @@ use Rattle.normal.proofs.totals.grow.Statement.{statement}
 use Rattle.normal.proofs.totals.grow.Tie as tie
 
 body-place-requires : tie.Need-body-place-requires
-body-place-requires c κs = few _ _ (c .before .pre .0 .placed) _ (c .before .pre .1)
+body-place-requires c κs = few _ _ (c .before .pre .formed .placed) _ (c .before .pre .known)
 
 count-tree-requires : tie.Need-count-tree-requires
 count-tree-requires c κs =
     let s = c .before .before in
-    (body-standing _ _ (s .pre .0) _ (s .pre .1) (s .pre .2) _ _ (c .body-place .ensures) refl, omega arith)
+    (body-standing _ _ (s .pre .formed) _ (s .pre .known) (s .pre .body) _ _ (c .body-place .ensures) refl, omega arith)
 
 returns : tie.Need-returns
 returns c =
     let s = c .before .before .before .before in
-    many-way _ _ (s .pre .0) _ (s .pre .1) (s .pre .2) _ _ (c .before .before .body-place .ensures) refl _ (c .before .count-tree .ensures .0) _ _
+    many-way _ _ (s .pre .formed) _ (s .pre .known) (s .pre .body) _ _ (c .before .before .body-place .ensures) refl _ (c .before .count-tree .ensures .0) _ _
     (c .if1 .taken)
 
 dimension-of-requires : tie.Need-dimension-of-requires
@@ -30,7 +30,7 @@ measure-tree-requires c κs =
     let s = after-body-place .before .before in
     let dim = c .dimension-of .ensures in
     let low = c .before .if1 .left in (
-      body-at _ _ (s .pre .0) _ (s .pre .1) (s .pre .2) _ _ (after-body-place .body-place .ensures) (dim .0) _ (c .before .before .count-tree .ensures .0)
+      body-at _ _ (s .pre .formed) _ (s .pre .known) (s .pre .body) _ _ (after-body-place .body-place .ensures) (dim .0) _ (c .before .before .count-tree .ensures .0)
           low (dim .1),
       (omega arith, omega arith),
     )
@@ -43,7 +43,7 @@ returns-2 c =
     let after-body-place = after-count-tree .before in
     let s = after-body-place .before .before in
     let dim = after-dimension-of .dimension-of .ensures in
-    wide-way _ _ (s .pre .0) _ (s .pre .1) (s .pre .2) _ _ (after-body-place .body-place .ensures) (dim .0) _ (after-count-tree .count-tree .ensures .0)
+    wide-way _ _ (s .pre .formed) _ (s .pre .known) (s .pre .body) _ _ (after-body-place .body-place .ensures) (dim .0) _ (after-count-tree .count-tree .ensures .0)
     (s .args .nodes) (s .args .size)
     (else1 .if1 .left) (dim .1) _ (c .before .before .measure-tree .ensures) (λ k l d b. omega (arith, c .if2 .taken))
 
@@ -56,7 +56,7 @@ returns-3 c =
     let after-body-place = after-count-tree .before in
     let s = after-body-place .before .before in
     let dim = after-dimension-of .dimension-of .ensures in
-    wide-way _ _ (s .pre .0) _ (s .pre .1) (s .pre .2) _ _ (after-body-place .body-place .ensures) (dim .0) _ (after-count-tree .count-tree .ensures .0)
+    wide-way _ _ (s .pre .formed) _ (s .pre .known) (s .pre .body) _ _ (after-body-place .body-place .ensures) (dim .0) _ (after-count-tree .count-tree .ensures .0)
     (s .args .nodes) (s .args .size)
     (else1 .if1 .left) (dim .1) _ (after-measure-tree .measure-tree .ensures) (λ k l d b. omega (arith, c .if3 .taken))
 
@@ -81,7 +81,7 @@ returns-4 c =
     let after-body-place = after-count-tree .before in
     let s = after-body-place .before .before in
     let dim = after-dimension-of .dimension-of .ensures in
-    wide-way _ _ (s .pre .0) _ (s .pre .1) (s .pre .2) _ _ (after-body-place .body-place .ensures) (dim .0) _ (after-count-tree .count-tree .ensures .0)
+    wide-way _ _ (s .pre .formed) _ (s .pre .known) (s .pre .body) _ _ (after-body-place .body-place .ensures) (dim .0) _ (after-count-tree .count-tree .ensures .0)
     (s .args .nodes) (s .args .size)
     (else1 .if1 .left) (dim .1) _ (after-measure-tree .measure-tree .ensures) (λ k l d b. omega (arith, c .if4 .taken))
 
@@ -94,7 +94,7 @@ returns-5 c =
     let after-body-place = after-count-tree .before in
     let s = after-body-place .before .before in
     let dim = after-dimension-of .dimension-of .ensures in
-    wide-way _ _ (s .pre .0) _ (s .pre .1) (s .pre .2) _ _ (after-body-place .body-place .ensures) (dim .0) _ (after-count-tree .count-tree .ensures .0)
+    wide-way _ _ (s .pre .formed) _ (s .pre .known) (s .pre .body) _ _ (after-body-place .body-place .ensures) (dim .0) _ (after-count-tree .count-tree .ensures .0)
     (s .args .nodes) (s .args .size)
     (else1 .if1 .left) (dim .1) _ (after-measure-tree .measure-tree .ensures) (λ k l d b. omega (arith, c .if5 .taken))
 
@@ -109,7 +109,7 @@ returns-6 c =
     let after-body-place = after-count-tree .before in
     let s = after-body-place .before .before in
     let dim = after-dimension-of .dimension-of .ensures in
-    fits-way _ _ (s .pre .0) _ (s .pre .1) (s .pre .2) _ _ (after-body-place .body-place .ensures) (dim .0) _ (after-count-tree .count-tree .ensures .0)
+    fits-way _ _ (s .pre .formed) _ (s .pre .known) (s .pre .body) _ _ (after-body-place .body-place .ensures) (dim .0) _ (after-count-tree .count-tree .ensures .0)
     (s .args .nodes) (s .args .size)
     (else1 .if1 .left) (dim .1) _ (after-measure-tree .measure-tree .ensures) (c .before .if4 .left) (else2 .if2 .left) (else3 .if3 .left)
     (c .if5 .left)
