@@ -31,9 +31,10 @@ use Rattle.normal.specs.Part.{mapBytes, ofTree, givenBy, ofGiven, own}
 use Rattle.tree.specs.Standing.{Noded}
 use Rattle.normal.specs.declared.Pen.{Pen}
 use Rattle.normal.specs.Followed.{laid, roomOf, Visits}
+use Rattle.normal.specs.Rows.{limitBytes}
 use Rattle.normal.specs.Spot.{headBytes, Spot, moves, Sizes, Stores}
 use Rattle.normal.proofs.Laying.{sets-after, length-nat, two-long, three-long, rows-long, constraints-long}
-use Rattle.normal.proofs.Composed.{map-wide, map-high, limitBytes}
+use Rattle.normal.proofs.Composed.{map-wide, map-high}
 
 -- ---- operators by their numbers
 

@@ -1,14 +1,21 @@
--- What a function that writes constraints where they stand requires. Assumes nothing.
+-- Constraints as they are written after a map, and what a function that writes them where they stand requires. Assumes nothing.
 use mathlib.Core.Path.{_≡_}
 use Prim.Native.Nat.{ℕ, zero, suc, _+_, _*_, _≤_}
-use mathlib.Core.List.{List}
+use mathlib.Core.List.{List, map}
 use lib.ListN.{length}
 use lib.IntN.{natAbs}
 use Rattle.alpha.specs.Field.{field}
+use Rattle.alpha.specs.Affine.{constraintAfter}
 use Rattle.alpha.specs.Reach.{limit, topReach, rowReach, mapReach}
+use Rattle.alpha.specs.Written.{flat, constraintBytes}
 use Rattle.affine.specs.declared.Map.{Map}
 use Rattle.affine.specs.Value.{mapOf, Neat}
 use Rattle.affine.specs.Reading.{rowFields}
+use Rattle.domain.specs.Constraints.{constraintsFields}
+
+-- the bytes of k constraints of n coefficients from p on, after m
+abbrev pub limitBytes : Map → ℕ → ℕ → List ℕ → ℕ → List ℕ
+limitBytes m k n bs p = flat (map constraintBytes (map (constraintAfter (mapOf m)) (constraintsFields k n bs p)))
 
 -- the constraint of n coefficients at p can be composed with m, with no sum leaving an i64
 pub record Composable (bs : List ℕ) (p n : ℕ) (m : Map) : Type 0 where

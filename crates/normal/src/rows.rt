@@ -14,9 +14,9 @@ ghost use lib.Seq.{sets};
 ghost use Rattle.alpha.specs.Affine.{constraintAfter};
 ghost use Rattle.alpha.specs.Written.{flat, rowBytes, constraintBytes};
 ghost use Rattle.affine.specs.Value.{rowOf, mapOf, Neat};
-ghost use Rattle.domain.specs.Constraints.{constraintFields, constraintsFields};
+ghost use Rattle.domain.specs.Constraints.{constraintFields};
 ghost use Rattle.normal.specs.Part.{mapBytes};
-ghost use Rattle.normal.specs.Rows.{PutsConstraint, PutsConstraints};
+ghost use Rattle.normal.specs.Rows.{limitBytes, PutsConstraint, PutsConstraints};
 
 // The row's n coefficients, then its constant.
 fn put_row(out: &mut [u8], to: usize, r: Row, n: usize)
@@ -87,7 +87,7 @@ pub fn put_constraints(
     to: usize,
 )
     requires { ⌜ PutsConstraints (now s) at count n m to (now out) ⌝ }
-    ensures { λ _. ⌜ now (out .exit) ≡ sets (now (out .entry)) to (flat (map constraintBytes (map (constraintAfter (mapOf m)) (constraintsFields count n (now (s .entry)) at)))) ⌝ }
+    ensures { λ _. ⌜ now (out .exit) ≡ sets (now (out .entry)) to (limitBytes m count n (now (s .entry)) at) ⌝ }
 {
     let step = 16 + 8 * m.width;
     let mut from = at;

@@ -13,9 +13,9 @@ use Rattle.alpha.specs.Written.{constraintBytes}
 use Rattle.affine.specs.declared.Map.{Map}
 use Rattle.affine.specs.Value.{mapOf}
 use Rattle.domain.specs.Constraints.{constraintFields}
-use Rattle.normal.specs.Rows.{AllComposable}
+use Rattle.normal.specs.Rows.{limitBytes, AllComposable}
 use Rattle.normal.proofs.Laying.{one-less}
-use Rattle.normal.proofs.Composed.{limitBytes, composable-first, composable-rest, limits-again, limits-over}
+use Rattle.normal.proofs.Composed.{composable-first, composable-rest, limits-again, limits-over}
 use Rattle.normal.proofs.rows.put_constraints.Statement.{statement}
 use Rattle.normal.proofs.rows.put_constraints.Tie as tie
 

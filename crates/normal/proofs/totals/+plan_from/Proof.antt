@@ -46,7 +46,8 @@ plan-from-returns : (t : ℕ) → plan-from-lts.Need-returns (plan-from-uses t) 
 plan-from-returns t c =
     let s = c .before .before .before in
     plan-none _ _ (s .pre .1 .formed) _ _ _
-    (omega (arith, c .if1 .taken, c .before .variable-count .ensures, s .pre .1 .formed .placed .prepared .table .variables)) (s .pre .1 .nodes-low) (s .pre .1 .size-low)
+    (omega (arith, c .if1 .taken, c .before .variable-count .ensures, s .pre .1 .formed .placed .prepared .table .variables))
+    (s .pre .1 .nodes-low) (s .pre .1 .size-low)
 
 -- there is such a variable
 known : (t : ℕ) (c : plan-from-lts.Else1 (plan-from-uses t) (plan-from-at t) plan-from.Post) →
