@@ -1,32 +1,24 @@
--- A tree as its first node and its children: where the children stand, and what `exprAt`, `fits`, `typeOf` and `reach` are by the node
--- and the children. A walk over prefix nodes does each node alike, and then so many children. Assumes nothing.
+-- A tree as its first node and its children: where the children stand, and what `exprAt`, `fits` and `reach` are by the node and the
+-- children. A walk over prefix nodes does each node alike, and then so many children. Assumes nothing.
 use mathlib.Core.Path.{_≡_, refl, sym, ap, _∙_}
-use Prim.Native.Nat.{ℕ, zero, suc, _+_, _≤_}
+use Prim.Native.Nat.{ℕ, zero, suc, _≤_}
 use native.Mathlib.Omega.{arith}
 use mathlib.Core.Bool.{Bool, true, false, _&&_}
-use mathlib.Core.List.{List, [], _∷_}
-use lib.ListN.{length, getD}
-use lib.IntN.{natAbs}
+use mathlib.Core.List.{List}
+use lib.ListN.{length}
 use lib.Dec.{eqb, leb}
-use Rattle.alpha.specs.Field.{field}
 use Rattle.alpha.specs.Sheet.{Node, Head, Expr, Exprs}
 use Rattle.alpha.specs.Sheet.{Node.nVar, Node.nInt, Node.nBool, Node.nUnary, Node.nBinary, Node.nIf, Node.nCase, Node.nRestr, Node.nDep}
 use Rattle.alpha.specs.Sheet.{Expr.var, Expr.int, Expr.boo, Expr.un, Expr.bin, Expr.ite, Expr.kase, Expr.restr, Expr.dep, Exprs.none, Exprs.more}
 use Rattle.alpha.specs.Read.{got, node, dimension}
 use Rattle.alpha.specs.Shape.{Parsed, tree, ill, then, Parser, branches, withNode, atNode, exprAt, fits, allFit}
-use Rattle.alpha.specs.Typing.{typeOf, typesOf}
 use Rattle.alpha.specs.Reach.{limit, mapReach, allReach, reach, reachAll}
 use Rattle.alpha.specs.Written.{branchCount, nodeCount, nodeCounts}
-use Rattle.laws.specs.At.{nodeOf, codeOf, nodeLen, Headed, At, AllAt}
-use Rattle.laws.specs.Children.{childrenOf, arity, fitsHere, wanted, reachHere, reachBelow, sortBy}
-use Rattle.laws.proofs.Readers.{counted-is}
-use Rattle.laws.proofs.Nodes.{NodeAt, node-next}
+use Rattle.laws.specs.At.{nodeOf, nodeEnd, Headed, At, AllAt}
+use Rattle.laws.specs.Children.{childrenOf, arity, fitsHere, wanted, reachHere, reachBelow}
+use Rattle.laws.proofs.Nodes.{NodeAt, node-end}
 
 -- ---- children
-
--- how many children, by the node's code and the number in its second field
-abbrev pub arityOf : ℕ → ℕ → ℕ
-arityOf code a = getD (0 ∷ 0 ∷ 0 ∷ 1 ∷ 2 ∷ 3 ∷ a ∷ 1 ∷ 1 ∷ []) code 0
 
 pub children-many : (e : Expr) → branchCount (childrenOf e) ≡ arity (nodeOf e)
 children-many (var v) = refl
@@ -51,23 +43,9 @@ children-count (kase es) = refl
 children-count (restr d cs a) = omega arith
 children-count (dep f a) = omega arith
 
--- ---- the number of children that the bytes say
+-- ---- how many they are at most
 
 module _ (vars : ℕ) (bs : List ℕ) (p : ℕ) where
-  arity-coded : (nd : Node) → NodeAt vars bs p nd → arity nd ≡ arityOf (codeOf nd) (natAbs (field bs (p + 8)))
-  arity-coded (nVar v) h = refl
-  arity-coded (nInt c) h = refl
-  arity-coded (nBool b) h = refl
-  arity-coded (nUnary o) h = refl
-  arity-coded (nBinary o) h = refl
-  arity-coded nIf h = refl
-  arity-coded (nCase n) h = counted-is (h .fields)
-  arity-coded (nRestr d cs) h = refl
-  arity-coded (nDep f) h = refl
-
-  pub arity-is : (nd : Node) → NodeAt vars bs p nd → arityOf (natAbs (field bs p)) (natAbs (field bs (p + 8))) ≡ arity nd
-  arity-is nd h = ap (λ x. arityOf (natAbs x) (natAbs (field bs (p + 8)))) (h .code) ∙ sym (arity-coded nd h)
-
   pub arity-few : (nd : Node) → NodeAt vars bs p nd → arity nd ≤ 64
   arity-few (nVar v) h = omega arith
   arity-few (nInt c) h = omega arith
@@ -82,33 +60,31 @@ module _ (vars : ℕ) (bs : List ℕ) (p : ℕ) where
 -- ---- where the children stand
 
 module _ (vars : ℕ) (bs : List ℕ) where
-  leaf-below : (nd : Node) (p q : ℕ) → node vars bs p ≡ got nd q → p + nodeLen bs p ≡ q
-  leaf-below nd p q h = sym (node-next vars bs p nd q h)
-
-  one-below : (nd : Node) (p q : ℕ) (a : Expr) → Headed vars bs p nd (λ r. At a vars bs r q) → AllAt (more a none) vars bs (p + nodeLen bs p) q
+  one-below : (nd : Node) (p q : ℕ) (a : Expr) → Headed vars bs p nd (λ r. At a vars bs r q) → AllAt (more a none) vars bs (nodeEnd vars bs p) q
   unfolding At
-  one-below nd p q a h = let n = node-next vars bs p nd (h .next) (h .here) in record { middle = q; before = rw n at (h .below); after = refl }
+  one-below nd p q a h = record { middle = q; before = rw (node-end vars bs p nd (h .next) (h .here)) (h .below); after = refl }
 
-  pub at-children : (e : Expr) (p q : ℕ) → At e vars bs p q → AllAt (childrenOf e) vars bs (p + nodeLen bs p) q
+  -- from the place after the node on
+  pub at-children : (e : Expr) (p q : ℕ) → At e vars bs p q → AllAt (childrenOf e) vars bs (nodeEnd vars bs p) q
   unfolding At
-  at-children (var v) p q h = leaf-below (nVar v) p q h
-  at-children (int c) p q h = leaf-below (nInt c) p q h
-  at-children (boo b) p q h = leaf-below (nBool b) p q h
+  at-children (var v) p q h = node-end vars bs p (nVar v) q h
+  at-children (int c) p q h = node-end vars bs p (nInt c) q h
+  at-children (boo b) p q h = node-end vars bs p (nBool b) q h
   at-children (un o a) p q h = one-below (nUnary o) p q a h
   at-children (bin o a b) p q h =
-      let n = node-next vars bs p (nBinary o) (h .next) (h .here) in
+      let n = node-end vars bs p (nBinary o) (h .next) (h .here) in
       let g = h .below in
-      record { middle = g .middle; before = rw n at (g .before); after = record { middle = q; before = g .after; after = refl } }
+      record { middle = g .middle; before = rw n (g .before); after = record { middle = q; before = g .after; after = refl } }
   at-children (ite a b c) p q h =
-      let n = node-next vars bs p nIf (h .next) (h .here) in
+      let n = node-end vars bs p nIf (h .next) (h .here) in
       let g = h .below in
       let f = g .after in
       record {
         middle = g .middle;
-        before = rw n at (g .before);
+        before = rw n (g .before);
         after = record { middle = f .middle; before = f .before; after = record { middle = q; before = f .after; after = refl } };
       }
-  at-children (kase es) p q h = let n = node-next vars bs p (nCase (branchCount es)) (h .next) (h .here) in rw n at (h .below)
+  at-children (kase es) p q h = rw (node-end vars bs p (nCase (branchCount es)) (h .next) (h .here)) (h .below)
   at-children (restr d cs a) p q h = one-below (nRestr d cs) p q a h
   at-children (dep f a) p q h = one-below (nDep f) p q a h
 
@@ -280,19 +256,3 @@ reach-children (ite a b c) r = &&-three (reach a r) (reach b r) (reach c r)
 reach-children (kase es) r = refl
 reach-children (restr d cs a) r = ap (λ x. allReach r cs && x) (&&-none (reach a r))
 reach-children (dep f a) r = ap (λ x. leb (mapReach r (f .rows)) limit && x) (&&-none (reach a (mapReach r (f .rows))))
-
--- ---- types
-
--- the nodes whose children have one type: all that have children, but for an if
-pub type-children : (e : Expr) (hs : List Head) → (codeOf (nodeOf e) ≡ 0 → ⊥) → (codeOf (nodeOf e) ≡ 1 → ⊥) → (codeOf (nodeOf e) ≡ 2 → ⊥) → (codeOf (nodeOf e) ≡ 5 → ⊥) →
-    typeOf e hs ≡ sortBy (nodeOf e) (typesOf (childrenOf e) hs)
-unfolding typeOf
-type-children (var v) hs a b c d = absurd (a refl)
-type-children (int x) hs a b c d = absurd (b refl)
-type-children (boo x) hs a b c d = absurd (c refl)
-type-children (un o x) hs a b c d = refl
-type-children (bin o x y) hs a b c d = refl
-type-children (ite x y z) hs a b c d = absurd (d refl)
-type-children (kase es) hs a b c d = refl
-type-children (restr n cs x) hs a b c d = refl
-type-children (dep f x) hs a b c d = refl

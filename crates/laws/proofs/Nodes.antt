@@ -1,5 +1,5 @@
--- What is read at a node's place: its code, its fields, and its length. One law, `node-gives`, by the node's cases. Assumes nothing.
-use mathlib.Core.Path.{_≡_, refl, ap, _∙_}
+-- What is read at a node's place: its code, its fields, and the place after it. One law, `node-reads`, by the node's cases. Assumes nothing.
+use mathlib.Core.Path.{_≡_, refl, ap, _∙_, subst}
 use Prim.Native.Nat.{ℕ, zero, suc, _+_, _*_, _-_, _≤_, _<_}
 use native.Mathlib.Omega.{arith}
 use mathlib.Core.List.{List, [], _∷_}
@@ -10,9 +10,9 @@ use Rattle.alpha.specs.Field.{field}
 use Rattle.alpha.specs.Sheet.{Row, Constraint, Map, Node}
 use Rattle.alpha.specs.Sheet.{Node.nVar, Node.nInt, Node.nBool, Node.nUnary, Node.nBinary, Node.nIf, Node.nCase, Node.nRestr, Node.nDep}
 use Rattle.alpha.specs.Box.{within}
-use Rattle.alpha.specs.Read.{Got, got, Reader, after, pure, unaryOf, binaryOf, repeat, count, choice, number, rowOf, constraint, restriction, dependence, nodes, node}
-use Rattle.laws.specs.At.{codeOf, lengthOf, nodeLen}
-use Rattle.laws.proofs.Readers.{Gives, given, then-gives, Passed, passing-gives, Counted, counted-is, count-gives, choice-gives, Items, repeat-gives}
+use Rattle.alpha.specs.Read.{Got, got, bad, Reader, after, pure, unaryOf, binaryOf, repeat, count, choice, number, rowOf, constraint, restriction, dependence, nodes, node}
+use Rattle.laws.specs.At.{codeOf, readNode, readEnd, nodeRead, nodeEnd}
+use Rattle.laws.proofs.Readers.{Upto, Gives, given, Passed, passing-gives, Counted, counted-is, count-gives, choice-gives, Items, repeat-gives}
 use Rattle.laws.proofs.Rows.{Chosen, chosen, RowAt, row-gives, row-takes, ConstraintAt, constraint-gives, constraint-takes}
 
 -- ---- what the fields say
@@ -30,7 +30,8 @@ pub record Depends (bs : List ℕ) (p : ℕ) (f : Map) : Type 0 where
   pub many : Counted 0 4 bs (p + 16) (length (f .rows))
   pub item : (i : ℕ) → i < length (f .rows) → (w : Row) →
       rowOf (f .cols) bs (p + 24 + i * (8 + 8 * f .cols)) ≡ got (getD (f .rows) i w) (p + 24 + i * (8 + 8 * f .cols) + (8 + 8 * f .cols))
-  pub read : dependence bs (p + 8) ≡ got (nDep f) (p + nodeLen bs p)
+  pub next : ℕ
+  pub read : dependence bs (p + 8) ≡ got (nDep f) next
 
 -- what the fields after the code of the node at p say
 abbrev pub Fields : ℕ → List ℕ → ℕ → Node → Type 0
@@ -44,34 +45,38 @@ Fields vars bs p (nCase n) = Counted 1 64 bs (p + 8) n
 Fields vars bs p (nRestr d cs) = Restricts bs p d cs
 Fields vars bs p (nDep f) = Depends bs p f
 
+-- how many bytes a node has
+abbrev pub nodeSize : Node → ℕ
+nodeSize (nVar v) = 16
+nodeSize (nInt c) = 16
+nodeSize (nBool b) = 16
+nodeSize (nUnary o) = 16
+nodeSize (nBinary o) = 16
+nodeSize nIf = 8
+nodeSize (nCase n) = 16
+nodeSize (nRestr d cs) = 24 + length cs * (16 + 8 * d)
+nodeSize (nDep f) = 24 + length (f .rows) * (8 + 8 * f .cols)
+
 -- the node nd stands at p
 pub record NodeAt (vars : ℕ) (bs : List ℕ) (p : ℕ) (nd : Node) : Type 0 where
   pub code : field bs p ≡ pos (codeOf nd)
-  pub long : 8 ≤ nodeLen bs p
-  pub there : p + nodeLen bs p ≤ length bs
+  pub long : 8 ≤ nodeSize nd
+  pub there : p + nodeSize nd ≤ length bs
   pub fields : Fields vars bs p nd
-
--- ---- lengths
-
-module _ (bs : List ℕ) (p : ℕ) where
-  pub nodeLen-is : (code a b : ℕ) → field bs p ≡ pos code → a ≡ natAbs (field bs (p + 8)) → b ≡ natAbs (field bs (p + 16)) → nodeLen bs p ≡ lengthOf code a b
-  unfolding nodeLen
-  nodeLen-is code a b c x y = rw (x, y) (ap (λ z. lengthOf (natAbs z) (natAbs (field bs (p + 8))) (natAbs (field bs (p + 16)))) c)
-
-  pub nodeLen-by-code : (code n : ℕ) → field bs p ≡ pos code → ((a b : ℕ) → lengthOf code a b ≡ n) → nodeLen bs p ≡ n
-  nodeLen-by-code code n c h = nodeLen-is code (natAbs (field bs (p + 8))) (natAbs (field bs (p + 16))) c refl refl ∙ h _ _
 
 -- ---- each reader of the table, after a code
 
 module _ (vars : ℕ) (bs : List ℕ) (p : ℕ) where
-  -- what the reader of a node's fields must give
+  -- what the reader of a node's fields must give: the node, and the place after its bytes
   abbrev Reads : Got Node → Type 0
-  Reads m = Gives (NodeAt vars bs p) (p + nodeLen bs p) m
+  Reads (got nd q) = Upto (NodeAt vars bs p) (p + nodeSize nd) nd q
+  Reads (bad n q) = Unit {0}
 
   -- after some fields
   then-reads : {A : Type 0} (P : A → Type 0) (q : ℕ) (m : Got A) (k : A → ℕ → Got Node) →
       Gives P q m → ((a : A) → m ≡ got a q → P a → Reads (k a q)) → Reads (after m k)
-  then-reads P q m k g h = then-gives P q (NodeAt vars bs p) (p + nodeLen bs p) m k g h
+  then-reads P q (got a r) k g h = rw (g .next) (h a (ap (got a) (g .next)) (g .what))
+  then-reads P q (bad n r) k g h = tt
 
   -- k places on, the next place is k + 8 on
   on : (k : ℕ) → p + k + 8 ≡ p + (k + 8)
@@ -87,45 +92,42 @@ module _ (vars : ℕ) (bs : List ℕ) (p : ℕ) where
   ints = rw (on 8) at (passing-gives NUMBER (within (negℤ (pos 2147483648)) (pos 2147483647)) bs (p + 8))
 
   -- a node with one field after its code
-  short : {A : Type 0} (P : A → Type 0) (make : A → Node) (m : Got A) (code : ℕ) → ((a : A) → codeOf (make a) ≡ code) → ((a b : ℕ) → lengthOf code a b ≡ 16) →
+  short : {A : Type 0} (P : A → Type 0) (make : A → Node) (m : Got A) (code : ℕ) → ((a : A) → codeOf (make a) ≡ code) → ((a : A) → nodeSize (make a) ≡ 16) →
       ((a : A) → P a → (p + 8 + 8 ≤ length bs) × Fields vars bs p (make a)) → field bs p ≡ pos code → Gives P (p + 16) m → Reads (after m (λ a q. got (make a) q))
-  short P make m code is l says c g =
-      let n = nodeLen-by-code bs p code 16 c l in
+  short P make m code is size says c g =
       then-reads P (p + 16) m (λ a q. got (make a) q) g (λ a e h. record {
-        what = record { code = rw is c; long = omega (arith, n); there = omega (arith, n, says a h .0); fields = says a h .1 };
-        next = omega (arith, n);
+        what = record { code = rw is c; long = omega (arith, size a); there = omega (arith, size a, says a h .0); fields = says a h .1 };
+        next = omega (arith, size a);
       })
 
   var-reads : field bs p ≡ pos 0 → Reads (after (choice (vars - 1) bs (p + 8)) (λ v q. got (nVar v) q))
   var-reads c =
       short (Counted 0 (vars - 1) bs (p + 8)) nVar (choice (vars - 1) bs (p + 8)) 0
-      (λ a. refl) (λ a b. refl) (λ v h. (h .there, h)) c (chooses (vars - 1) 8)
+      (λ a. refl) (λ a. refl) (λ v h. (h .there, h)) c (chooses (vars - 1) 8)
 
   int-reads : field bs p ≡ pos 1 → Reads (after (number (negℤ (pos 2147483648)) (pos 2147483647) bs (p + 8)) (λ x q. got (nInt x) q))
   int-reads c =
       short (Passed (within (negℤ (pos 2147483648)) (pos 2147483647)) bs (p + 8)) nInt (number (negℤ (pos 2147483648)) (pos 2147483647) bs (p + 8)) 1
-      (λ a. refl) (λ a b. refl) (λ x h. (h .there, h)) c ints
+      (λ a. refl) (λ a. refl) (λ x h. (h .there, h)) c ints
 
   bool-reads : field bs p ≡ pos 2 → Reads (after (choice 1 bs (p + 8)) (λ b q. got (nBool b) q))
-  bool-reads c = short (Counted 0 1 bs (p + 8)) nBool (choice 1 bs (p + 8)) 2 (λ a. refl) (λ a b. refl) (λ b h. (h .there, h)) c (chooses 1 8)
+  bool-reads c = short (Counted 0 1 bs (p + 8)) nBool (choice 1 bs (p + 8)) 2 (λ a. refl) (λ a. refl) (λ b h. (h .there, h)) c (chooses 1 8)
 
   unary-reads : field bs p ≡ pos 3 → Reads (after (choice 1 bs (p + 8)) (λ o q. got (nUnary (unaryOf o)) q))
   unary-reads c =
       short (Counted 0 1 bs (p + 8)) (λ o. nUnary (unaryOf o)) (choice 1 bs (p + 8)) 3
-      (λ a. refl) (λ a b. refl) (λ o h. (h .there, chosen unaryOf 1 bs (p + 8) o h)) c (chooses 1 8)
+      (λ a. refl) (λ a. refl) (λ o h. (h .there, chosen unaryOf 1 bs (p + 8) o h)) c (chooses 1 8)
 
   binary-reads : field bs p ≡ pos 4 → Reads (after (choice 15 bs (p + 8)) (λ o q. got (nBinary (binaryOf o)) q))
   binary-reads c =
       short (Counted 0 15 bs (p + 8)) (λ o. nBinary (binaryOf o)) (choice 15 bs (p + 8)) 4
-      (λ a. refl) (λ a b. refl) (λ o h. (h .there, chosen binaryOf 15 bs (p + 8) o h)) c (chooses 15 8)
+      (λ a. refl) (λ a. refl) (λ o h. (h .there, chosen binaryOf 15 bs (p + 8) o h)) c (chooses 15 8)
 
   if-reads : field bs p ≡ pos 5 → p + 8 ≤ length bs → Reads (got nIf (p + 8))
-  if-reads c t =
-      let n = nodeLen-by-code bs p 5 8 c (λ a b. refl) in
-      record { what = record { code = c; long = omega (arith, n); there = omega (arith, n); fields = tt }; next = omega (arith, n) }
+  if-reads c t = record { what = record { code = c; long = omega arith; there = omega arith; fields = tt }; next = refl }
 
   case-reads : field bs p ≡ pos 6 → Reads (after (count 1 64 bs (p + 8)) (λ n q. got (nCase n) q))
-  case-reads c = short (Counted 1 64 bs (p + 8)) nCase (count 1 64 bs (p + 8)) 6 (λ a. refl) (λ a b. refl) (λ n h. (h .there, h)) c (counts 1 64 8)
+  case-reads c = short (Counted 1 64 bs (p + 8)) nCase (count 1 64 bs (p + 8)) 6 (λ a. refl) (λ a. refl) (λ n h. (h .there, h)) c (counts 1 64 8)
 
   restr-reads : field bs p ≡ pos 7 → Reads (restriction bs (p + 8))
   unfolding restriction
@@ -134,16 +136,16 @@ module _ (vars : ℕ) (bs : List ℕ) (p : ℕ) where
       then-reads (Counted 0 64 bs (p + 16)) (p + 24) (count 0 64 bs (p + 16)) _ (counts 0 64 16) (λ n _ k.
       then-reads (Items (constraint d) (16 + 8 * d) n bs (p + 24)) (p + 24 + n * (16 + 8 * d)) (repeat n (constraint d) bs (p + 24)) _
       (repeat-gives (constraint d) (16 + 8 * d) bs (constraint-takes d bs) n (p + 24)) (λ cs _ l.
-      let s = nodeLen-is bs p 7 d n c (counted-is h) (counted-is k) in
       let m = l .many in
+      let end : p + 24 + n * (16 + 8 * d) ≡ p + nodeSize (nRestr d cs) = rw m (omega arith) in
       record {
         what = record {
           code = c;
-          long = omega (arith, s);
-          there = omega (arith, s, l .there (omega (arith, k .there)));
+          long = omega arith;
+          there = omega (arith, end, l .there (omega (arith, k .there)));
           fields = record { dim = h; many = rw m k; item = rw m (l .item) };
         };
-        next = omega (arith, s);
+        next = end;
       })))
 
   dep-reads : field bs p ≡ pos 8 → Reads (dependence bs (p + 8))
@@ -153,15 +155,14 @@ module _ (vars : ℕ) (bs : List ℕ) (p : ℕ) where
       then-reads (Counted 0 4 bs (p + 16)) (p + 24) (count 0 4 bs (p + 16)) _ (counts 0 4 16) (λ n e₂ k.
       then-reads (Items (rowOf d) (8 + 8 * d) n bs (p + 24)) (p + 24 + n * (8 + 8 * d)) (repeat n (rowOf d) bs (p + 24)) _
       (repeat-gives (rowOf d) (8 + 8 * d) bs (row-takes d bs) n (p + 24)) (λ rs e₃ l.
-      let s = nodeLen-is bs p 8 d n c (counted-is h) (counted-is k) in
       let m = l .many in
-      let end : p + 24 + n * (8 + 8 * d) ≡ p + nodeLen bs p = omega (arith, s) in
+      let end : p + 24 + n * (8 + 8 * d) ≡ p + nodeSize (nDep (record { cols = d; rows = rs })) = rw m (omega arith) in
       record {
         what = record {
           code = c;
-          long = omega (arith, s);
-          there = omega (arith, s, l .there (omega (arith, k .there)));
-          fields = record { width = h; many = rw m k; item = rw m (l .item); read = rw (e₁, e₂, e₃, end) };
+          long = omega arith;
+          there = omega (arith, end, l .there (omega (arith, k .there)));
+          fields = record { width = h; many = rw m k; item = rw m (l .item); next = p + 24 + n * (8 + 8 * d); read = rw (e₁, e₂, e₃) refl };
         };
         next = end;
       })))
@@ -202,20 +203,33 @@ module _ (vars : ℕ) (bs : List ℕ) (p : ℕ) where
   unfolding nodes
   table-length = refl
 
-  pub node-gives : Gives (NodeAt vars bs p) (p + nodeLen bs p) (node vars bs p)
+  node-reads : Reads (node vars bs p)
   unfolding node
-  node-gives =
+  node-reads =
       then-reads (Counted 0 8 bs p) (p + 8) (choice 8 bs p) _ (choice-gives 8 bs p) (λ c e h.
       reads-at (nodes vars) 0 c all-read (omega (arith, table-length, h .high)) (h .field-is ∙ ap pos (omega arith)) (h .there))
 
 -- ---- taken out
 
 module _ (vars : ℕ) (bs : List ℕ) (p : ℕ) (nd : Node) (q : ℕ) (e : node vars bs p ≡ got nd q) where
-  pub node-at : NodeAt vars bs p nd
-  node-at = given (NodeAt vars bs p) (p + nodeLen bs p) (node-gives vars bs p) e .what
+  reads : Upto (NodeAt vars bs p) (p + nodeSize nd) nd q
+  reads = subst (Reads vars bs p) e (node-reads vars bs p)
 
-  pub node-next : q ≡ p + nodeLen bs p
-  node-next = given (NodeAt vars bs p) (p + nodeLen bs p) (node-gives vars bs p) e .next
+  pub node-at : NodeAt vars bs p nd
+  node-at = reads .what
+
+  -- its bytes lie between p and the next place
+  pub node-size : q ≡ p + nodeSize nd
+  node-size = reads .next
+
+  -- the node and the next place are those that are read there
+  pub node-read : nodeRead vars bs p ≡ nd
+  unfolding nodeRead
+  node-read = ap readNode e
+
+  pub node-end : nodeEnd vars bs p ≡ q
+  unfolding nodeEnd
+  node-end = ap readEnd e
 
 pub restr-constraint : {bs : List ℕ} {p d : ℕ} {cs : List Constraint} → Restricts bs p d cs → (i : ℕ) → i < length cs → (c : Constraint) →
     ConstraintAt d bs (p + 24 + i * (16 + 8 * d)) (getD cs i c)

@@ -13,10 +13,10 @@ use Rattle.alpha.specs.Sheet.{Expr.var, Expr.int, Expr.boo, Expr.un, Expr.bin, 
 use Rattle.alpha.specs.Box.{within}
 use Rattle.alpha.specs.Read.{got, unaryOf, binaryOf, node}
 use Rattle.alpha.specs.Written.{branchCount, nodeCount, nodeCounts}
-use Rattle.laws.specs.At.{nodeOf, codeNumber, lengthOf, nodeLen, At, AllAt}
-use Rattle.laws.proofs.Readers.{Passed, Counted, counted-is}
+use Rattle.laws.specs.At.{nodeOf, codeNumber, nodeRead, nodeEnd, At, AllAt}
+use Rattle.laws.proofs.Readers.{Passed, Counted}
 use Rattle.laws.proofs.Rows.{Chosen}
-use Rattle.laws.proofs.Nodes.{Restricts, Depends, NodeAt, node-at, node-next, nodeLen-is, nodeLen-by-code}
+use Rattle.laws.proofs.Nodes.{Restricts, Depends, nodeSize, NodeAt, node-at, node-size, node-read, node-end}
 
 -- ---- the first node
 
@@ -37,8 +37,16 @@ module _ (vars : ℕ) (bs : List ℕ) where
   pub at-node : (e : Expr) (p q : ℕ) → At e vars bs p q → NodeAt vars bs p (nodeOf e)
   at-node e p q h = let n = first-node e p q h in node-at vars bs p (nodeOf e) (n .0) (n .1)
 
-  pub at-got : (e : Expr) (p q : ℕ) → At e vars bs p q → node vars bs p ≡ got (nodeOf e) (p + nodeLen bs p)
-  at-got e p q h = let n = first-node e p q h in n .1 ∙ ap (got (nodeOf e)) (node-next vars bs p (nodeOf e) (n .0) (n .1))
+  pub at-got : (e : Expr) (p q : ℕ) → At e vars bs p q → node vars bs p ≡ got (nodeOf e) (nodeEnd vars bs p)
+  at-got e p q h = let n = first-node e p q h in n .1 ∙ ap (got (nodeOf e)) (sym (node-end vars bs p (nodeOf e) (n .0) (n .1)))
+
+  -- the node that is read there is the tree's first
+  pub at-read : (e : Expr) (p q : ℕ) → At e vars bs p q → nodeRead vars bs p ≡ nodeOf e
+  at-read e p q h = let n = first-node e p q h in node-read vars bs p (nodeOf e) (n .0) (n .1)
+
+  -- the place after it
+  pub at-size : (e : Expr) (p q : ℕ) → At e vars bs p q → nodeEnd vars bs p ≡ p + nodeSize (nodeOf e)
+  at-size e p q h = node-size vars bs p (nodeOf e) (nodeEnd vars bs p) (at-got e p q h)
 
   pub at-code : (e : Expr) (p q : ℕ) → At e vars bs p q → field bs p ≡ pos (codeNumber e)
   at-code e p q h = at-node e p q h .code
@@ -77,7 +85,7 @@ module _ (vars : ℕ) (bs : List ℕ) where
   node-spans : (nd : Node) (p r : ℕ) → node vars bs p ≡ got nd r → Spans bs 1 p r
   node-spans nd p r e =
       let n = node-at vars bs p nd r e in
-      let x = node-next vars bs p nd r e in
+      let x = node-size vars bs p nd r e in
       record { long = omega (arith, n .long, x); there = λ _. omega (arith, n .there, x) }
 
   two-spans : {m n p r q : ℕ} → Spans bs m p r → Spans bs n r q → Spans bs (m + n) p q
@@ -129,26 +137,26 @@ module _ (e : Expr) (vars : ℕ) (bs : List ℕ) (p q : ℕ) where
     pub number : ℕ
     pub is : e ≡ var number
     pub stands : Counted 0 (vars - 1) bs (p + 8) number
-    pub end : q ≡ p + 16
+    pub end : nodeEnd vars bs p ≡ q
 
   pub record IntAt : Type 0 where
     pub value : ℤ
     pub is : e ≡ int value
     pub stands : Passed (within (negℤ (pos 2147483648)) (pos 2147483647)) bs (p + 8) value
-    pub end : q ≡ p + 16
+    pub end : nodeEnd vars bs p ≡ q
 
   pub record BooAt : Type 0 where
     pub value : ℕ
     pub is : e ≡ boo value
     pub stands : Counted 0 1 bs (p + 8) value
-    pub end : q ≡ p + 16
+    pub end : nodeEnd vars bs p ≡ q
 
   pub record UnAt : Type 0 where
     pub op : Unary
     pub child : Expr
     pub is : e ≡ un op child
     pub chosen : Chosen unaryOf 1 bs (p + 8) op
-    pub below : At child vars bs (p + 16) q
+    pub below : At child vars bs (nodeEnd vars bs p) q
 
   pub record BinAt : Type 0 where
     pub op : Binary
@@ -157,7 +165,7 @@ module _ (e : Expr) (vars : ℕ) (bs : List ℕ) (p q : ℕ) where
     pub middle : ℕ
     pub is : e ≡ bin op left right
     pub chosen : Chosen binaryOf 15 bs (p + 8) op
-    pub before : At left vars bs (p + 16) middle
+    pub before : At left vars bs (nodeEnd vars bs p) middle
     pub after : At right vars bs middle q
 
   pub record IteAt : Type 0 where
@@ -167,7 +175,7 @@ module _ (e : Expr) (vars : ℕ) (bs : List ℕ) (p q : ℕ) where
     pub middle : ℕ
     pub last : ℕ
     pub is : e ≡ ite test left right
-    pub tested : At test vars bs (p + 8) middle
+    pub tested : At test vars bs (nodeEnd vars bs p) middle
     pub before : At left vars bs middle last
     pub after : At right vars bs last q
 
@@ -175,7 +183,7 @@ module _ (e : Expr) (vars : ℕ) (bs : List ℕ) (p q : ℕ) where
     pub branches : Exprs
     pub is : e ≡ kase branches
     pub many : Counted 1 64 bs (p + 8) (branchCount branches)
-    pub below : AllAt branches vars bs (p + 16) q
+    pub below : AllAt branches vars bs (nodeEnd vars bs p) q
 
   pub record RestrAt : Type 0 where
     pub dim : ℕ
@@ -183,16 +191,14 @@ module _ (e : Expr) (vars : ℕ) (bs : List ℕ) (p q : ℕ) where
     pub child : Expr
     pub is : e ≡ restr dim given child
     pub fields : Restricts bs p dim given
-    pub len : nodeLen bs p ≡ 24 + length given * (16 + 8 * dim)
-    pub below : At child vars bs (p + nodeLen bs p) q
+    pub below : At child vars bs (nodeEnd vars bs p) q
 
   pub record DepAt : Type 0 where
     pub by : Map
     pub child : Expr
     pub is : e ≡ dep by child
     pub fields : Depends bs p by
-    pub len : nodeLen bs p ≡ 24 + length (by .rows) * (8 + 8 * by .cols)
-    pub below : At child vars bs (p + nodeLen bs p) q
+    pub below : At child vars bs (nodeEnd vars bs p) q
 
 -- the shape that goes with a code
 abbrev pub ShapeAt : Expr → ℕ → List ℕ → ℕ → ℕ → ℕ → Type 0
@@ -203,68 +209,44 @@ ShapeAt e vars bs p q code =
     code ⊥
 
 module _ (vars : ℕ) (bs : List ℕ) where
-  -- the place after a node of n bytes
-  place : (nd : Node) (p r n : ℕ) → node vars bs p ≡ got nd r → nodeLen bs p ≡ n → r ≡ p + n
-  place nd p r n e l = omega (arith, node-next vars bs p nd r e)
-
-  len16 : (p code : ℕ) → field bs p ≡ pos code → ((a b : ℕ) → lengthOf code a b ≡ 16) → nodeLen bs p ≡ 16
-  len16 p code c l = nodeLen-by-code bs p code 16 c l
-
   pub at-shape : (e : Expr) (p q : ℕ) → At e vars bs p q → ShapeAt e vars bs p q (codeNumber e)
   unfolding At
   at-shape (var v) p q h =
       let n = node-at vars bs p (nVar v) q h in
-      record { number = v; is = refl; stands = n .fields; end = place (nVar v) p q 16 h (len16 p 0 (n .code) (λ a b. refl)) }
+      record { number = v; is = refl; stands = n .fields; end = node-end vars bs p (nVar v) q h }
   at-shape (int c) p q h =
       let n = node-at vars bs p (nInt c) q h in
-      record { value = c; is = refl; stands = n .fields; end = place (nInt c) p q 16 h (len16 p 1 (n .code) (λ a b. refl)) }
+      record { value = c; is = refl; stands = n .fields; end = node-end vars bs p (nInt c) q h }
   at-shape (boo b) p q h =
       let n = node-at vars bs p (nBool b) q h in
-      record { value = b; is = refl; stands = n .fields; end = place (nBool b) p q 16 h (len16 p 2 (n .code) (λ a b. refl)) }
+      record { value = b; is = refl; stands = n .fields; end = node-end vars bs p (nBool b) q h }
   at-shape (un o a) p q h =
       let n = node-at vars bs p (nUnary o) (h .next) (h .here) in
-      let r = place (nUnary o) p (h .next) 16 (h .here) (len16 p 3 (n .code) (λ a b. refl)) in
-      record { op = o; child = a; is = refl; chosen = n .fields; below = rw r at (h .below) }
+      let r = node-end vars bs p (nUnary o) (h .next) (h .here) in
+      record { op = o; child = a; is = refl; chosen = n .fields; below = rw r (h .below) }
   at-shape (bin o a b) p q h =
       let n = node-at vars bs p (nBinary o) (h .next) (h .here) in
-      let r = place (nBinary o) p (h .next) 16 (h .here) (len16 p 4 (n .code) (λ a b. refl)) in
+      let r = node-end vars bs p (nBinary o) (h .next) (h .here) in
       let g = h .below in
-      record { op = o; left = a; right = b; middle = g .middle; is = refl; chosen = n .fields; before = rw r at (g .before); after = g .after }
+      record { op = o; left = a; right = b; middle = g .middle; is = refl; chosen = n .fields; before = rw r (g .before); after = g .after }
   at-shape (ite a b c) p q h =
       let n = node-at vars bs p nIf (h .next) (h .here) in
-      let r = place nIf p (h .next) 8 (h .here) (nodeLen-by-code bs p 5 8 (n .code) (λ a b. refl)) in
+      let r = node-end vars bs p nIf (h .next) (h .here) in
       let g = h .below in
       let f = g .after in
-      record { test = a; left = b; right = c; middle = g .middle; last = f .middle; is = refl; tested = rw r at (g .before); before = f .before; after = f .after }
+      record { test = a; left = b; right = c; middle = g .middle; last = f .middle; is = refl; tested = rw r (g .before); before = f .before; after = f .after }
   at-shape (kase es) p q h =
       let n = node-at vars bs p (nCase (branchCount es)) (h .next) (h .here) in
-      let r = place (nCase (branchCount es)) p (h .next) 16 (h .here) (len16 p 6 (n .code) (λ a b. refl)) in
-      record { branches = es; is = refl; many = n .fields; below = rw r at (h .below) }
+      let r = node-end vars bs p (nCase (branchCount es)) (h .next) (h .here) in
+      record { branches = es; is = refl; many = n .fields; below = rw r (h .below) }
   at-shape (restr d cs a) p q h =
       let n = node-at vars bs p (nRestr d cs) (h .next) (h .here) in
-      let f = n .fields in
-      let r = node-next vars bs p (nRestr d cs) (h .next) (h .here) in
-      record {
-        dim = d;
-        given = cs;
-        child = a;
-        is = refl;
-        fields = f;
-        len = nodeLen-is bs p 7 d (length cs) (n .code) (counted-is (f .dim)) (counted-is (f .many));
-        below = rw r at (h .below);
-      }
+      let r = node-end vars bs p (nRestr d cs) (h .next) (h .here) in
+      record { dim = d; given = cs; child = a; is = refl; fields = n .fields; below = rw r (h .below) }
   at-shape (dep f a) p q h =
       let n = node-at vars bs p (nDep f) (h .next) (h .here) in
-      let g = n .fields in
-      let r = node-next vars bs p (nDep f) (h .next) (h .here) in
-      record {
-        by = f;
-        child = a;
-        is = refl;
-        fields = g;
-        len = nodeLen-is bs p 8 (f .cols) (length (f .rows)) (n .code) (counted-is (g .width)) (counted-is (g .many));
-        below = rw r at (h .below);
-      }
+      let r = node-end vars bs p (nDep f) (h .next) (h .here) in
+      record { by = f; child = a; is = refl; fields = n .fields; below = rw r (h .below) }
 
   module _ (e : Expr) (p q : ℕ) (h : At e vars bs p q) where
     -- the code that stands there is the tree's

@@ -1,15 +1,12 @@
--- A tree in the bytes: where it stands, and how long each of its nodes is. This is what a walk by places knows of the tree that it
--- walks, with no fuel and no count of nodes. Assumes nothing.
+-- A node and a tree in the bytes: what is read at a place, the place after it, and where a tree stands. This is what a walk by places
+-- knows of the tree that it walks, with no fuel and no count of nodes. Assumes nothing.
 use mathlib.Core.Path.{_≡_}
-use Prim.Native.Nat.{ℕ, _+_, _*_}
-use mathlib.Core.List.{List, [], _∷_}
-use lib.ListN.{getD}
-use lib.IntN.{natAbs}
+use Prim.Native.Nat.{ℕ}
+use mathlib.Core.List.{List}
 use Rattle.alpha.specs.Sheet.{Node, Expr, Exprs}
 use Rattle.alpha.specs.Sheet.{Node.nVar, Node.nInt, Node.nBool, Node.nUnary, Node.nBinary, Node.nIf, Node.nCase, Node.nRestr, Node.nDep}
 use Rattle.alpha.specs.Sheet.{Expr.var, Expr.int, Expr.boo, Expr.un, Expr.bin, Expr.ite, Expr.kase, Expr.restr, Expr.dep, Exprs.none, Exprs.more}
-use Rattle.alpha.specs.Field.{field}
-use Rattle.alpha.specs.Read.{got, node}
+use Rattle.alpha.specs.Read.{Got, got, bad, node}
 use Rattle.alpha.specs.Written.{branchCount}
 
 -- ---- a tree's first node
@@ -39,14 +36,22 @@ codeOf (nDep f) = 8
 abbrev pub codeNumber : Expr → ℕ
 codeNumber e = codeOf (nodeOf e)
 
--- how many bytes a node has, by its code and the numbers in its second and third field: a restriction of dimension a has b constraints,
--- each a relation, a coefficients and a constant; a dependence of a columns has b rows, each a coefficients and a constant
-abbrev pub lengthOf : ℕ → ℕ → ℕ → ℕ
-lengthOf code a b = getD (16 ∷ 16 ∷ 16 ∷ 16 ∷ 16 ∷ 8 ∷ 16 ∷ (24 + b * (16 + 8 * a)) ∷ (24 + b * (8 + 8 * a)) ∷ []) code 0
+-- ---- a node at a place
 
--- the bytes of the node at p
-unfoldable pub nodeLen : List ℕ → ℕ → ℕ
-nodeLen bs p = lengthOf (natAbs (field bs p)) (natAbs (field bs (p + 8))) (natAbs (field bs (p + 16)))
+abbrev pub readNode : Got Node → Node
+readNode (got nd q) = nd
+readNode (bad n q) = nIf
+
+abbrev pub readEnd : Got Node → ℕ
+readEnd (got nd q) = q
+readEnd (bad n q) = q
+
+-- the node that is read at p, and the place after it
+unfoldable pub nodeRead : ℕ → List ℕ → ℕ → Node
+nodeRead vars bs p = readNode (node vars bs p)
+
+unfoldable pub nodeEnd : ℕ → List ℕ → ℕ → ℕ
+nodeEnd vars bs p = readEnd (node vars bs p)
 
 -- ---- a tree at a place
 

@@ -1,16 +1,14 @@
 -- A tree as its first node and its children: what the node itself asks and gives, so that a walk does each node alike. The laws that
--- `fits`, `typeOf` and `reach` are made of these are in proofs/Children.antt. Assumes nothing.
+-- `fits` and `reach` are made of these are in proofs/Children.antt. Assumes nothing.
 use Prim.Native.Nat.{ℕ}
 use mathlib.Core.Bool.{Bool, true}
 use mathlib.Core.List.{List}
-use mathlib.Core.Option.{Option}
 use lib.ListN.{length}
 use lib.Dec.{eqb, leb}
-use Rattle.alpha.specs.Sheet.{Sort, Node, Head, Expr, Exprs}
+use Rattle.alpha.specs.Sheet.{Node, Head, Expr, Exprs}
 use Rattle.alpha.specs.Sheet.{Node.nVar, Node.nInt, Node.nBool, Node.nUnary, Node.nBinary, Node.nIf, Node.nCase, Node.nRestr, Node.nDep}
 use Rattle.alpha.specs.Sheet.{Expr.var, Expr.int, Expr.boo, Expr.un, Expr.bin, Expr.ite, Expr.kase, Expr.restr, Expr.dep, Exprs.none, Exprs.more}
 use Rattle.alpha.specs.Read.{dimension}
-use Rattle.alpha.specs.Typing.{unarySort, binarySort}
 use Rattle.alpha.specs.Reach.{limit, mapReach, allReach}
 
 abbrev pub childrenOf : Expr → Exprs
@@ -87,17 +85,3 @@ reachBelow nIf r = r
 reachBelow (nCase k) r = r
 reachBelow (nRestr d cs) r = r
 reachBelow (nDep f) r = mapReach r (f .rows)
-
--- ---- types
-
--- what a node gives for children of one type, if they have one: an operator its own rule, any other that type
-abbrev pub sortBy : Node → Option Sort → Option Sort
-sortBy (nVar v) s = s
-sortBy (nInt c) s = s
-sortBy (nBool b) s = s
-sortBy (nUnary o) s = unarySort o s
-sortBy (nBinary o) s = binarySort o s
-sortBy nIf s = s
-sortBy (nCase k) s = s
-sortBy (nRestr d cs) s = s
-sortBy (nDep f) s = s

@@ -1,111 +1,87 @@
--- What a node itself asks of the dimension where it stands, by its code; and the dimension that it wants of its children. Assumes nothing.
-use mathlib.Core.Path.{_≡_, refl, sym, ap, _∙_}
-use Prim.Native.Nat.{ℕ, _+_, _≤_, _<_}
+-- What the walk that judges SHAPE says of one node: whether it may stand where so many dimensions are wanted, and how many are wanted of its
+-- children, by its class. Assumes nothing.
+use mathlib.Core.Path.{_≡_, refl, sym, ap}
+use Prim.Native.Nat.{ℕ, _+_, _-_, _≤_, _<_}
 use native.Mathlib.Omega.{arith}
 use mathlib.Core.Bool.{true}
 use mathlib.Core.List.{List}
+use lib.ListN.{length}
 use lib.IntN.{natAbs}
 use lib.Dec.{eqb}
 use Rattle.alpha.specs.Field.{field}
 use Rattle.alpha.specs.Sheet.{Node, Head}
-use Rattle.alpha.specs.Sheet.{Node.nVar, Node.nInt, Node.nBool, Node.nUnary, Node.nBinary, Node.nIf, Node.nCase, Node.nRestr, Node.nDep}
-use Rattle.alpha.specs.Read.{got, node, dimension}
-use Rattle.laws.specs.At.{codeOf}
+use Rattle.alpha.specs.Read.{dimension}
+use Rattle.laws.specs.At.{codeOf, nodeRead}
 use Rattle.laws.specs.Children.{fitsHere, wanted}
+use Rattle.laws.specs.Sheets.{varsOf}
 use Rattle.laws.proofs.Readers.{counted-is}
-use Rattle.laws.proofs.Nodes.{NodeAt, node-at}
-use Rattle.tree.specs.Standing.{Noded}
-use Rattle.tree.proofs.Noding.{node-of, code-is}
+use Rattle.laws.proofs.Nodes.{NodeAt}
+use Rattle.tree.specs.declared.Class.the-variants.{Leaf, Operator, Case, Restriction, Dependence}
+use Rattle.tree.specs.Classes.{classAt}
+use Rattle.tree.specs.Standing.{Noded, NodedAs}
+use Rattle.tree.proofs.Classes.{leaf-node, operator-node, case-node, restriction-node, dependence-node, node-here}
+use Rattle.tree.proofs.Noding.{node-of}
 
-module _ (vars : ℕ) (bs : List ℕ) (p : ℕ) where
-  -- a variable's number is one of the variables
-  var-node : (nd : Node) → NodeAt vars bs p nd → codeOf nd ≡ 0 → 0 < vars → natAbs (field bs (p + 8)) < vars
-  var-node nd h e some = let v = node-of nd 0 e in let f = (rw (v .1) at h) .fields in omega (arith, counted-is f, f .high)
+module _ (bs : List ℕ) (p : ℕ) where
+  abbrev nd : Node
+  nd = nodeRead (varsOf bs) bs p
 
-  pub variable-known : Noded vars bs p → natAbs (field bs p) < 1 → 0 < vars → natAbs (field bs (p + 8)) < vars
-  variable-known h l some =
-      var-node (h .what) (node-at vars bs p (h .what) (h .next) (h .read)) (omega (arith, code-is vars bs p (h .what) (h .next) (h .read))) some
+  -- ---- a variable
 
-  rows-few : (nd : Node) → NodeAt vars bs p nd → codeOf nd ≡ 8 → natAbs (field bs (p + 16)) ≤ 4
-  rows-few nd h e = let f = (rw (node-of nd 8 e .1) at h) .fields .many in omega (arith, counted-is f, f .high)
+  number-known : (nd : Node) → NodeAt (varsOf bs) bs p nd → codeOf nd ≡ 0 → 0 < varsOf bs → natAbs (field bs (p + 8)) < varsOf bs
+  number-known nd h e some = let v = node-of nd 0 e in let f = (rw (v .1) at h) .fields in omega (arith, counted-is f, f .high)
+
+  pub variable-known : Noded (varsOf bs) bs p → codeOf nd ≡ 0 → 0 < varsOf bs → natAbs (field bs (p + 8)) < varsOf bs
+  variable-known h e some = number-known nd (node-here bs p h) e some
 
   module _ (hs : List Head) (n : ℕ) where
-    here-variable : (nd : Node) → NodeAt vars bs p nd → codeOf nd ≡ 0 → eqb (dimension hs (natAbs (field bs (p + 8)))) n ≡ fitsHere nd hs n
-    here-variable nd h e = let v = node-of nd 0 e in rw (v .1) (ap (λ x. eqb (dimension hs x) n) (sym (counted-is ((rw (v .1) at h) .fields))))
+    dims-of : (nd : Node) → NodeAt (varsOf bs) bs p nd → codeOf nd ≡ 0 → eqb (dimension hs (natAbs (field bs (p + 8)))) n ≡ fitsHere nd hs n
+    dims-of nd h e = let v = node-of nd 0 e in rw (v .1) (ap (λ x. eqb (dimension hs x) n) (sym (counted-is ((rw (v .1) at h) .fields))))
 
-    here-constant : (nd : Node) → 1 ≤ codeOf nd → codeOf nd < 3 → eqb 0 n ≡ fitsHere nd hs n
-    here-constant (nVar v) k l = absurd (omega arith)
-    here-constant (nInt c) k l = refl
-    here-constant (nBool b) k l = refl
-    here-constant (nUnary o) k l = absurd (omega arith)
-    here-constant (nBinary o) k l = absurd (omega arith)
-    here-constant nIf k l = absurd (omega arith)
-    here-constant (nCase j) k l = absurd (omega arith)
-    here-constant (nRestr d cs) k l = absurd (omega arith)
-    here-constant (nDep f) k l = absurd (omega arith)
+    pub variable-fits : Noded (varsOf bs) bs p → codeOf nd ≡ 0 → eqb (dimension hs (natAbs (field bs (p + 8)))) n ≡ fitsHere nd hs n
+    variable-fits h e = dims-of nd (node-here bs p h) e
 
-    here-any : (nd : Node) → 3 ≤ codeOf nd → codeOf nd < 7 → true ≡ fitsHere nd hs n
-    here-any (nVar v) k l = absurd (omega arith)
-    here-any (nInt c) k l = absurd (omega arith)
-    here-any (nBool b) k l = absurd (omega arith)
-    here-any (nUnary o) k l = refl
-    here-any (nBinary o) k l = refl
-    here-any nIf k l = refl
-    here-any (nCase j) k l = refl
-    here-any (nRestr d cs) k l = absurd (omega arith)
-    here-any (nDep f) k l = absurd (omega arith)
+    -- ---- every other node
 
-    here-wide : (nd : Node) → NodeAt vars bs p nd → 7 ≤ codeOf nd → eqb (natAbs (field bs (p + 8))) n ≡ fitsHere nd hs n
-    here-wide (nVar v) h l = absurd (omega arith)
-    here-wide (nInt c) h l = absurd (omega arith)
-    here-wide (nBool b) h l = absurd (omega arith)
-    here-wide (nUnary o) h l = absurd (omega arith)
-    here-wide (nBinary o) h l = absurd (omega arith)
-    here-wide nIf h l = absurd (omega arith)
-    here-wide (nCase k) h l = absurd (omega arith)
-    here-wide (nRestr d cs) h l = ap (λ x. eqb x n) (sym (counted-is (h .fields .dim)))
-    here-wide (nDep f) h l = ap (λ x. eqb x n) (sym (counted-is (h .fields .width)))
+    pub integer-fits : codeOf nd ≡ 1 → eqb 0 n ≡ fitsHere nd hs n
+    integer-fits e = let c = node-of nd 1 e in rw (c .1)
 
-    wanted-rows : (nd : Node) → NodeAt vars bs p nd → codeOf nd ≡ 8 → natAbs (field bs (p + 16)) ≡ wanted nd n
-    wanted-rows nd h e = let f = node-of nd 8 e in rw (f .1) (sym (counted-is ((rw (f .1) at h) .fields .many)))
+    pub boolean-fits : codeOf nd ≡ 2 → eqb 0 n ≡ fitsHere nd hs n
+    boolean-fits e = let b = node-of nd 2 e in rw (b .1)
 
-    wanted-same : (nd : Node) → (codeOf nd ≡ 8 → ⊥) → n ≡ wanted nd n
-    wanted-same (nVar v) l = refl
-    wanted-same (nInt c) l = refl
-    wanted-same (nBool b) l = refl
-    wanted-same (nUnary o) l = refl
-    wanted-same (nBinary o) l = refl
-    wanted-same nIf l = refl
-    wanted-same (nCase k) l = refl
-    wanted-same (nRestr d cs) l = refl
-    wanted-same (nDep f) l = absurd (l refl)
+    pub operator-fits : classAt bs p ≡ Operator → true ≡ fitsHere nd hs n
+    operator-fits c = operator-node (λ nd. true ≡ fitsHere nd hs n) (λ o. refl) (λ o. refl) refl nd c
 
-    -- the same by the number in the code field
-    module _ (nd : Node) (q : ℕ) (read : node vars bs p ≡ got nd q) where
-      here : NodeAt vars bs p nd
-      here = node-at vars bs p nd q read
+    pub case-fits : classAt bs p ≡ Case → true ≡ fitsHere nd hs n
+    case-fits c = case-node (λ nd. true ≡ fitsHere nd hs n) (λ k. refl) nd c
 
-      coded : natAbs (field bs p) ≡ codeOf nd
-      coded = code-is vars bs p nd q read
+    abbrev AsField : Node → Type 0
+    AsField nd = NodeAt (varsOf bs) bs p nd → eqb (natAbs (field bs (p + 8))) n ≡ fitsHere nd hs n
 
-      pub fits-variable : natAbs (field bs p) < 1 → eqb (dimension hs (natAbs (field bs (p + 8)))) n ≡ fitsHere nd hs n
-      fits-variable l = here-variable nd here (omega (arith, coded))
+    pub restriction-fits : NodedAs bs p Restriction → eqb (natAbs (field bs (p + 8))) n ≡ fitsHere nd hs n
+    restriction-fits h =
+        restriction-node AsField (λ d cs at. ap (λ x. eqb x n) (sym (counted-is (at .fields .dim)))) nd (h .class-is) (node-here bs p (h .noded))
 
-      pub fits-constant : 1 ≤ natAbs (field bs p) → natAbs (field bs p) < 3 → eqb 0 n ≡ fitsHere nd hs n
-      fits-constant k l = here-constant nd (omega (arith, coded)) (omega (arith, coded))
+    pub dependence-fits : NodedAs bs p Dependence → eqb (natAbs (field bs (p + 8))) n ≡ fitsHere nd hs n
+    dependence-fits h =
+        dependence-node AsField (λ f at. ap (λ x. eqb x n) (sym (counted-is (at .fields .width)))) nd (h .class-is) (node-here bs p (h .noded))
 
-      pub fits-any : 3 ≤ natAbs (field bs p) → natAbs (field bs p) < 7 → true ≡ fitsHere nd hs n
-      fits-any k l = here-any nd (omega (arith, coded)) (omega (arith, coded))
+  -- ---- what is wanted of the children
 
-      pub fits-wide : 7 ≤ natAbs (field bs p) → eqb (natAbs (field bs (p + 8))) n ≡ fitsHere nd hs n
-      fits-wide l = here-wide nd here (omega (arith, coded))
+  module _ (n : ℕ) where
+    pub leaf-wants : classAt bs p ≡ Leaf → n ≡ wanted nd n
+    leaf-wants c = leaf-node (λ nd. n ≡ wanted nd n) (λ v. refl) (λ c. refl) (λ b. refl) nd c
 
-      pub wants-rows : natAbs (field bs p) ≡ 8 → natAbs (field bs (p + 16)) ≡ wanted nd n
-      wants-rows e = wanted-rows nd here (sym coded ∙ e)
+    pub operator-wants : classAt bs p ≡ Operator → n ≡ wanted nd n
+    operator-wants c = operator-node (λ nd. n ≡ wanted nd n) (λ o. refl) (λ o. refl) refl nd c
 
-      pub wants-same : (natAbs (field bs p) ≡ 8 → ⊥) → n ≡ wanted nd n
-      wants-same e = wanted-same nd (λ x. e (coded ∙ x))
+    pub case-wants : classAt bs p ≡ Case → n ≡ wanted nd n
+    case-wants c = case-node (λ nd. n ≡ wanted nd n) (λ k. refl) nd c
 
-  pub wants-few : Noded vars bs p → natAbs (field bs p) ≡ 8 → natAbs (field bs (p + 16)) ≤ 4
-  wants-few h e =
-      rows-few (h .what) (node-at vars bs p (h .what) (h .next) (h .read)) (sym (code-is vars bs p (h .what) (h .next) (h .read)) ∙ e)
+    pub restriction-wants : classAt bs p ≡ Restriction → n ≡ wanted nd n
+    restriction-wants c = restriction-node (λ nd. n ≡ wanted nd n) (λ d cs. refl) nd c
+
+    pub dependence-wants : NodedAs bs p Dependence → natAbs (field bs (p + 16)) ≡ wanted nd n
+    dependence-wants h =
+        dependence-node (λ nd. NodeAt (varsOf bs) bs p nd → natAbs (field bs (p + 16)) ≡ wanted nd n) (λ f at. sym (counted-is (at .fields .many)))
+        nd (h .class-is) (node-here bs p (h .noded))

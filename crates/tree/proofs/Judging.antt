@@ -10,24 +10,24 @@ use Rattle.alpha.specs.Sheet.{Node, Expr, Exprs}
 use Rattle.alpha.specs.Sheet.{Exprs.more}
 use Rattle.alpha.specs.Read.{got, node}
 use Rattle.alpha.specs.Shape.{Parsed, tree, ill, then, branches, exprAt, fits, allFit}
-use Rattle.laws.specs.At.{nodeLen}
+use Rattle.laws.specs.At.{nodeRead, nodeEnd}
 use Rattle.laws.specs.Heads.{InRow}
 use Rattle.laws.specs.Children.{arity, fitsHere, wanted}
 use Rattle.laws.specs.Sheets.{headsOf, varsOf}
-use Rattle.laws.proofs.Nodes.{node-at, node-next}
-use Rattle.laws.proofs.Children.{arity-few, build, branches-many, exprAt-branches, fits-build}
+use Rattle.laws.proofs.Nodes.{node-end}
+use Rattle.laws.proofs.Children.{build, branches-many, exprAt-branches, fits-build}
 use Rattle.tree.specs.declared.Shaped.{Shaped}
 use Rattle.tree.specs.declared.Shaped.the-variants.{Fits, Bad}
 use Rattle.tree.specs.Standing.{Noded}
 use Rattle.tree.specs.Judged.{Flat, judged, treeJudged, treesJudged, Judges}
+use Rattle.tree.proofs.Classes.{read-here}
 
 -- ---- the first of the nodes that are left
 
 -- the first node is read, and the others stand from its next place on
 pub record FirstOf (bs : List ℕ) (p left : ℕ) : Type 0 where
   pub noded : Noded (varsOf bs) bs p
-  pub there : p + nodeLen bs p ≤ length bs
-  pub rest : Flat bs (p + nodeLen bs p) (left - 1)
+  pub rest : Flat bs (nodeEnd (varsOf bs) bs p) (left - 1)
 
 pub flat-first : (bs : List ℕ) (p left : ℕ) → 1 ≤ left → Flat bs p left → FirstOf bs p left
 unfolding InRow
@@ -36,16 +36,11 @@ flat-first bs p left some h = go (h .nodes) (h .many) (h .stand)
     go : (ns : List Node) → length ns ≡ left → InRow ns (node (varsOf bs)) bs p (length bs) → FirstOf bs p left
     go [] m r = absurd (omega arith)
     go (nd ∷ ns) m r =
-        let n = node-next (varsOf bs) bs p nd (r .next) (r .here) in
+        let n = node-end (varsOf bs) bs p nd (r .next) (r .here) in
         record {
           noded = record { what = nd; next = r .next; read = r .here };
-          there = node-at (varsOf bs) bs p nd (r .next) (r .here) .there;
-          rest = record { nodes = ns; many = omega arith; stand = rw n at (r .after) };
+          rest = record { nodes = ns; many = omega arith; stand = rw n (r .after) };
         }
-
-pub noded-few : (vars : ℕ) (bs : List ℕ) (p n : ℕ) (h : Noded vars bs p) → ((nd : Node) (q : ℕ) → node vars bs p ≡ got nd q → n ≡ arity nd) → n ≤ 64
-noded-few vars bs p n h many =
-    omega (arith, many (h .what) (h .next) (h .read), arity-few vars bs p (h .what) (node-at vars bs p (h .what) (h .next) (h .read)))
 
 -- ---- one tree
 
@@ -68,7 +63,16 @@ module _ (bs : List ℕ) (p left deep want : ℕ) where
   unfolding exprAt
   tree-no-depth l = let e : deep ≡ 0 = omega arith in rw e refl
 
-  module _ (nodes : 1 ≤ left) (depth : 1 ≤ deep) (nd : Node) (q : ℕ) (read : node (varsOf bs) bs p ≡ got nd q) where
+  module _ (nodes : 1 ≤ left) (depth : 1 ≤ deep) (noded : Noded (varsOf bs) bs p) where
+    abbrev nd : Node
+    nd = nodeRead (varsOf bs) bs p
+
+    abbrev q : ℕ
+    q = nodeEnd (varsOf bs) bs p
+
+    read : node (varsOf bs) bs p ≡ got nd q
+    read = read-here bs p noded
+
     parts : exprAt deep (varsOf bs) bs p left ≡ then (branches (λ o n. exprAt (deep - 1) (varsOf bs) bs o n) (arity nd) q (left - 1))
         (λ es o n. tree (build nd es) o n)
     parts = go deep left depth nodes

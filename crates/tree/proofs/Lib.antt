@@ -1,4 +1,5 @@
 -- Laws that the proofs of the walkers cite.
+pub mod Classes
 pub mod Noding
 pub mod Standings
 pub mod Ending

@@ -1,21 +1,16 @@
--- What is known at a node that was read, from the number in its code field: that its fields are there, how long it is, how many children
--- it has. Assumes nothing.
-use mathlib.Core.Path.{_≡_, refl, sym, ap, _∙_, subst}
-use Prim.Native.Nat.{ℕ, _+_, _*_, _≤_, _<_}
+-- A node's class, and which leaf or operator it is, from the number in its code field. Assumes nothing.
+use mathlib.Core.Path.{_≡_, refl, subst}
+use Prim.Native.Nat.{ℕ, _≤_}
 use native.Mathlib.Omega.{arith}
 use mathlib.Core.List.{List, [], _∷_}
-use lib.ListN.{length, getD}
-use lib.IntN.{ℤ, natAbs}
-use Rattle.alpha.specs.Field.{field}
+use lib.ListN.{getD}
+use lib.IntN.{ℤ}
 use Rattle.alpha.specs.Sheet.{Unary, Binary, Constraint, Map, Node}
 use Rattle.alpha.specs.Sheet.{Node.nVar, Node.nInt, Node.nBool, Node.nUnary, Node.nBinary, Node.nIf, Node.nCase, Node.nRestr, Node.nDep}
-use Rattle.alpha.specs.Read.{got, node}
-use Rattle.laws.specs.At.{codeOf, lengthOf, nodeLen}
-use Rattle.laws.specs.Children.{arity}
-use Rattle.laws.proofs.Readers.{counted-is}
-use Rattle.laws.proofs.Nodes.{NodeAt, node-at}
-use Rattle.laws.proofs.Children.{arityOf, arity-is}
-use Rattle.tree.specs.Standing.{Noded, Wide}
+use Rattle.laws.specs.At.{codeOf}
+use Rattle.tree.specs.declared.Class.the-variants.{Leaf, Operator, Case, Restriction, Dependence}
+use Rattle.tree.specs.Classes.{classOf}
+use Rattle.tree.proofs.Classes.{leaf-node, operator-node}
 
 -- ---- the node that goes with a code
 
@@ -39,152 +34,58 @@ coded-self (nDep f) = (f, refl)
 pub node-of : (nd : Node) (code : ℕ) → codeOf nd ≡ code → Coded nd code
 node-of nd code e = subst (Coded nd) e (coded-self nd)
 
--- ---- tables at a node's code
+-- ---- the class of a code
 
-module _ (a b : ℕ) where
-  length-else : (nd : Node) → (codeOf nd ≡ 5 → ⊥) → (codeOf nd ≡ 7 → ⊥) → (codeOf nd ≡ 8 → ⊥) → lengthOf (codeOf nd) a b ≡ 16
-  length-else (nVar v) f s e = refl
-  length-else (nInt c) f s e = refl
-  length-else (nBool t) f s e = refl
-  length-else (nUnary o) f s e = refl
-  length-else (nBinary o) f s e = refl
-  length-else nIf f s e = absurd (f refl)
-  length-else (nCase n) f s e = refl
-  length-else (nRestr d cs) f s e = absurd (s refl)
-  length-else (nDep m) f s e = absurd (e refl)
+pub leaf-coded : (nd : Node) → codeOf nd ≤ 2 → Leaf ≡ classOf nd
+leaf-coded (nVar v) h = refl
+leaf-coded (nInt c) h = refl
+leaf-coded (nBool b) h = refl
+leaf-coded (nUnary o) h = absurd (omega arith)
+leaf-coded (nBinary o) h = absurd (omega arith)
+leaf-coded nIf h = absurd (omega arith)
+leaf-coded (nCase n) h = absurd (omega arith)
+leaf-coded (nRestr d cs) h = absurd (omega arith)
+leaf-coded (nDep f) h = absurd (omega arith)
 
-  length-long : (nd : Node) → (codeOf nd ≡ 5 → ⊥) → 16 ≤ lengthOf (codeOf nd) a b
-  length-long (nVar v) f = omega arith
-  length-long (nInt c) f = omega arith
-  length-long (nBool t) f = omega arith
-  length-long (nUnary o) f = omega arith
-  length-long (nBinary o) f = omega arith
-  length-long nIf f = absurd (f refl)
-  length-long (nCase n) f = omega arith
-  length-long (nRestr d cs) f = omega arith
-  length-long (nDep m) f = omega arith
+pub operator-coded : (nd : Node) → 3 ≤ codeOf nd → codeOf nd ≤ 5 → Operator ≡ classOf nd
+operator-coded (nVar v) l h = absurd (omega arith)
+operator-coded (nInt c) l h = absurd (omega arith)
+operator-coded (nBool b) l h = absurd (omega arith)
+operator-coded (nUnary o) l h = refl
+operator-coded (nBinary o) l h = refl
+operator-coded nIf l h = refl
+operator-coded (nCase n) l h = absurd (omega arith)
+operator-coded (nRestr d cs) l h = absurd (omega arith)
+operator-coded (nDep f) l h = absurd (omega arith)
 
-arity-else : (nd : Node) → 2 < codeOf nd → (codeOf nd ≡ 4 → ⊥) → (codeOf nd ≡ 5 → ⊥) → (codeOf nd ≡ 6 → ⊥) → 1 ≡ arity nd
-arity-else (nVar v) t f g s = absurd (omega arith)
-arity-else (nInt c) t f g s = absurd (omega arith)
-arity-else (nBool b) t f g s = absurd (omega arith)
-arity-else (nUnary o) t f g s = refl
-arity-else (nBinary o) t f g s = absurd (f refl)
-arity-else nIf t f g s = absurd (g refl)
-arity-else (nCase n) t f g s = absurd (s refl)
-arity-else (nRestr d cs) t f g s = refl
-arity-else (nDep m) t f g s = refl
+pub case-coded : (nd : Node) → codeOf nd ≡ 6 → Case ≡ classOf nd
+case-coded nd e = let w = node-of nd 6 e in rw (w .1)
 
-arity-leaf : (nd : Node) → codeOf nd ≤ 2 → 0 ≡ arity nd
-arity-leaf (nVar v) t = refl
-arity-leaf (nInt c) t = refl
-arity-leaf (nBool b) t = refl
-arity-leaf (nUnary o) t = absurd (omega arith)
-arity-leaf (nBinary o) t = absurd (omega arith)
-arity-leaf nIf t = absurd (omega arith)
-arity-leaf (nCase n) t = absurd (omega arith)
-arity-leaf (nRestr d cs) t = absurd (omega arith)
-arity-leaf (nDep m) t = absurd (omega arith)
+pub restriction-coded : (nd : Node) → codeOf nd ≡ 7 → Restriction ≡ classOf nd
+restriction-coded nd e = let w = node-of nd 7 e in rw (w .2)
 
-arity-more : (vars : ℕ) (bs : List ℕ) (p : ℕ) (nd : Node) → NodeAt vars bs p nd → 3 ≤ codeOf nd → 1 ≤ arity nd
-arity-more vars bs p (nVar v) h l = absurd (omega arith)
-arity-more vars bs p (nInt c) h l = absurd (omega arith)
-arity-more vars bs p (nBool b) h l = absurd (omega arith)
-arity-more vars bs p (nUnary o) h l = omega arith
-arity-more vars bs p (nBinary o) h l = omega arith
-arity-more vars bs p nIf h l = omega arith
-arity-more vars bs p (nCase n) h l = h .fields .low
-arity-more vars bs p (nRestr d cs) h l = omega arith
-arity-more vars bs p (nDep m) h l = omega arith
+pub dependence-coded : (nd : Node) → codeOf nd ≡ 8 → Dependence ≡ classOf nd
+dependence-coded nd e = let w = node-of nd 8 e in rw (w .1)
 
--- ---- at a node
+-- no code is higher
+pub code-most : (nd : Node) → codeOf nd ≤ 8
+code-most (nVar v) = omega arith
+code-most (nInt c) = omega arith
+code-most (nBool b) = omega arith
+code-most (nUnary o) = omega arith
+code-most (nBinary o) = omega arith
+code-most nIf = omega arith
+code-most (nCase n) = omega arith
+code-most (nRestr d cs) = omega arith
+code-most (nDep f) = omega arith
 
-module _ (vars : ℕ) (bs : List ℕ) (p : ℕ) where
-  wide-node : (nd : Node) → NodeAt vars bs p nd → 7 ≤ codeOf nd → Wide bs p
-  wide-node (nVar v) h l = absurd (omega arith)
-  wide-node (nInt c) h l = absurd (omega arith)
-  wide-node (nBool b) h l = absurd (omega arith)
-  wide-node (nUnary o) h l = absurd (omega arith)
-  wide-node (nBinary o) h l = absurd (omega arith)
-  wide-node nIf h l = absurd (omega arith)
-  wide-node (nCase n) h l = absurd (omega arith)
-  wide-node (nRestr d cs) h l =
-      let f = h .fields in
-      record {
-        there = omega (arith, f .many .there);
-        dim = omega (arith, counted-is (f .dim), f .dim .high);
-        many = omega (arith, counted-is (f .many), f .many .high);
-      }
-  wide-node (nDep m) h l =
-      let f = h .fields in
-      record {
-        there = omega (arith, f .many .there);
-        dim = omega (arith, counted-is (f .width), f .width .high);
-        many = omega (arith, counted-is (f .many), f .many .high);
-      }
+-- ---- the codes of a class
 
-  module _ (nd : Node) (q : ℕ) (read : node vars bs p ≡ got nd q) where
-    pub code-is : natAbs (field bs p) ≡ codeOf nd
-    code-is = ap natAbs (node-at vars bs p nd q read .code)
+pub leaf-code : (nd : Node) → classOf nd ≡ Leaf → codeOf nd ≤ 2
+leaf-code = leaf-node (λ nd. codeOf nd ≤ 2) (λ v. omega arith) (λ c. omega arith) (λ b. omega arith)
 
-    -- how many children the node has, by its code
-    arity-by : (code : ℕ) → natAbs (field bs p) ≡ code → arityOf code (natAbs (field bs (p + 8))) ≡ arity nd
-    arity-by code c = rw c at (arity-is vars bs p nd (node-at vars bs p nd q read))
+pub operator-low : (nd : Node) → classOf nd ≡ Operator → 3 ≤ codeOf nd
+operator-low = operator-node (λ nd. 3 ≤ codeOf nd) (λ o. omega arith) (λ o. omega arith) (omega arith)
 
-    pub arity-leaf-is : natAbs (field bs p) ≤ 2 → 0 ≡ arity nd
-    arity-leaf-is l = arity-leaf nd (omega (arith, code-is))
-
-    pub arity-some : 3 ≤ natAbs (field bs p) → 1 ≤ arity nd
-    arity-some l = arity-more vars bs p nd (node-at vars bs p nd q read) (omega (arith, code-is))
-
-    pub arity-two-is : natAbs (field bs p) ≡ 4 → 2 ≡ arity nd
-    arity-two-is c = arity-by 4 c
-
-    pub arity-three-is : natAbs (field bs p) ≡ 5 → 3 ≡ arity nd
-    arity-three-is c = arity-by 5 c
-
-    pub arity-case-is : natAbs (field bs p) ≡ 6 → natAbs (field bs (p + 8)) ≡ arity nd
-    arity-case-is c = arity-by 6 c
-
-    pub arity-one-is : 2 < natAbs (field bs p) → (natAbs (field bs p) ≡ 4 → ⊥) → (natAbs (field bs p) ≡ 5 → ⊥) → (natAbs (field bs p) ≡ 6 → ⊥) → 1 ≡ arity nd
-    arity-one-is two four five six = arity-else nd (omega (arith, code-is)) (λ e. four (code-is ∙ e)) (λ e. five (code-is ∙ e)) (λ e. six (code-is ∙ e))
-
-  module _ (h : Noded vars bs p) where
-    node-here : NodeAt vars bs p (h .what)
-    node-here = node-at vars bs p (h .what) (h .next) (h .read)
-
-    coded : natAbs (field bs p) ≡ codeOf (h .what)
-    coded = code-is (h .what) (h .next) (h .read)
-
-    -- the code is there
-    pub code-there : p + 8 ≤ length bs
-    code-there = omega (arith, node-here .long, node-here .there)
-
-    pub wide-fields : 7 ≤ natAbs (field bs p) → Wide bs p
-    wide-fields l = wide-node (h .what) node-here (omega (arith, coded))
-
-    length-by : (code : ℕ) → natAbs (field bs p) ≡ code → lengthOf code (natAbs (field bs (p + 8))) (natAbs (field bs (p + 16))) ≡ nodeLen bs p
-    unfolding nodeLen
-    length-by code e = ap (λ x. lengthOf x (natAbs (field bs (p + 8))) (natAbs (field bs (p + 16)))) (sym e)
-
-    pub length-if : natAbs (field bs p) ≡ 5 → 8 ≡ nodeLen bs p
-    length-if e = length-by 5 e
-
-    pub length-restriction : natAbs (field bs p) ≡ 7 → 24 + natAbs (field bs (p + 16)) * (16 + 8 * natAbs (field bs (p + 8))) ≡ nodeLen bs p
-    length-restriction e = length-by 7 e
-
-    pub length-dependence : natAbs (field bs p) ≡ 8 → 24 + natAbs (field bs (p + 16)) * (8 + 8 * natAbs (field bs (p + 8))) ≡ nodeLen bs p
-    length-dependence e = length-by 8 e
-
-    pub length-other : (natAbs (field bs p) ≡ 5 → ⊥) → (natAbs (field bs p) ≡ 7 → ⊥) → (natAbs (field bs p) ≡ 8 → ⊥) → 16 ≡ nodeLen bs p
-    length-other five seven eight =
-        sym (length-else (natAbs (field bs (p + 8))) (natAbs (field bs (p + 16))) (h .what) (λ e. five (coded ∙ e)) (λ e. seven (coded ∙ e))
-        (λ e. eight (coded ∙ e)))
-        ∙ length-by (codeOf (h .what)) coded
-
-    -- the second field is there, but for an if
-    pub second-there : (natAbs (field bs p) ≡ 5 → ⊥) → p + 16 ≤ length bs
-    second-there five =
-        let l = length-long (natAbs (field bs (p + 8))) (natAbs (field bs (p + 16))) (h .what) (λ e. five (coded ∙ e)) in
-        let n = length-by (codeOf (h .what)) coded in
-        omega (arith, node-here .there)
+pub operator-high : (nd : Node) → classOf nd ≡ Operator → codeOf nd ≤ 5
+operator-high = operator-node (λ nd. codeOf nd ≤ 5) (λ o. omega arith) (λ o. omega arith) (omega arith)

@@ -99,7 +99,7 @@ module _ (bs tab : List ℕ) (h : BodiesPlaced bs tab) (v : ℕ) (lt : v < varsO
   pub body-standing : isInput (variable (sheetOf bs) v) ≡ false → (p : ℕ) → p ≡ getD tab (69 + v) 0 → Standing (varsOf bs) bs p 2048
   body-standing i p e =
       let b = h .body v lt i in
-      rw (e ∙ h .starts v lt) (record { tree = variable (sheetOf bs) v .body; end = variable (sheetOf bs) v .end; at = b .at; few = b .few })
+      rw (e ∙ h .starts v lt) (record { tree = variable (sheetOf bs) v .body; end = variable (sheetOf bs) v .end; at = b .at; few = b .few; most = omega arith })
 
   -- ---- TYPE
 

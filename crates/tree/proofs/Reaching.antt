@@ -13,7 +13,6 @@ use borrow.Author.Tests.{le-leb, lt-leb}
 use Rattle.alpha.specs.Field.{field}
 use Rattle.alpha.specs.Sheet.{Row, Constraint, Map, Node, Expr, Exprs}
 use Rattle.alpha.specs.Sheet.{Node.nVar, Node.nInt, Node.nBool, Node.nUnary, Node.nBinary, Node.nIf, Node.nCase, Node.nRestr, Node.nDep, Exprs.more}
-use Rattle.alpha.specs.Read.{got, node}
 use Rattle.alpha.specs.Reach.{limit, rowReach, mapReach, allReach, reach, reachAll}
 use Rattle.affine.specs.declared.Reached.{Reached}
 use Rattle.affine.specs.declared.Reached.the-variants.{Within, Past}
@@ -21,21 +20,23 @@ use Rattle.affine.specs.declared.Map as Code
 use Rattle.affine.specs.Value.{several, mapOf}
 use Rattle.affine.specs.Size.{Tells}
 use Rattle.affine.specs.Reading.{rowFields, MapRead}
-use Rattle.laws.specs.At.{nodeOf, codeOf, nodeLen, At, AllAt}
+use Rattle.laws.specs.At.{nodeOf, nodeRead, nodeEnd, At, AllAt}
 use Rattle.laws.specs.Children.{childrenOf, arity, reachHere, reachBelow}
 use Rattle.laws.specs.Sheets.{varsOf}
 use Rattle.laws.proofs.Readers.{counted-is}
 use Rattle.laws.proofs.Rows.{RowAt, ConstraintAt}
-use Rattle.laws.proofs.Nodes.{Restricts, NodeAt, node-at, restr-constraint}
-use Rattle.laws.proofs.Shapes.{at-got, allAt-none}
-use Rattle.laws.proofs.Children.{children-many, at-children, reach-children}
+use Rattle.laws.proofs.Nodes.{Restricts, NodeAt, restr-constraint}
+use Rattle.laws.proofs.Shapes.{at-read, allAt-none}
+use Rattle.laws.proofs.Children.{reach-children}
 use Rattle.laws.proofs.NormalReach.{mapReach-pos}
 use Rattle.tree.specs.declared.Bounded.{Bounded}
 use Rattle.tree.specs.declared.Bounded.the-variants.{Next, Beyond}
-use Rattle.tree.specs.Standing.{Noded}
+use Rattle.tree.specs.declared.Class.the-variants.{Leaf, Operator, Case, Restriction, Dependence}
+use Rattle.tree.specs.Classes.{classAt}
+use Rattle.tree.specs.Standing.{Noded, NodedAs}
 use Rattle.tree.specs.Bounding.{boundedAt, reachedAt, constraintsReach, NodeReached, TreeBounded, TreesBounded}
-use Rattle.tree.proofs.Noding.{node-of, code-is, length-restriction}
-use Rattle.tree.proofs.Standings.{one-more}
+use Rattle.tree.proofs.Classes.{leaf-node, operator-node, case-node, restriction-node, dependence-node, node-here, end-there, restriction-end}
+use Rattle.tree.proofs.Standings.{children-at, children-counted, one-more}
 
 -- ---- an answer on a size
 
@@ -116,17 +117,6 @@ module _ (r n : ℕ) (bs : List ℕ) where
 
 -- ---- the node itself
 
-here-same : (nd : Node) (r : ℕ) → (codeOf nd ≡ 7 → ⊥) → (codeOf nd ≡ 8 → ⊥) → Within r ≡ reachedAt (reachHere nd r) (reachBelow nd r)
-here-same (nVar v) r f g = refl
-here-same (nInt c) r f g = refl
-here-same (nBool b) r f g = refl
-here-same (nUnary o) r f g = refl
-here-same (nBinary o) r f g = refl
-here-same nIf r f g = refl
-here-same (nCase n) r f g = refl
-here-same (nRestr d cs) r f g = absurd (f refl)
-here-same (nDep m) r f g = absurd (g refl)
-
 below-some : (nd : Node) (r : ℕ) → 1 ≤ r → 1 ≤ reachBelow nd r
 below-some (nVar v) r l = l
 below-some (nInt c) r l = l
@@ -138,47 +128,45 @@ below-some (nCase n) r l = l
 below-some (nRestr d cs) r l = l
 below-some (nDep m) r l = mapReach-pos r (m .rows)
 
-module _ (vars : ℕ) (bs : List ℕ) (p : ℕ) where
-  pub constraints-there : Noded vars bs p → natAbs (field bs p) ≡ 7 → p + 24 + natAbs (field bs (p + 16)) * (16 + 8 * natAbs (field bs (p + 8))) ≤ length bs
-  constraints-there h e =
-      let n = node-at vars bs p (h .what) (h .next) (h .read) in
-      omega (arith, n .there, length-restriction vars bs p h e)
+module _ (bs : List ℕ) (p r : ℕ) where
+  abbrev Passing : Reached → Node → Type 0
+  Passing y nd = y ≡ reachedAt (reachHere nd r) (reachBelow nd r)
 
-  module _ (r : ℕ) (nd : Node) (q : ℕ) (read : node vars bs p ≡ got nd q) where
-    here : NodeAt vars bs p nd
-    here = node-at vars bs p nd q read
+  pub leaf-reaches : classAt bs p ≡ Leaf → NodeReached bs p r (Within r)
+  leaf-reaches c = leaf-node (Passing (Within r)) (λ v. refl) (λ c. refl) (λ b. refl) (nodeRead (varsOf bs) bs p) c
 
-    coded : natAbs (field bs p) ≡ codeOf nd
-    coded = code-is vars bs p nd q read
+  pub operator-reaches : classAt bs p ≡ Operator → NodeReached bs p r (Within r)
+  operator-reaches c = operator-node (Passing (Within r)) (λ o. refl) (λ o. refl) refl (nodeRead (varsOf bs) bs p) c
 
-    pub below-same : (natAbs (field bs p) ≡ 7 → ⊥) → (natAbs (field bs p) ≡ 8 → ⊥) → Within r ≡ reachedAt (reachHere nd r) (reachBelow nd r)
-    below-same f g = here-same nd r (λ e. f (coded ∙ e)) (λ e. g (coded ∙ e))
+  pub case-reaches : classAt bs p ≡ Case → NodeReached bs p r (Within r)
+  case-reaches c = case-node (Passing (Within r)) (λ n. refl) (nodeRead (varsOf bs) bs p) c
 
-    restricts : (d : ℕ) (cs : List Constraint) → nd ≡ nRestr d cs → Restricts bs p d cs
-    restricts d cs e = (rw e at here) .fields
+  -- a restriction by its fields
+  by-constraints : (d : ℕ) (cs : List Constraint) → Restricts bs p d cs →
+      constraintsReach r (natAbs (field bs (p + 8))) (natAbs (field bs (p + 16))) bs (p + 24) ≡ allReach r cs
+  by-constraints d cs f =
+      let a = counted-is (f .dim) in
+      let b = counted-is (f .many) in
+      rw (← a, ← b) (constraints-are r d bs cs (p + 24) (λ i lt c. restr-constraint f i lt c))
 
-    -- a restriction by its fields
-    restriction-fields : (d : ℕ) (cs : List Constraint) → Restricts bs p d cs →
-        constraintsReach r (natAbs (field bs (p + 8))) (natAbs (field bs (p + 16))) bs (p + 24) ≡ allReach r cs
-    restriction-fields d cs f =
-        let a = counted-is (f .dim) in
-        let b = counted-is (f .many) in
-        rw (← a, ← b) (constraints-are r d bs cs (p + 24) (λ i lt c. restr-constraint f i lt c))
+  module _ (h : NodedAs bs p Restriction) where
+    pub constraints-there : p + 24 + natAbs (field bs (p + 16)) * (16 + 8 * natAbs (field bs (p + 8))) ≤ length bs
+    constraints-there = omega (arith, end-there bs p (h .noded), restriction-end bs p h)
 
-    pub below-restriction : natAbs (field bs p) ≡ 7 → (b : Bool) → constraintsReach r (natAbs (field bs (p + 8))) (natAbs (field bs (p + 16))) bs (p + 24) ≡ b →
-        reachedAt b r ≡ reachedAt (reachHere nd r) (reachBelow nd r)
-    below-restriction e b h =
-        let w = node-of nd 7 (sym coded ∙ e) in
-        let f = restricts (w .0) (w .1) (w .2) in
-        rw (w .2) (ap (λ x. reachedAt x r) (sym h ∙ restriction-fields (w .0) (w .1) f))
+    pub restriction-reaches : (b : Bool) → constraintsReach r (natAbs (field bs (p + 8))) (natAbs (field bs (p + 16))) bs (p + 24) ≡ b →
+        NodeReached bs p r (reachedAt b r)
+    restriction-reaches b found =
+        restriction-node (λ nd. NodeAt (varsOf bs) bs p nd → Passing (reachedAt b r) nd)
+        (λ d cs n. ap (λ x. reachedAt x r) (sym found ∙ by-constraints d cs (n .fields)))
+        (nodeRead (varsOf bs) bs p) (h .class-is) (node-here bs p (h .noded))
 
-    pub below-dependence : natAbs (field bs p) ≡ 8 → (m : Code.Map) → MapRead bs (p + 8) m → (y : Reached) → Tells y (mapReach r (mapOf m .rows)) →
-        y ≡ reachedAt (reachHere nd r) (reachBelow nd r)
-    below-dependence e m h y t =
-        let w = node-of nd 8 (sym coded ∙ e) in
-        let f = (rw (w .1) at here) .fields in
-        let is : mapOf m ≡ w .0 = h .is (w .0) (p + nodeLen bs p) (f .read) in
-        rw (w .1) (tells-reached y (mapReach r (w .0 .rows)) (subst (λ (g : Map). Tells y (mapReach r (g .rows))) is t))
+  pub dependence-reaches : NodedAs bs p Dependence → (m : Code.Map) → MapRead bs (p + 8) m → (y : Reached) → Tells y (mapReach r (mapOf m .rows)) →
+      NodeReached bs p r y
+  dependence-reaches h m read y t =
+      dependence-node (λ nd. NodeAt (varsOf bs) bs p nd → Passing y nd)
+      (λ f n. tells-reached y (mapReach r (f .rows))
+      (subst (λ (g : Map). Tells y (mapReach r (g .rows))) (read .is f (n .fields .next) (n .fields .read)) t))
+      (nodeRead (varsOf bs) bs p) (h .class-is) (node-here bs p (h .noded))
 
 -- an answer with a reach says that the node passes, and what the reach is; any other that it does not
 pub record Reaches (b : Bool) (n x : ℕ) : Type 0 where
@@ -198,23 +186,24 @@ reached-past false x h = refl
 module _ (bs : List ℕ) (p r : ℕ) (y : Reached) (says : NodeReached bs p r y) where
   pub reach-some : 1 ≤ r → Noded (varsOf bs) bs p → (n : ℕ) → y ≡ Within n → 1 ≤ n
   reach-some l h n is =
-      let x = reached-within (reachHere (h .what) r) n (reachBelow (h .what) r) (sym is ∙ says (h .what) (h .next) (h .read)) in
-      omega (arith, x .is, below-some (h .what) r l)
+      let nd = nodeRead (varsOf bs) bs p in
+      let x = reached-within (reachHere nd r) n (reachBelow nd r) (sym is ∙ says) in
+      omega (arith, x .is, below-some nd r l)
+
+  -- of the first node of a tree
+  of-tree : (e : Expr) (q : ℕ) → At e (varsOf bs) bs p q → y ≡ reachedAt (reachHere (nodeOf e) r) (reachBelow (nodeOf e) r)
+  of-tree e q h = says ∙ ap (λ nd. reachedAt (reachHere nd r) (reachBelow nd r)) (at-read (varsOf bs) bs e p q h)
 
   pub reach-past : y ≡ Past → TreeBounded bs p r Beyond
   reach-past is e q h =
-      let no-pass =
-      reached-past (reachHere (nodeOf e) r) (reachBelow (nodeOf e) r)
-      (sym is ∙ says (nodeOf e) (p + nodeLen bs p) (at-got (varsOf bs) bs e p q h)) in
+      let no-pass = reached-past (reachHere (nodeOf e) r) (reachBelow (nodeOf e) r) (sym is ∙ of-tree e q h) in
       rw (reach-children e r, no-pass)
 
-  pub reach-goes : (n : ℕ) → y ≡ Within n → (k c : ℕ) → k ≡ nodeLen bs p → ((nd : Node) (q : ℕ) → node (varsOf bs) bs p ≡ got nd q → c ≡ arity nd) →
-      (t : Bounded) → TreesBounded bs (p + k) n c t → TreeBounded bs p r t
-  reach-goes n is k c long many t all e q h =
-      let read = at-got (varsOf bs) bs e p q h in
-      let x = reached-within (reachHere (nodeOf e) r) n (reachBelow (nodeOf e) r) (sym is ∙ says (nodeOf e) (p + nodeLen bs p) read) in
-      let below : AllAt (childrenOf e) (varsOf bs) bs (p + k) q = rw long (at-children (varsOf bs) bs e p q h) in
-      all (childrenOf e) q below (children-many e ∙ sym (many (nodeOf e) (p + nodeLen bs p) read))
+  pub reach-goes : (n : ℕ) → y ≡ Within n → (k c : ℕ) → k ≡ nodeEnd (varsOf bs) bs p → c ≡ arity (nodeRead (varsOf bs) bs p) →
+      (t : Bounded) → TreesBounded bs k n c t → TreeBounded bs p r t
+  reach-goes n is k c next many t all e q h =
+      let x = reached-within (reachHere (nodeOf e) r) n (reachBelow (nodeOf e) r) (sym is ∙ of-tree e q h) in
+      all (childrenOf e) q (children-at (varsOf bs) bs p k c next many e q h) (children-counted (varsOf bs) bs p k c next many e q h)
       ∙ ap (λ z. boundedAt (reachAll (childrenOf e) z) q) (x .is)
       ∙ ap (λ b. boundedAt b q) (sym (reach-children e r ∙ ap (λ b. b && reachAll (childrenOf e) (reachBelow (nodeOf e) r)) (x .passes)))
 

@@ -12,24 +12,26 @@ use borrow.Author.Tests.{lt-ltb, le-ltb}
 use Rattle.alpha.specs.Pick.{ifb}
 use Rattle.alpha.specs.Field.{field}
 use Rattle.alpha.specs.Sheet.{Sort, Sort.integer, Sort.boolean, Binary, Node, Expr, Exprs}
-use Rattle.alpha.specs.Sheet.{Node.nVar, Node.nInt, Node.nBool, Node.nUnary, Node.nBinary, Node.nIf, Node.nCase, Node.nRestr, Node.nDep}
 use Rattle.alpha.specs.Sheet.{Expr.ite, Exprs.none, Exprs.more, Binary.plus}
-use Rattle.alpha.specs.Read.{got, node, noHead, unaryOf, binaries, binaryOf}
+use Rattle.alpha.specs.Read.{noHead, unaryOf, binaries, binaryOf}
 use Rattle.alpha.specs.Typing.{agree, giving, integers, booleans, unarySort, binarySort, ifSort, typeOf, typesOf, agreeing}
 use Rattle.alpha.specs.Written.{branchCount}
-use Rattle.laws.specs.At.{nodeOf, codeOf, nodeLen, At, AllAt}
-use Rattle.laws.specs.Children.{childrenOf, arity, sortBy}
+use Rattle.laws.specs.At.{codeOf, nodeRead, nodeEnd, At, AllAt}
+use Rattle.laws.specs.Children.{childrenOf, arity}
 use Rattle.laws.specs.Sheets.{headsOf, varsOf}
 use Rattle.laws.proofs.Readers.{counted-is}
-use Rattle.laws.proofs.Nodes.{NodeAt, node-at}
-use Rattle.laws.proofs.Shapes.{at-code, at-got, at-var, at-int, at-boo, at-ite, allAt-none}
-use Rattle.laws.proofs.Children.{children-many, at-children, type-children}
+use Rattle.laws.proofs.Nodes.{nodeSize, NodeAt}
+use Rattle.laws.proofs.Shapes.{at-var, at-int, at-boo, at-un, at-bin, at-ite, allAt-none}
+use Rattle.laws.proofs.Children.{at-children}
 use Rattle.tree.specs.declared.Typed.{Typed}
 use Rattle.tree.specs.declared.Typed.the-variants.{Integer, Boolean, Mistyped}
+use Rattle.tree.specs.declared.Class.the-variants.{Leaf, Case, Restriction, Dependence}
+use Rattle.tree.specs.Classes.{classAt}
 use Rattle.tree.specs.Standing.{Noded, Standing, StandingAll}
-use Rattle.tree.specs.Sorted.{typedAt, asInteger, asBoolean, anyBoolean, After, IfAt, TreeTyped, TreesTyped, NextTyped, NodeTyped}
-use Rattle.tree.proofs.Noding.{node-of, code-is, arity-leaf-is}
-use Rattle.tree.proofs.Standings.{one-more, first-standing, first-and-rest}
+use Rattle.tree.specs.Sorted.{typedAt, asInteger, asBoolean, anyBoolean, After, LeafTyped, IfAt, TreeTyped, TreesTyped, NextTyped}
+use Rattle.tree.proofs.Classes.{leaf-at, case-at, restriction-at, dependence-at, coded-field, node-here}
+use Rattle.tree.proofs.Noding.{node-of}
+use Rattle.tree.proofs.Standings.{children-at, children-counted, one-more, first-standing, first-and-rest}
 
 -- ---- answers
 
@@ -159,107 +161,124 @@ module _ (t : Typed) (o : Option Sort) (q : ℕ) (h : t ≡ typedAt o q) where
   pub order-at : {x : Option Sort} → x ≡ giving (integers o) boolean → anyBoolean (asInteger t) ≡ typedAt x q
   order-at e = ap (λ y. anyBoolean (asInteger y)) h ∙ order-is o q ∙ ap (λ y. typedAt y q) (sym e)
 
--- ---- the node's own rule
+-- ---- a tree, by its class
 
-module _ (vars : ℕ) (bs : List ℕ) (p : ℕ) where
-  unary-node : (nd : Node) → NodeAt vars bs p nd → codeOf nd ≡ 3 → (o : Option Sort) → unarySort (unaryOf (natAbs (field bs (p + 8)))) o ≡ sortBy nd o
-  unary-node nd h e o = let u = node-of nd 3 e in rw (u .1) (ap (λ x. unarySort x o) (sym ((rw (u .1) at h) .fields .is)))
+module _ (bs : List ℕ) (p : ℕ) where
+  abbrev nd : Node
+  nd = nodeRead (varsOf bs) bs p
 
-  binary-node : (nd : Node) → NodeAt vars bs p nd → codeOf nd ≡ 4 → (o : Option Sort) → binarySort (binaryOf (natAbs (field bs (p + 8)))) o ≡ sortBy nd o
-  binary-node nd h e o = let b = node-of nd 4 e in rw (b .1) (ap (λ x. binarySort x o) (sym ((rw (b .1) at h) .fields .is)))
+  -- ---- a leaf
 
-  other-node : (nd : Node) → (codeOf nd ≡ 3 → ⊥) → (codeOf nd ≡ 4 → ⊥) → (o : Option Sort) → o ≡ sortBy nd o
-  other-node (nVar v) e f o = refl
-  other-node (nInt c) e f o = refl
-  other-node (nBool b) e f o = refl
-  other-node (nUnary u) e f o = absurd (e refl)
-  other-node (nBinary b) e f o = absurd (f refl)
-  other-node nIf e f o = refl
-  other-node (nCase n) e f o = refl
-  other-node (nRestr d cs) e f o = refl
-  other-node (nDep m) e f o = refl
+  module _ (e : Expr) (q : ℕ) (h : At e (varsOf bs) bs p q) where
+    pub type-variable : codeOf nd ≡ 0 → typedAt (some (getD (headsOf bs) (natAbs (field bs (p + 8))) noHead .sort)) q ≡ typedAt (typeOf e (headsOf bs)) q
+    unfolding typeOf
+    type-variable c =
+        let v = at-var (varsOf bs) bs e p q h (coded-field bs e p q h 0 c) in
+        let n = counted-is (v .stands) in
+        rw (v .is, n)
 
-  binary-high : (nd : Node) → NodeAt vars bs p nd → codeOf nd ≡ 4 → natAbs (field bs (p + 8)) ≤ 15
-  binary-high nd h e = (rw (node-of nd 4 e .1) at h) .fields .high
+    pub type-integer : codeOf nd ≡ 1 → Integer q ≡ typedAt (typeOf e (headsOf bs)) q
+    unfolding typeOf
+    type-integer c = let v = at-int (varsOf bs) bs e p q h (coded-field bs e p q h 1 c) in rw (v .is)
 
-  unary-high : (nd : Node) → NodeAt vars bs p nd → codeOf nd ≡ 3 → natAbs (field bs (p + 8)) ≤ 1
-  unary-high nd h e = (rw (node-of nd 3 e .1) at h) .fields .high
+    pub type-boolean : codeOf nd ≡ 2 → Boolean q ≡ typedAt (typeOf e (headsOf bs)) q
+    unfolding typeOf
+    type-boolean c = let v = at-boo (varsOf bs) bs e p q h (coded-field bs e p q h 2 c) in rw (v .is)
 
-  module _ (nd : Node) (q : ℕ) (read : node vars bs p ≡ got nd q) where
-    pub unary-by : natAbs (field bs p) ≡ 3 → (o : Option Sort) → unarySort (unaryOf (natAbs (field bs (p + 8)))) o ≡ sortBy nd o
-    unary-by e o = unary-node nd (node-at vars bs p nd q read) (sym (code-is vars bs p nd q read) ∙ e) o
+  module _ (k : ℕ) (next : k ≡ nodeEnd (varsOf bs) bs p) where
+    -- it ends with its node
+    pub leaf-typed : classAt bs p ≡ Leaf → (t : Typed) → LeafTyped bs p k t → TreeTyped bs p t
+    leaf-typed c t says e q h = let end : k ≡ q = next ∙ leaf-at bs e p q h c .end in (rw end at says) e h
 
-    pub binary-by : natAbs (field bs p) ≡ 4 → (o : Option Sort) → binarySort (binaryOf (natAbs (field bs (p + 8)))) o ≡ sortBy nd o
-    binary-by e o = binary-node nd (node-at vars bs p nd q read) (sym (code-is vars bs p nd q read) ∙ e) o
+    -- ---- a node that has the type of its children
 
-    pub other-by : (natAbs (field bs p) ≡ 3 → ⊥) → (natAbs (field bs p) ≡ 4 → ⊥) → (o : Option Sort) → o ≡ sortBy nd o
-    other-by e f o = other-node nd (λ x. e (code-is vars bs p nd q read ∙ x)) (λ x. f (code-is vars bs p nd q read ∙ x)) o
+    pub case-typed : classAt bs p ≡ Case → (n : ℕ) → n ≡ arity nd → (t : Typed) → TreesTyped bs k n t → TreeTyped bs p t
+    unfolding typeOf
+    case-typed c n many t all e q h =
+        let x = case-at bs e p q h c in
+        all (childrenOf e) q (children-at (varsOf bs) bs p k n next many e q h) (children-counted (varsOf bs) bs p k n next many e q h)
+        ∙ ap (λ f. typedAt (typesOf (childrenOf f) (headsOf bs)) q) (x .is)
+        ∙ ap (λ f. typedAt (typeOf f (headsOf bs)) q) (sym (x .is))
 
-  module _ (h : Noded vars bs p) where
-    coded : natAbs (field bs p) ≡ codeOf (h .what)
-    coded = code-is vars bs p (h .what) (h .next) (h .read)
+    pub restriction-typed : classAt bs p ≡ Restriction → (t : Typed) → TreeTyped bs k t → TreeTyped bs p t
+    unfolding typeOf
+    restriction-typed c t says e q h =
+        let x = restriction-at bs e p q h c in
+        says (x .child) q (rw next (x .below)) ∙ ap (λ f. typedAt (typeOf f (headsOf bs)) q) (sym (x .is))
 
-    pub unary-known : natAbs (field bs p) ≡ 3 → natAbs (field bs (p + 8)) ≤ 1
-    unary-known e = unary-high (h .what) (node-at vars bs p (h .what) (h .next) (h .read)) (sym coded ∙ e)
+    pub dependence-typed : classAt bs p ≡ Dependence → (t : Typed) → TreeTyped bs k t → TreeTyped bs p t
+    unfolding typeOf
+    dependence-typed c t says e q h =
+        let x = dependence-at bs e p q h c in
+        says (x .child) q (rw next (x .below)) ∙ ap (λ f. typedAt (typeOf f (headsOf bs)) q) (sym (x .is))
 
-    pub binary-known : natAbs (field bs p) ≡ 4 → natAbs (field bs (p + 8)) ≤ 15
-    binary-known e = binary-high (h .what) (node-at vars bs p (h .what) (h .next) (h .read)) (sym coded ∙ e)
+    -- ---- operators
 
--- ---- a tree, by its code
+    pub unary-typed : codeOf nd ≡ 3 → (t : Typed) → TreeTyped bs k t → (op : ℕ) → op ≡ natAbs (field bs (p + 8)) → (r : Typed) →
+        ((o : Option Sort) (q : ℕ) → t ≡ typedAt o q → r ≡ typedAt (unarySort (unaryOf op) o) q) → TreeTyped bs p r
+    unfolding typeOf
+    unary-typed c t says op number r by e q h =
+        let x = at-un (varsOf bs) bs e p q h (coded-field bs e p q h 3 c) in
+        by (typeOf (x .child) (headsOf bs)) q (says (x .child) q (rw next (x .below)))
+        ∙ ap (λ o. typedAt (unarySort o (typeOf (x .child) (headsOf bs))) q) (ap unaryOf number ∙ sym (x .chosen .is))
+        ∙ ap (λ f. typedAt (typeOf f (headsOf bs)) q) (sym (x .is))
 
-module _ (bs : List ℕ) (p k : ℕ) (long : k ≡ nodeLen bs p) (e : Expr) (q : ℕ) (h : At e (varsOf bs) bs p q) where
-  read : node (varsOf bs) bs p ≡ got (nodeOf e) (p + nodeLen bs p)
-  read = at-got (varsOf bs) bs e p q h
+    pub binary-typed : codeOf nd ≡ 4 → (t : Typed) → TreesTyped bs k 2 t → (op : ℕ) → op ≡ natAbs (field bs (p + 8)) → (r : Typed) →
+        ((o : Option Sort) (q : ℕ) → t ≡ typedAt o q → r ≡ typedAt (binarySort (binaryOf op) o) q) → TreeTyped bs p r
+    unfolding typeOf
+    binary-typed c t says op number r by e q h =
+        let x = at-bin (varsOf bs) bs e p q h (coded-field bs e p q h 4 c) in
+        let both = more (x .left) (more (x .right) none) in
+        let below : AllAt both (varsOf bs) bs (nodeEnd (varsOf bs) bs p) q = rw (x .is) at (at-children (varsOf bs) bs e p q h) in
+        by (typesOf both (headsOf bs)) q (says both q (rw next below) refl)
+        ∙ ap (λ o. typedAt (binarySort o (typesOf both (headsOf bs))) q) (ap binaryOf number ∙ sym (x .chosen .is))
+        ∙ ap (λ f. typedAt (typeOf f (headsOf bs)) q) (sym (x .is))
 
-  field-by : (code : ℕ) → natAbs (field bs p) ≡ code → field bs p ≡ pos code
-  field-by code c = at-code (varsOf bs) bs e p q h ∙ ap pos (sym (code-is (varsOf bs) bs p (nodeOf e) (p + nodeLen bs p) read) ∙ c)
+    pub if-typed : codeOf nd ≡ 5 → (t : Typed) → IfAt bs k t → TreeTyped bs p t
+    if-typed c t says e q h =
+        let v = at-ite (varsOf bs) bs e p q h (coded-field bs e p q h 5 c) in
+        let parts : AllAt (childrenOf (ite (v .test) (v .left) (v .right))) (varsOf bs) bs (nodeEnd (varsOf bs) bs p) q =
+        rw (v .is) at (at-children (varsOf bs) bs e p q h) in
+        rw (v .is) (says (v .test) (v .left) (v .right) q (rw next parts))
 
-  below : AllAt (childrenOf e) (varsOf bs) bs (p + k) q
-  below = rw long (at-children (varsOf bs) bs e p q h)
+  -- ---- the field of an operator that has one, and the operands
 
-  -- a leaf ends with its node
-  leaf-end : natAbs (field bs p) ≤ 2 → p + k ≡ q
-  leaf-end l =
-      allAt-none (varsOf bs) bs (childrenOf e) (p + k) q below
-      (children-many e ∙ sym (arity-leaf-is (varsOf bs) bs p (nodeOf e) (p + nodeLen bs p) read l)) .end
+  high-of : (nd : Node) → NodeAt (varsOf bs) bs p nd → codeOf nd ≡ 3 → natAbs (field bs (p + 8)) ≤ 1
+  high-of nd h e = (rw (node-of nd 3 e .1) at h) .fields .high
 
-  pub type-variable : natAbs (field bs p) < 1 → typedAt (some (getD (headsOf bs) (natAbs (field bs (p + 8))) noHead .sort)) (p + k)
-      ≡ typedAt (typeOf e (headsOf bs)) q
-  unfolding typeOf
-  type-variable l =
-      let v = at-var (varsOf bs) bs e p q h (field-by 0 (omega arith)) in
-      let end = leaf-end (omega arith) in
-      let n = counted-is (v .stands) in
-      rw (v .is, n, end)
+  high-of-two : (nd : Node) → NodeAt (varsOf bs) bs p nd → codeOf nd ≡ 4 → natAbs (field bs (p + 8)) ≤ 15
+  high-of-two nd h e = (rw (node-of nd 4 e .1) at h) .fields .high
 
-  pub type-integer : 1 ≤ natAbs (field bs p) → natAbs (field bs p) < 2 → Integer (p + k) ≡ typedAt (typeOf e (headsOf bs)) q
-  unfolding typeOf
-  type-integer k l =
-      let v = at-int (varsOf bs) bs e p q h (field-by 1 (omega arith)) in
-      let end = leaf-end (omega arith) in
-      rw (v .is, end)
+  pub unary-size : codeOf nd ≡ 3 → 16 ≡ nodeSize nd
+  unary-size e = let o = node-of nd 3 e in rw (o .1)
 
-  pub type-boolean : 2 ≤ natAbs (field bs p) → natAbs (field bs p) < 3 → Boolean (p + k) ≡ typedAt (typeOf e (headsOf bs)) q
-  unfolding typeOf
-  type-boolean k l =
-      let v = at-boo (varsOf bs) bs e p q h (field-by 2 (omega arith)) in
-      let end = leaf-end (omega arith) in
-      rw (v .is, end)
+  pub binary-size : codeOf nd ≡ 4 → 16 ≡ nodeSize nd
+  binary-size e = let o = node-of nd 4 e in rw (o .1)
 
-  pub type-if : natAbs (field bs p) ≡ 5 → (t : Typed) → IfAt bs (p + k) t → t ≡ typedAt (typeOf e (headsOf bs)) q
-  type-if c t says =
-      let v = at-ite (varsOf bs) bs e p q h (field-by 5 c) in
-      let parts : AllAt (childrenOf (ite (v .test) (v .left) (v .right))) (varsOf bs) bs (p + k) q = rw (v .is) at below in
-      rw (v .is) (says (v .test) (v .left) (v .right) q parts)
+  pub if-size : codeOf nd ≡ 5 → 8 ≡ nodeSize nd
+  if-size e = rw (node-of nd 5 e)
 
-  pub type-other : 3 ≤ natAbs (field bs p) → (natAbs (field bs p) ≡ 5 → ⊥) → (n : ℕ) → ((nd : Node) (o : ℕ) → node (varsOf bs) bs p ≡ got nd o → n ≡ arity nd) →
-      (t : Typed) → TreesTyped bs (p + k) n t → (r : Typed) → NodeTyped bs p t r → r ≡ typedAt (typeOf e (headsOf bs)) q
-  type-other l five n many t all r by =
-      let c = code-is (varsOf bs) bs p (nodeOf e) (p + nodeLen bs p) read in
-      let is = all (childrenOf e) q below (children-many e ∙ sym (many (nodeOf e) (p + nodeLen bs p) read)) in
-      by (nodeOf e) (p + nodeLen bs p) read (typesOf (childrenOf e) (headsOf bs)) q is
-      ∙ ap (λ x. typedAt x q)
-      (sym (type-children e (headsOf bs) (λ x. omega arith) (λ x. omega arith) (λ x. omega arith) (λ x. five (c ∙ x))))
+  module _ (h : Noded (varsOf bs) bs p) where
+    pub unary-known : codeOf nd ≡ 3 → natAbs (field bs (p + 8)) ≤ 1
+    unary-known e = high-of nd (node-here bs p h) e
+
+    pub binary-known : codeOf nd ≡ 4 → natAbs (field bs (p + 8)) ≤ 15
+    binary-known e = high-of-two nd (node-here bs p h) e
+
+    pub unary-there : codeOf nd ≡ 3 → p + 16 ≤ length bs
+    unary-there e = omega (arith, node-here bs p h .there, unary-size e)
+
+    pub binary-there : codeOf nd ≡ 4 → p + 16 ≤ length bs
+    binary-there e = omega (arith, node-here bs p h .there, binary-size e)
+
+  pub unary-arity : codeOf nd ≡ 3 → 1 ≡ arity nd
+  unary-arity e = let o = node-of nd 3 e in rw (o .1)
+
+  pub binary-arity : codeOf nd ≡ 4 → 2 ≡ arity nd
+  binary-arity e = let o = node-of nd 4 e in rw (o .1)
+
+  pub if-arity : codeOf nd ≡ 5 → 3 ≡ arity nd
+  if-arity e = rw (node-of nd 5 e)
 
 -- ---- so many trees
 

@@ -5,12 +5,11 @@ use Prim.Native.Nat.{ℕ, _+_, _-_, _≤_, _<_}
 use native.Mathlib.Omega.{arith}
 use mathlib.Core.List.{List}
 use lib.ListN.{length}
-use Rattle.alpha.specs.Sheet.{Node, Expr, Exprs, Exprs.none, Exprs.more}
-use Rattle.alpha.specs.Read.{got, node}
+use Rattle.alpha.specs.Sheet.{Expr, Exprs, Exprs.none, Exprs.more}
 use Rattle.alpha.specs.Written.{branchCount, nodeCount, nodeCounts}
-use Rattle.laws.specs.At.{nodeOf, nodeLen, At, AllAt}
+use Rattle.laws.specs.At.{nodeOf, nodeRead, nodeEnd, At, AllAt}
 use Rattle.laws.specs.Children.{childrenOf, arity}
-use Rattle.laws.proofs.Shapes.{at-node, at-got, allAt-more, allAt-none, MoreAt}
+use Rattle.laws.proofs.Shapes.{at-node, at-got, at-read, at-size, allAt-more, allAt-none, MoreAt}
 use Rattle.laws.proofs.Children.{arity-few, children-many, children-count, at-children}
 use Rattle.tree.specs.Standing.{Noded, Standing, StandingAll}
 use Rattle.tree.specs.Ends.{EndsAt, AllEnd}
@@ -46,7 +45,7 @@ module _ (vars : ℕ) (bs : List ℕ) where
   -- ---- a tree
 
   pub at-noded : (e : Expr) (p q : ℕ) → At e vars bs p q → Noded vars bs p
-  at-noded e p q h = record { what = nodeOf e; next = p + nodeLen bs p; read = at-got vars bs e p q h }
+  at-noded e p q h = record { what = nodeOf e; next = nodeEnd vars bs p; read = at-got vars bs e p q h }
 
   module _ (p left : ℕ) (h : Standing vars bs p left) where
     pub standing-noded : Noded vars bs p
@@ -55,11 +54,11 @@ module _ (vars : ℕ) (bs : List ℕ) where
     pub standing-some : 1 ≤ left
     standing-some = omega (arith, h .few, children-count (h .tree))
 
-    pub standing-there : p + nodeLen bs p ≤ length bs
-    standing-there = at-node vars bs (h .tree) p (h .end) (h .at) .there
+    pub standing-there : nodeEnd vars bs p ≤ length bs
+    standing-there = omega (arith, at-node vars bs (h .tree) p (h .end) (h .at) .there, at-size vars bs (h .tree) p (h .end) (h .at))
 
-    pub standing-long : 8 ≤ nodeLen bs p
-    standing-long = at-node vars bs (h .tree) p (h .end) (h .at) .long
+    pub standing-long : p + 8 ≤ nodeEnd vars bs p
+    standing-long = omega (arith, at-node vars bs (h .tree) p (h .end) (h .at) .long, at-size vars bs (h .tree) p (h .end) (h .at))
 
     -- it is one tree
     pub standing-one : StandingAll vars bs p left 1
@@ -69,20 +68,22 @@ module _ (vars : ℕ) (bs : List ℕ) where
       end = h .end;
       at = record { middle = h .end; before = h .at; after = refl };
       few = omega (arith, h .few);
+      most = h .most;
       many = refl;
     }
 
-    -- the children of the node, where the code has n of them and its length is k
-    module _ (k n : ℕ) (long : k ≡ nodeLen bs p) (many : (nd : Node) (q : ℕ) → node vars bs p ≡ got nd q → n ≡ arity nd) where
+    -- the children of the node, where the code has n of them and the next place is k
+    module _ (k n : ℕ) (next : k ≡ nodeEnd vars bs p) (many : n ≡ arity (nodeRead vars bs p)) where
       counted : n ≡ arity (nodeOf (h .tree))
-      counted = many (nodeOf (h .tree)) (p + nodeLen bs p) (at-got vars bs (h .tree) p (h .end) (h .at))
+      counted = many ∙ ap arity (at-read vars bs (h .tree) p (h .end) (h .at))
 
-      pub standing-children : StandingAll vars bs (p + k) (left - 1) n
+      pub standing-children : StandingAll vars bs k (left - 1) n
       standing-children = record {
         trees = childrenOf (h .tree);
         end = h .end;
-        at = rw long (at-children vars bs (h .tree) p (h .end) (h .at));
+        at = rw next (at-children vars bs (h .tree) p (h .end) (h .at));
         few = omega (arith, h .few, children-count (h .tree));
+        most = omega (arith, h .most);
         many = children-many (h .tree) ∙ sym counted;
       }
 
@@ -90,13 +91,12 @@ module _ (vars : ℕ) (bs : List ℕ) where
       children-few = omega (arith, counted, arity-few vars bs p (nodeOf (h .tree)) (at-node vars bs (h .tree) p (h .end) (h .at)))
 
   -- any tree at p has its children there, and as many
-  module _ (p k n : ℕ) (long : k ≡ nodeLen bs p) (many : (nd : Node) (q : ℕ) → node vars bs p ≡ got nd q → n ≡ arity nd) (e : Expr) (q : ℕ)
-      (h : At e vars bs p q) where
-    pub children-at : AllAt (childrenOf e) vars bs (p + k) q
-    children-at = rw long (at-children vars bs e p q h)
+  module _ (p k n : ℕ) (next : k ≡ nodeEnd vars bs p) (many : n ≡ arity (nodeRead vars bs p)) (e : Expr) (q : ℕ) (h : At e vars bs p q) where
+    pub children-at : AllAt (childrenOf e) vars bs k q
+    children-at = rw next (at-children vars bs e p q h)
 
     pub children-counted : branchCount (childrenOf e) ≡ n
-    children-counted = children-many e ∙ sym (many (nodeOf e) (p + nodeLen bs p) (at-got vars bs e p q h))
+    children-counted = children-many e ∙ sym (many ∙ ap arity (at-read vars bs e p q h))
 
   -- ---- so many trees
 
@@ -122,14 +122,14 @@ module _ (vars : ℕ) (bs : List ℕ) where
     counts = ap nodeCounts (split .is)
 
     pub first-standing : Standing vars bs p left
-    first-standing = record { tree = split .first; end = split .middle; at = split .before; few = omega (arith, counts, h .few) }
+    first-standing = record { tree = split .first; end = split .middle; at = split .before; few = omega (arith, counts, h .few); most = h .most }
 
     pub first-and-rest : FirstAndRest p left (n - 1)
     first-and-rest = record {
       tree = split .first;
       end = split .middle;
       at = split .before;
-      rest = record { trees = split .rest; end = h .end; at = split .after; few = omega (arith, counts, h .few); many = split .many };
+      rest = record { trees = split .rest; end = h .end; at = split .after; few = omega (arith, counts, h .few); most = h .most; many = split .many };
     }
 
     -- the rest stand where the first ends
@@ -145,9 +145,8 @@ module _ (vars : ℕ) (bs : List ℕ) where
   -- ---- where trees end
 
   -- a tree where its node's children end
-  pub node-ends : (p k n r : ℕ) → k ≡ nodeLen bs p → ((nd : Node) (q : ℕ) → node vars bs p ≡ got nd q → n ≡ arity nd) → AllEnd vars bs (p + k) n r →
-      EndsAt vars bs p r
-  node-ends p k n r long many t e q h = t (childrenOf e) q (children-at p k n long many e q h) (children-counted p k n long many e q h)
+  pub node-ends : (p k n r : ℕ) → k ≡ nodeEnd vars bs p → n ≡ arity (nodeRead vars bs p) → AllEnd vars bs k n r → EndsAt vars bs p r
+  node-ends p k n r next many t e q h = t (childrenOf e) q (children-at p k n next many e q h) (children-counted p k n next many e q h)
 
   pub none-ends : (p n : ℕ) → n < 1 → AllEnd vars bs p n p
   none-ends p n l es q h m = none-left es p q n l h m
@@ -163,8 +162,8 @@ module _ (vars : ℕ) (bs : List ℕ) where
   unfolding At
   one-ends p r t e q h = t (more e none) q (record { middle = q; before = h; after = refl }) refl
 
-  -- of n trees, after the first node, of k bytes, its c children and the other trees
-  module _ (p k n c : ℕ) (some : 1 ≤ n) (long : k ≡ nodeLen bs p) (many : (nd : Node) (q : ℕ) → node vars bs p ≡ got nd q → c ≡ arity nd) where
+  -- of n trees, after the first node, which ends at k, its c children and the other trees
+  module _ (p k n c : ℕ) (some : 1 ≤ n) (next : k ≡ nodeEnd vars bs p) (many : c ≡ arity (nodeRead vars bs p)) where
     module _ (es : Exprs) (q : ℕ) (h : AllAt es vars bs p q) (m : branchCount es ≡ n) where
       head : MoreAt es vars bs p q (n - 1)
       head = one-more es p q n some h m
@@ -172,14 +171,14 @@ module _ (vars : ℕ) (bs : List ℕ) where
       abbrev opened : Exprs
       opened = followed (childrenOf (head .first)) (head .rest)
 
-      opened-at : AllAt opened vars bs (p + k) q
+      opened-at : AllAt opened vars bs k q
       opened-at =
-          let below = children-at p k c long many (head .first) (head .middle) (head .before) in
-          followed-at vars bs (childrenOf (head .first)) (head .rest) (p + k) (head .middle) q below (head .after)
+          let below = children-at p k c next many (head .first) (head .middle) (head .before) in
+          followed-at vars bs (childrenOf (head .first)) (head .rest) k (head .middle) q below (head .after)
 
       opened-many : branchCount opened ≡ n - 1 + c
       opened-many =
-          let below = children-counted p k c long many (head .first) (head .middle) (head .before) in
+          let below = children-counted p k c next many (head .first) (head .middle) (head .before) in
           omega (arith, followed-count (childrenOf (head .first)) (head .rest), below, head .many)
 
       opened-nodes : nodeCounts opened ≤ nodeCounts es
@@ -188,7 +187,7 @@ module _ (vars : ℕ) (bs : List ℕ) where
           let all : nodeCounts es ≡ nodeCount (head .first) + nodeCounts (head .rest) = ap nodeCounts (head .is) in
           omega (arith, followed-nodes (childrenOf (head .first)) (head .rest), children-count (head .first))
 
-    pub past-standing : (left : ℕ) → StandingAll vars bs p left n → StandingAll vars bs (p + k) left (n - 1 + c)
+    pub past-standing : (left : ℕ) → StandingAll vars bs p left n → StandingAll vars bs k left (n - 1 + c)
     past-standing left h =
         let es = h .trees in
         record {
@@ -196,8 +195,9 @@ module _ (vars : ℕ) (bs : List ℕ) where
           end = h .end;
           at = opened-at es (h .end) (h .at) (h .many);
           few = omega (arith, opened-nodes es (h .end) (h .at) (h .many), h .few);
+          most = h .most;
           many = opened-many es (h .end) (h .at) (h .many);
         }
 
-    pub past-ends : (r : ℕ) → AllEnd vars bs (p + k) (n - 1 + c) r → AllEnd vars bs p n r
+    pub past-ends : (r : ℕ) → AllEnd vars bs k (n - 1 + c) r → AllEnd vars bs p n r
     past-ends r t es q h m = t (opened es q h m) q (opened-at es q h m) (opened-many es q h m)

@@ -4,14 +4,13 @@ use Prim.Native.Nat.{ℕ, zero, suc, _+_, _*_}
 use mathlib.Core.Bool.{Bool, true, false, _&&_}
 use mathlib.Core.List.{List}
 use lib.Dec.{leb}
-use Rattle.alpha.specs.Sheet.{Node, Expr, Exprs}
-use Rattle.alpha.specs.Read.{got, node}
+use Rattle.alpha.specs.Sheet.{Expr, Exprs}
 use Rattle.alpha.specs.Reach.{limit, rowReach, reach, reachAll}
 use Rattle.alpha.specs.Written.{branchCount}
 use Rattle.affine.specs.Reading.{rowFields}
 use Rattle.affine.specs.declared.Reached.{Reached}
 use Rattle.affine.specs.declared.Reached.the-variants.{Within, Past}
-use Rattle.laws.specs.At.{At, AllAt}
+use Rattle.laws.specs.At.{nodeRead, At, AllAt}
 use Rattle.laws.specs.Children.{reachHere, reachBelow}
 use Rattle.laws.specs.Sheets.{varsOf}
 use Rattle.tree.specs.declared.Bounded.{Bounded}
@@ -32,9 +31,9 @@ unfoldable pub constraintsReach : ℕ → ℕ → ℕ → List ℕ → ℕ → B
 constraintsReach r n zero bs p = true
 constraintsReach r n (suc k) bs p = leb (rowReach r (rowFields n bs (p + 8))) limit && constraintsReach r n k bs (p + (16 + 8 * n))
 
--- y is the reach at the children of each node read at p, or that it passes the limit, where the coordinates reach r
+-- y is the reach at the children of the node read at p, or that it passes the limit, where the coordinates reach r
 abbrev pub NodeReached : List ℕ → ℕ → ℕ → Reached → Type 0
-NodeReached bs p r y = (nd : Node) (q : ℕ) → node (varsOf bs) bs p ≡ got nd q → y ≡ reachedAt (reachHere nd r) (reachBelow nd r)
+NodeReached bs p r y = y ≡ reachedAt (reachHere (nodeRead (varsOf bs) bs p) r) (reachBelow (nodeRead (varsOf bs) bs p) r)
 
 -- t is the answer on each tree that stands from p on
 abbrev pub TreeBounded : List ℕ → ℕ → ℕ → Bounded → Type 0

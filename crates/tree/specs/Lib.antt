@@ -1,4 +1,5 @@
 -- What the walkers over prefix nodes require and answer, by the definitions of crate alpha.
+pub mod Classes
 pub mod Standing
 pub mod Ends
 pub mod Prepared

@@ -3,12 +3,10 @@ use mathlib.Core.Path.{_≡_}
 use Prim.Native.Nat.{ℕ}
 use mathlib.Core.List.{List}
 use mathlib.Core.Option.{Option, Option.none, some}
-use Rattle.alpha.specs.Sheet.{Sort, Sort.integer, Sort.boolean, Node, Expr, Exprs, Expr.ite, Exprs.none, Exprs.more}
-use Rattle.alpha.specs.Read.{got, node}
+use Rattle.alpha.specs.Sheet.{Sort, Sort.integer, Sort.boolean, Expr, Exprs, Expr.ite, Exprs.none, Exprs.more}
 use Rattle.alpha.specs.Typing.{agree, typeOf, typesOf}
 use Rattle.alpha.specs.Written.{branchCount}
 use Rattle.laws.specs.At.{At, AllAt}
-use Rattle.laws.specs.Children.{sortBy}
 use Rattle.laws.specs.Sheets.{headsOf, varsOf}
 use Rattle.tree.specs.declared.Typed.{Typed}
 use Rattle.tree.specs.declared.Typed.the-variants.{Integer, Boolean, Mistyped}
@@ -60,6 +58,6 @@ abbrev pub NextTyped : List ℕ → Typed → Typed → Type 0
 NextTyped bs t r =
     (o : Option Sort) (p : ℕ) → t ≡ typedAt o p → (e : Expr) (q : ℕ) → At e (varsOf bs) bs p q → r ≡ typedAt (agree o (typeOf e (headsOf bs))) q
 
--- r is what each node read at p gives for children of the type t
-abbrev pub NodeTyped : List ℕ → ℕ → Typed → Typed → Type 0
-NodeTyped bs p t r = (nd : Node) (n : ℕ) → node (varsOf bs) bs p ≡ got nd n → (o : Option Sort) (q : ℕ) → t ≡ typedAt o q → r ≡ typedAt (sortBy nd o) q
+-- r is the type of each leaf that stands from p to q
+abbrev pub LeafTyped : List ℕ → ℕ → ℕ → Typed → Type 0
+LeafTyped bs p q r = (e : Expr) → At e (varsOf bs) bs p q → r ≡ typedAt (typeOf e (headsOf bs)) q

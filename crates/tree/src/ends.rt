@@ -1,12 +1,12 @@
 // Where trees end, kept by place, so that a tree is passed without a walk. Assumes nothing.
 use super::node::children;
-use super::node::node_len;
+use super::node::node_end;
 use super::skip::skip;
 use super::variable::kind_of;
 use sheet::table::body_place;
 use sheet::table::variable_count;
 ghost use mathlib.Core.Path.{_≡_};
-ghost use Prim.Native.Nat.{_≤_, _<_};
+ghost use Prim.Native.Nat.{_<_};
 ghost use Rattle.laws.specs.Sheets.{varsOf};
 ghost use Rattle.tree.specs.Standing.{Standing, StandingAll};
 ghost use Rattle.tree.specs.Ends.{EndsAt, EndsKept, AllEnd};
@@ -34,10 +34,10 @@ fn keep(s: &[u8], at: usize, end: usize, ends: &mut [u16; 8192])
 
 // The tree at `at`, of at most `left` nodes: its end, and the table with the ends of it and of all trees in it.
 fn keep_tree(s: &[u8], at: usize, left: usize, ends: &mut [u16; 8192]) -> usize
-    requires { ⌜ Standing (varsOf (now s)) (now s) at left × (left ≤ 2048) × EndsKept (now s) (now ends) ⌝ }
+    requires { ⌜ Standing (varsOf (now s)) (now s) at left × EndsKept (now s) (now ends) ⌝ }
     ensures { λ r. ⌜ EndsAt (varsOf (now (s .entry))) (now (s .entry)) at r × EndsKept (now (s .entry)) (now (ends .exit)) ⌝ }
 {
-    let next = at + node_len(s, at);
+    let next = node_end(s, at);
     let end = keep_trees(s, next, left - 1, children(s, at), ends);
     keep(s, at, end, ends);
     end
@@ -45,7 +45,7 @@ fn keep_tree(s: &[u8], at: usize, left: usize, ends: &mut [u16; 8192]) -> usize
 
 // The same of `many` trees one after another.
 fn keep_trees(s: &[u8], at: usize, left: usize, many: usize, ends: &mut [u16; 8192]) -> usize
-    requires { ⌜ StandingAll (varsOf (now s)) (now s) at left many × (left ≤ 2048) × EndsKept (now s) (now ends) ⌝ }
+    requires { ⌜ StandingAll (varsOf (now s)) (now s) at left many × EndsKept (now s) (now ends) ⌝ }
     ensures { λ r. ⌜ AllEnd (varsOf (now (s .entry))) (now (s .entry)) at many r × EndsKept (now (s .entry)) (now (ends .exit)) ⌝ }
 {
     let mut next = at;
@@ -82,7 +82,7 @@ pub fn keep_all(s: &[u8], tab: &[usize; 102], ends: &mut [u16; 8192])
 
 // Where the tree at `at` ends: by the table, or else by a walk.
 pub fn end_of(s: &[u8], ends: &[u16; 8192], at: usize, left: usize) -> usize
-    requires { ⌜ Standing (varsOf (now s)) (now s) at left × (left ≤ 2048) × EndsKept (now s) (now ends) ⌝ }
+    requires { ⌜ Standing (varsOf (now s)) (now s) at left × EndsKept (now s) (now ends) ⌝ }
     ensures { λ r. ⌜ EndsAt (varsOf (now (s .entry))) (now (s .entry)) at r ⌝ }
 {
     let i = at / 8;

@@ -20,6 +20,29 @@ mod types;
 pub mod typing;
 pub mod variable;
 
+// What kind of node a code stands for. Every walk over nodes goes by it, case by case: a new kind of node is a new case here.
+pub enum Class {
+    Leaf,
+    Operator,
+    Case,
+    Restriction,
+    Dependence,
+}
+
+// The leaves: a variable, or a constant.
+pub enum LeafKind {
+    Variable,
+    Integer,
+    Boolean,
+}
+
+// The operators, by their operands: one, two, or the three of an if.
+pub enum OperatorKind {
+    Unary,
+    Binary,
+    If,
+}
+
 // What a place was found to hold where a tree of some dimension is wanted: a tree that fits, with the place after it and the nodes
 // left, or none.
 pub enum Shaped {

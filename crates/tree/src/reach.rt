@@ -1,8 +1,10 @@
 // REACH of a tree: from the top down, where the coordinates reach so far. Assumes nothing.
 use super::Bounded;
+use super::Class;
 use super::node::children;
+use super::node::class_of;
 use super::node::natural;
-use super::node::node_len;
+use super::node::node_end;
 use affine::Reached;
 use affine::map_reach;
 use affine::map_read;
@@ -15,7 +17,8 @@ ghost use lib.Dec.{leb};
 ghost use Rattle.alpha.specs.Reach.{limit, rowReach};
 ghost use Rattle.affine.specs.Reading.{rowFields};
 ghost use Rattle.laws.specs.Sheets.{varsOf};
-ghost use Rattle.tree.specs.Standing.{Noded, Standing, StandingAll};
+ghost use Rattle.tree.specs.declared.Class.the-variants.{Restriction};
+ghost use Rattle.tree.specs.Standing.{Noded, NodedAs, Standing, StandingAll};
 ghost use Rattle.tree.specs.Bounding.{constraintsReach, NodeReached, TreeBounded, TreesBounded};
 
 // The row of n coefficients at `at` passes no limit where the coordinates reach `around`.
@@ -47,39 +50,48 @@ fn constraints_within(s: &[u8], at: usize, count: usize, n: usize, around: u64) 
     true
 }
 
+// How far they reach at the child of the restriction at `at`: as far, or a constraint passes the limit.
+fn restriction_reach(s: &[u8], at: usize, around: u64) -> Reached
+    requires { ⌜ NodedAs (now s) at Restriction × (1 ≤ around) ⌝ }
+    ensures { λ r. ⌜ NodeReached (now (s .entry)) at around r ⌝ }
+{
+    if constraints_within(s, at + 24, natural(s, at + 16), natural(s, at + 8), around) {
+        Reached::Within(around)
+    } else {
+        Reached::Past
+    }
+}
+
 // How far the coordinates reach at the children of the node at `at`, or that the node itself passes the limit.
 fn reach_below(s: &[u8], at: usize, around: u64) -> Reached
     requires { ⌜ Noded (varsOf (now s)) (now s) at × (1 ≤ around) ⌝ }
     ensures { λ r. ⌜ NodeReached (now (s .entry)) at around r ⌝ }
 {
-    let code = natural(s, at);
-    if code == 8 {
-        return map_reach(map_read(s, at + 8), around);
+    let class = class_of(s, at);
+    match class {
+        Class::Leaf => Reached::Within(around),
+        Class::Operator => Reached::Within(around),
+        Class::Case => Reached::Within(around),
+        Class::Restriction => restriction_reach(s, at, around),
+        Class::Dependence => map_reach(map_read(s, at + 8), around),
     }
-    if code == 7 {
-        if constraints_within(s, at + 24, natural(s, at + 16), natural(s, at + 8), around) {
-            return Reached::Within(around);
-        }
-        return Reached::Past;
-    }
-    Reached::Within(around)
 }
 
 // The tree at `at`, of at most `left` nodes, where the coordinates reach `around`.
 pub fn reach(s: &[u8], at: usize, left: usize, around: u64) -> Bounded
-    requires { ⌜ Standing (varsOf (now s)) (now s) at left × (left ≤ 2048) × (1 ≤ around) ⌝ }
+    requires { ⌜ Standing (varsOf (now s)) (now s) at left × (1 ≤ around) ⌝ }
     ensures { λ r. ⌜ TreeBounded (now (s .entry)) at around r ⌝ }
 {
     let r = reach_below(s, at, around);
     let Reached::Within(below) = r else {
         return Bounded::Beyond;
     };
-    reach_all(s, at + node_len(s, at), left - 1, children(s, at), below)
+    reach_all(s, node_end(s, at), left - 1, children(s, at), below)
 }
 
 // `count` trees one after another.
 fn reach_all(s: &[u8], at: usize, left: usize, count: usize, around: u64) -> Bounded
-    requires { ⌜ StandingAll (varsOf (now s)) (now s) at left count × (left ≤ 2048) × (count ≤ 64) × (1 ≤ around) ⌝ }
+    requires { ⌜ StandingAll (varsOf (now s)) (now s) at left count × (1 ≤ around) ⌝ }
     ensures { λ r. ⌜ TreesBounded (now (s .entry)) at around count r ⌝ }
 {
     let mut p = at;

@@ -1,48 +1,65 @@
 // SHAPE of a tree: from the top down in the dimension that is wanted. A dimension that disagrees ends the walk, since a tree that does
 // not fit and no tree at all are refused alike. Assumes nothing.
+use super::Class;
+use super::LeafKind;
 use super::Shaped;
 use super::node::children;
+use super::node::class_of;
+use super::node::leaf_of;
 use super::node::natural;
-use super::node::node_len;
+use super::node::node_end;
 use super::variable::dimension_of;
 ghost use mathlib.Core.Path.{_≡_};
-ghost use Prim.Native.Nat.{ℕ, _+_, _≤_};
-ghost use Rattle.alpha.specs.Sheet.{Node};
-ghost use Rattle.alpha.specs.Read.{got};
-ghost use Rattle.alpha.specs.Read as Read;
+ghost use Prim.Native.Nat.{ℕ, _≤_};
+ghost use lib.Dec.{eqb};
+ghost use Rattle.laws.specs.At.{nodeRead};
 ghost use Rattle.laws.specs.Children.{fitsHere, wanted};
 ghost use Rattle.laws.specs.Sheets.{headsOf, varsOf};
-ghost use Rattle.tree.specs.Standing.{Noded};
+ghost use Rattle.tree.specs.declared.Class.the-variants.{Leaf};
+ghost use Rattle.tree.specs.Standing.{Noded, NodedAs};
 ghost use Rattle.tree.specs.Prepared.{Prepared};
 ghost use Rattle.tree.specs.Judged.{Flat, Judges, treeJudged, treesJudged};
+
+// The dimension of the leaf at `at`: a variable's own, and none of a constant.
+fn leaf_dimension(s: &[u8], tab: &[usize; 102], at: usize) -> usize
+    requires { ⌜ Prepared (now s) (now tab) × NodedAs (now s) at Leaf ⌝ }
+    ensures { λ r. ⌜ ((n : ℕ) → eqb r n ≡ fitsHere (nodeRead (varsOf (now (s .entry))) (now (s .entry)) at) (headsOf (now (s .entry))) n) ⌝ }
+{
+    let kind = leaf_of(s, at);
+    match kind {
+        LeafKind::Variable => dimension_of(s, tab, natural(s, at + 8)),
+        LeafKind::Integer => 0,
+        LeafKind::Boolean => 0,
+    }
+}
 
 // The node at `at` may itself stand where `want` dimensions are wanted.
 fn fits_here(s: &[u8], tab: &[usize; 102], at: usize, want: usize) -> bool
     requires { ⌜ Prepared (now s) (now tab) × Noded (varsOf (now s)) (now s) at ⌝ }
-    ensures { λ r. ⌜ ((nd : Node) (q : ℕ) → Read.node (varsOf (now (s .entry))) (now (s .entry)) at ≡ got nd q → r ≡ fitsHere nd (headsOf (now (s .entry))) want) ⌝ }
+    ensures { λ r. ⌜ r ≡ fitsHere (nodeRead (varsOf (now (s .entry))) (now (s .entry)) at) (headsOf (now (s .entry))) want ⌝ }
 {
-    let code = natural(s, at);
-    if code < 1 {
-        return dimension_of(s, tab, natural(s, at + 8)) == want;
+    let class = class_of(s, at);
+    match class {
+        Class::Leaf => leaf_dimension(s, tab, at) == want,
+        Class::Operator => true,
+        Class::Case => true,
+        Class::Restriction => natural(s, at + 8) == want,
+        Class::Dependence => natural(s, at + 8) == want,
     }
-    if code < 3 {
-        return 0 == want;
-    }
-    if code < 7 {
-        return true;
-    }
-    natural(s, at + 8) == want
 }
 
 // How many dimensions are wanted of its children: below a dependence its rows.
 fn wanted_below(s: &[u8], at: usize, want: usize) -> usize
     requires { ⌜ Noded (varsOf (now s)) (now s) at × (want ≤ 4) ⌝ }
-    ensures { λ r. ⌜ ((nd : Node) (q : ℕ) → Read.node (varsOf (now (s .entry))) (now (s .entry)) at ≡ got nd q → r ≡ wanted nd want) × (r ≤ 4) ⌝ }
+    ensures { λ r. ⌜ (r ≡ wanted (nodeRead (varsOf (now (s .entry))) (now (s .entry)) at) want) × (r ≤ 4) ⌝ }
 {
-    if natural(s, at) == 8 {
-        natural(s, at + 16)
-    } else {
-        want
+    let class = class_of(s, at);
+    match class {
+        Class::Leaf => want,
+        Class::Operator => want,
+        Class::Case => want,
+        Class::Restriction => want,
+        Class::Dependence => natural(s, at + 16),
     }
 }
 
@@ -67,7 +84,7 @@ pub fn shape(
     if !fits_here(s, tab, at, want) {
         return Shaped::Bad;
     }
-    let next = at + node_len(s, at);
+    let next = node_end(s, at);
     let below = wanted_below(s, at, want);
     shape_all(s, tab, next, left - 1, deep - 1, below, children(s, at))
 }
@@ -82,7 +99,7 @@ fn shape_all(
     want: usize,
     count: usize,
 ) -> Shaped
-    requires { ⌜ Prepared (now s) (now tab) × Flat (now s) at left × (deep ≤ 32) × (want ≤ 4) × (count ≤ 64) ⌝ }
+    requires { ⌜ Prepared (now s) (now tab) × Flat (now s) at left × (deep ≤ 32) × (want ≤ 4) ⌝ }
     ensures { λ r. ⌜ Judges (now (s .entry)) (treesJudged (now (s .entry)) at left deep want count) r ⌝ }
 {
     let mut p = at;

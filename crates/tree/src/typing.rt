@@ -1,20 +1,27 @@
 // TYPE of a tree: from its children up. Assumes nothing.
+use super::Class;
+use super::LeafKind;
+use super::OperatorKind;
 use super::Typed;
 use super::node::children;
+use super::node::class_of;
+use super::node::leaf_of;
 use super::node::natural;
-use super::node::node_len;
+use super::node::node_end;
+use super::node::operator_of;
 use super::variable::sort_of;
 ghost use mathlib.Core.Path.{_≡_};
-ghost use Prim.Native.Nat.{ℕ, _+_, _≤_, _<_};
+ghost use Prim.Native.Nat.{ℕ, _≤_, _<_};
 ghost use mathlib.Core.Option.{Option, some};
 ghost use lib.ListN.{getD};
 ghost use Rattle.alpha.specs.Sheet.{Sort};
 ghost use Rattle.alpha.specs.Read.{noHead, unaryOf, binaryOf};
 ghost use Rattle.alpha.specs.Typing.{unarySort, binarySort};
 ghost use Rattle.laws.specs.Sheets.{headsOf, varsOf};
-ghost use Rattle.tree.specs.Standing.{Noded, Standing, StandingAll};
+ghost use Rattle.tree.specs.declared.Class.the-variants.{Leaf, Operator};
+ghost use Rattle.tree.specs.Standing.{NodedAs, Standing, StandingAs, StandingAll};
 ghost use Rattle.tree.specs.Prepared.{Prepared};
-ghost use Rattle.tree.specs.Sorted.{typedAt, asInteger, asBoolean, anyBoolean, After, IfAt, TreeTyped, TreesTyped, NextTyped, NodeTyped};
+ghost use Rattle.tree.specs.Sorted.{typedAt, asInteger, asBoolean, anyBoolean, After, LeafTyped, IfAt, TreeTyped, TreesTyped, NextTyped};
 
 // The type of variable v, of a node that ends at `next`.
 fn variable_type(s: &[u8], tab: &[usize; 102], v: usize, next: usize) -> Typed
@@ -58,17 +65,6 @@ fn any_boolean(t: Typed) -> Typed
     }
 }
 
-// A type handed on by its parts, which the compiler keeps in registers.
-fn handed(t: Typed) -> Typed
-    ensures { λ r. ⌜ r ≡ t ⌝ }
-{
-    match t {
-        Typed::Integer(q) => Typed::Integer(q),
-        Typed::Boolean(q) => Typed::Boolean(q),
-        Typed::Mistyped => Typed::Mistyped,
-    }
-}
-
 // What the unary operator `op` gives for an operand of the type t: - takes an integer, not a boolean.
 fn unary_type(op: usize, t: Typed) -> Typed
     requires { ⌜ op ≤ 1 ⌝ }
@@ -95,47 +91,58 @@ fn binary_type(op: usize, t: Typed) -> Typed
     as_boolean(t)
 }
 
-// What the node at `at`, no if, gives for children of the type t.
-fn node_type(s: &[u8], at: usize, t: Typed) -> Typed
-    requires { ⌜ Noded (varsOf (now s)) (now s) at ⌝ }
-    ensures { λ r. ⌜ NodeTyped (now (s .entry)) at t r ⌝ }
+// The type of the leaf at `at`, which ends at `next`.
+fn leaf_type(s: &[u8], tab: &[usize; 102], at: usize, next: usize) -> Typed
+    requires { ⌜ Prepared (now s) (now tab) × NodedAs (now s) at Leaf ⌝ }
+    ensures { λ r. ⌜ LeafTyped (now (s .entry)) at next r ⌝ }
 {
-    let code = natural(s, at);
-    if code == 3 {
-        return unary_type(natural(s, at + 8), t);
+    let kind = leaf_of(s, at);
+    match kind {
+        LeafKind::Variable => variable_type(s, tab, natural(s, at + 8), next),
+        LeafKind::Integer => Typed::Integer(next),
+        LeafKind::Boolean => Typed::Boolean(next),
     }
-    if code == 4 {
-        return binary_type(natural(s, at + 8), t);
-    }
-    t
 }
 
 // The type of the tree at `at`, of at most `left` nodes.
 pub fn type_of(s: &[u8], tab: &[usize; 102], at: usize, left: usize) -> Typed
-    requires { ⌜ Prepared (now s) (now tab) × Standing (varsOf (now s)) (now s) at left × (left ≤ 2048) ⌝ }
+    requires { ⌜ Prepared (now s) (now tab) × Standing (varsOf (now s)) (now s) at left ⌝ }
     ensures { λ r. ⌜ TreeTyped (now (s .entry)) at r ⌝ }
 {
-    let code = natural(s, at);
-    let next = at + node_len(s, at);
-    if code < 1 {
-        return variable_type(s, tab, natural(s, at + 8), next);
+    let class = class_of(s, at);
+    let next = node_end(s, at);
+    match class {
+        Class::Leaf => leaf_type(s, tab, at, next),
+        Class::Operator => operator_type(s, tab, at, left),
+        Class::Case => type_all(s, tab, next, left - 1, children(s, at)),
+        Class::Restriction => type_of(s, tab, next, left - 1),
+        Class::Dependence => type_of(s, tab, next, left - 1),
     }
-    if code < 2 {
-        return Typed::Integer(next);
+}
+
+// The type of the operator at `at`, with its operands.
+fn operator_type(s: &[u8], tab: &[usize; 102], at: usize, left: usize) -> Typed
+    requires { ⌜ Prepared (now s) (now tab) × StandingAs (now s) at left Operator ⌝ }
+    ensures { λ r. ⌜ TreeTyped (now (s .entry)) at r ⌝ }
+{
+    let kind = operator_of(s, at);
+    let next = node_end(s, at);
+    match kind {
+        OperatorKind::Unary => {
+            let t = type_of(s, tab, next, left - 1);
+            unary_type(natural(s, at + 8), t)
+        }
+        OperatorKind::Binary => {
+            let t = type_all(s, tab, next, left - 1, 2);
+            binary_type(natural(s, at + 8), t)
+        }
+        OperatorKind::If => type_if(s, tab, next, left - 1),
     }
-    if code < 3 {
-        return Typed::Boolean(next);
-    }
-    if code == 5 {
-        return type_if(s, tab, next, left - 1);
-    }
-    let t = type_all(s, tab, next, left - 1, children(s, at));
-    node_type(s, at, t)
 }
 
 // The type of an if whose three parts stand from `at` on.
 fn type_if(s: &[u8], tab: &[usize; 102], at: usize, left: usize) -> Typed
-    requires { ⌜ Prepared (now s) (now tab) × StandingAll (varsOf (now s)) (now s) at left 3 × (left ≤ 2048) ⌝ }
+    requires { ⌜ Prepared (now s) (now tab) × StandingAll (varsOf (now s)) (now s) at left 3 ⌝ }
     ensures { λ r. ⌜ IfAt (now (s .entry)) at r ⌝ }
 {
     let t = type_of(s, tab, at, left);
@@ -148,7 +155,7 @@ fn type_if(s: &[u8], tab: &[usize; 102], at: usize, left: usize) -> Typed
 
 // The type that `count` trees have, which stand one after another from `at` on.
 fn type_all(s: &[u8], tab: &[usize; 102], at: usize, left: usize, count: usize) -> Typed
-    requires { ⌜ Prepared (now s) (now tab) × StandingAll (varsOf (now s)) (now s) at left count × (left ≤ 2048) × (1 ≤ count) × (count ≤ 64) ⌝ }
+    requires { ⌜ Prepared (now s) (now tab) × StandingAll (varsOf (now s)) (now s) at left count × (1 ≤ count) ⌝ }
     ensures { λ r. ⌜ TreesTyped (now (s .entry)) at count r ⌝ }
 {
     let mut t = type_of(s, tab, at, left);
@@ -157,12 +164,12 @@ fn type_all(s: &[u8], tab: &[usize; 102], at: usize, left: usize, count: usize) 
         t = next_type(s, tab, t, left);
         more -= 1;
     }
-    handed(t)
+    t
 }
 
 // The type that trees of the type t have together with the tree that stands where they end.
 fn next_type(s: &[u8], tab: &[usize; 102], t: Typed, left: usize) -> Typed
-    requires { ⌜ Prepared (now s) (now tab) × After t (λ p. Standing (varsOf (now s)) (now s) p left) × (left ≤ 2048) ⌝ }
+    requires { ⌜ Prepared (now s) (now tab) × After t (λ p. Standing (varsOf (now s)) (now s) p left) ⌝ }
     ensures { λ r. ⌜ NextTyped (now (s .entry)) t r ⌝ }
 {
     match t {

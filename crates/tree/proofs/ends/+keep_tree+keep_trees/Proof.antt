@@ -5,7 +5,7 @@ use native.Mathlib.Omega.{arith}
 use Rattle.laws.specs.Sheets.{varsOf}
 use Rattle.tree.specs.Standing.{StandingAll}
 use Rattle.tree.specs.Ends.{AllEnd, EndsKept}
-use Rattle.tree.proofs.Standings.{standing-noded, standing-some, standing-there, standing-children, first-standing, rest-standing}
+use Rattle.tree.proofs.Standings.{standing-noded, standing-some, standing-children, first-standing, rest-standing}
 use Rattle.tree.proofs.Standings.{node-ends, none-ends, more-ends}
 use borrow.Fn.Kinds.{In}
 use borrow.Fn.PlainCycle.{Measures, is, falls, and}
@@ -17,7 +17,7 @@ use Rattle.tree.proofs.ends.keep_trees.Kinds as keep-trees-kinds
 use Rattle.tree.proofs.ends.+keep_tree+keep_trees.Lts-keep_trees as keep-trees-lts
 use Rattle.tree.proofs.ends.keep.Reads as keep-reads
 use Rattle.tree.proofs.node.children.Reads as children-reads
-use Rattle.tree.proofs.node.node_len.Reads as node-len-reads
+use Rattle.tree.proofs.node.node_end.Reads as node-end-reads
 use Rattle.tree.proofs.ends.+keep_tree+keep_trees.{statement}
 use Rattle.tree.proofs.ends.+keep_tree+keep_trees.Tie.{close}
 
@@ -44,8 +44,8 @@ keep-trees-below t =
 
 abbrev keep-tree-uses : ℕ → keep-tree-lts.Claims
 keep-tree-uses t = (
-  node-len-reads.Asked,
-  node-len-reads.Learnt,
+  node-end-reads.Asked,
+  node-end-reads.Learnt,
   children-reads.Asked,
   children-reads.Learnt,
   keep-trees-below t,
@@ -57,11 +57,8 @@ keep-tree-uses t = (
 abbrev keep-trees-uses : ℕ → keep-trees-lts.Claims
 keep-trees-uses t = (keep-tree-below t, keep-tree.Post)
 
-keep-tree-node-len-requires : (t : ℕ) → keep-tree-lts.Need-node-len-requires (keep-tree-uses t) (keep-tree-at t) keep-tree.Post
-keep-tree-node-len-requires t c κs = standing-noded _ _ _ _ (c .before .pre .1 .0)
-
-keep-tree-add-next : (t : ℕ) → keep-tree-lts.Need-add-next (keep-tree-uses t) (keep-tree-at t) keep-tree.Post
-keep-tree-add-next t c = omega (arith, standing-there _ _ _ _ (c .before .before .pre .1 .0), c .node-len .ensures)
+keep-tree-node-end-requires : (t : ℕ) → keep-tree-lts.Need-node-end-requires (keep-tree-uses t) (keep-tree-at t) keep-tree.Post
+keep-tree-node-end-requires t c κs = standing-noded _ _ _ _ (c .before .pre .1 .0)
 
 keep-tree-sub-keep-trees : (t : ℕ) → keep-tree-lts.Need-sub-keep-trees (keep-tree-uses t) (keep-tree-at t) keep-tree.Post
 keep-tree-sub-keep-trees t c = omega (arith, standing-some _ _ _ _ (c .before .before .pre .1 .0))
@@ -71,27 +68,27 @@ keep-tree-children-requires t c κs = standing-noded _ _ _ _ (c .before .before 
 
 keep-tree-keep-trees-requires : (t : ℕ) → keep-tree-lts.Need-keep-trees-requires (keep-tree-uses t) (keep-tree-at t) keep-tree.Post
 keep-tree-keep-trees-requires t c κs =
-    let after-node-len = c .before .before in
-    let s = after-node-len .before .before in
+    let after-node-end = c .before .before in
+    let s = after-node-end .before .before in
     let h = s .pre .1 .0 in
     let some = standing-some _ _ _ _ h in
     let is = s .pre .0 in
-    let below = standing-children _ _ _ _ h _ _ (after-node-len .node-len .ensures) (c .before .children .ensures) in
-    (omega arith, (below, omega (arith, s .pre .1 .1), s .pre .1 .2))
+    let below = standing-children _ _ _ _ h _ _ (after-node-end .node-end .ensures) (c .before .children .ensures) in
+    (omega arith, (below, s .pre .1 .1))
 
 keep-tree-keep-requires : (t : ℕ) → keep-tree-lts.Need-keep-requires (keep-tree-uses t) (keep-tree-at t) keep-tree.Post
 keep-tree-keep-requires t c κs =
     let after-keep-trees = c .before in
     let after-children = after-keep-trees .before .before in
-    let long = after-children .before .node-len .ensures in
-    (node-ends _ _ _ _ _ _ long (after-children .children .ensures) (after-keep-trees .keep-trees .ensures .0), after-keep-trees .keep-trees .ensures .1)
+    let next = after-children .before .node-end .ensures in
+    (node-ends _ _ _ _ _ _ next (after-children .children .ensures) (after-keep-trees .keep-trees .ensures .0), after-keep-trees .keep-trees .ensures .1)
 
 keep-tree-returns : (t : ℕ) → keep-tree-lts.Need-returns (keep-tree-uses t) (keep-tree-at t) keep-tree.Post
 keep-tree-returns t c =
     let after-keep-trees = c .before .before in
     let after-children = after-keep-trees .before .before in
-    let long = after-children .before .node-len .ensures in
-    (node-ends _ _ _ _ _ _ long (after-children .children .ensures) (after-keep-trees .keep-trees .ensures .0), c .keep .ensures)
+    let next = after-children .before .node-end .ensures in
+    (node-ends _ _ _ _ _ _ next (after-children .children .ensures) (after-keep-trees .keep-trees .ensures .0), c .keep .ensures)
 
 -- the trees from here on end where all of them end
 abbrev keep-trees-Inv-loop : keep-trees-lts.InvT-loop
@@ -102,7 +99,7 @@ abbrev keep-trees-μ-loop : keep-trees-lts.MeasureT-loop
 keep-trees-μ-loop s at left many ends₀ next₀ more₀ ends next more = more
 
 keep-trees-loop-holds : (t : ℕ) → keep-trees-lts.Need-loop-holds (keep-trees-uses t) (keep-trees-at t) keep-trees.Post keep-trees-Inv-loop keep-trees-μ-loop
-keep-trees-loop-holds t c = (c .before .pre .1 .0, c .before .pre .1 .2, λ r h. h)
+keep-trees-loop-holds t c = (c .before .pre .1 .0, c .before .pre .1 .1, λ r h. h)
 
 keep-trees-keep-tree-requires : (t : ℕ) → keep-trees-lts.Need-keep-tree-requires (keep-trees-uses t) (keep-trees-at t) keep-trees.Post keep-trees-Inv-loop keep-trees-μ-loop
 keep-trees-keep-tree-requires t c κs =
@@ -110,7 +107,7 @@ keep-trees-keep-tree-requires t c κs =
     let s = at-loop .before .before in
     let is = s .pre .0 in
     let first = first-standing _ _ _ _ _ (c .before .loop-test .taken) (at-loop .loop .inv .0) in
-    (omega arith, (first, s .pre .1 .1, at-loop .loop .inv .1))
+    (omega arith, (first, at-loop .loop .inv .1))
 
 keep-trees-sub-more :
     (t : ℕ) →
@@ -156,8 +153,7 @@ pub +keep-tree+keep-trees-spec : {M : Type 1} → statement M
 +keep-tree+keep-trees-spec = close μ-keep-tree μ-keep-trees (λ t. keep-tree-lts.spec (keep-tree-uses t)
     (keep-tree-at t)
     keep-tree.Post
-    (keep-tree-node-len-requires t)
-    (keep-tree-add-next t)
+    (keep-tree-node-end-requires t)
     (keep-tree-sub-keep-trees t)
     (keep-tree-children-requires t)
     (keep-tree-keep-trees-requires t)

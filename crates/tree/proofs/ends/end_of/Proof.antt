@@ -18,19 +18,19 @@ element-copy-out-j c = search needs
 cast-j : tie.Need-cast-j
 cast-j c =
     let s = c .before .before .before .before in
-    let low = s .pre .2 .low (s .args .at / 8) in
+    let low = s .pre .1 .low (s .args .at / 8) in
     search needs
 
 mul-result : tie.Need-mul-result
 mul-result c =
     let s = c .before .before .before .before .before in
-    let low = s .pre .2 .low (s .args .at / 8) in
+    let low = s .pre .1 .low (s .args .at / 8) in
     search needs
 
 returns : tie.Need-returns
 returns c =
     let s = c .before .before .before .before .before in
-    kept-ends _ _ (s .pre .2) _ _ _ (c .before .before .if2 .taken) refl (c .if3 .taken)
+    kept-ends _ _ (s .pre .1) _ _ _ (c .before .before .if2 .taken) refl (c .if3 .taken)
 
 skip-requires : tie.Need-skip-requires
 skip-requires c κs = search needs

@@ -19,7 +19,7 @@ keep-tree-requires c κs =
     let s = then1 .before .before .before in
     let k = then1 .before .kind-of .ensures in
     let body = no-input _ _ (s .pre .0) _ (s .pre .1) _ (k .0) (k .1) (then1 .if1 .taken) in
-    (body-standing _ _ (s .pre .0) _ (s .pre .1) body _ (c .before .body-place .ensures), omega arith, s .pre .2)
+    (body-standing _ _ (s .pre .0) _ (s .pre .1) body _ (c .before .body-place .ensures), s .pre .2)
 
 returns : tie.Need-returns
 returns c = search needs

@@ -6,7 +6,7 @@ use Rattle.laws.specs.Sheets.{varsOf}
 use Rattle.tree.specs.declared.Bounded.{Bounded}
 use Rattle.tree.specs.Standing.{StandingAll}
 use Rattle.tree.specs.Bounding.{TreesBounded}
-use Rattle.tree.proofs.Standings.{standing-noded, standing-some, standing-there, standing-children, children-few, first-standing, rest-standing}
+use Rattle.tree.proofs.Standings.{standing-noded, standing-some, standing-children, first-standing, rest-standing}
 use Rattle.tree.proofs.Reaching.{reach-some, reach-past, reach-goes, trees-none-bounded, first-ends, trees-beyond, trees-bounded}
 use borrow.Fn.Kinds.{In}
 use borrow.Fn.PlainCycle.{Measures, is, falls, and}
@@ -17,7 +17,7 @@ use Rattle.tree.proofs.reach.reach_all.Reads as reach-all
 use Rattle.tree.proofs.reach.reach_all.Kinds as reach-all-kinds
 use Rattle.tree.proofs.reach.+reach+reach_all.Lts-reach_all as reach-all-lts
 use Rattle.tree.proofs.node.children.Reads as children-reads
-use Rattle.tree.proofs.node.node_len.Reads as node-len-reads
+use Rattle.tree.proofs.node.node_end.Reads as node-end-reads
 use Rattle.tree.proofs.reach.reach_below.Reads as reach-below-reads
 use Rattle.tree.proofs.reach.+reach+reach_all.{statement}
 use Rattle.tree.proofs.reach.+reach+reach_all.Tie.{close}
@@ -45,8 +45,8 @@ abbrev reach-uses : ℕ → reach-lts.Claims
 reach-uses t = (
   reach-below-reads.Asked,
   reach-below-reads.Learnt,
-  node-len-reads.Asked,
-  node-len-reads.Learnt,
+  node-end-reads.Asked,
+  node-end-reads.Learnt,
   children-reads.Asked,
   children-reads.Learnt,
   reach-all-below t,
@@ -57,7 +57,7 @@ abbrev reach-all-uses : ℕ → reach-all-lts.Claims
 reach-all-uses t = (reach-below t, reach.Post)
 
 reach-reach-below-requires : (t : ℕ) → reach-lts.Need-reach-below-requires (reach-uses t) (reach-at t) reach.Post
-reach-reach-below-requires t c κs = (standing-noded _ _ _ _ (c .before .pre .1 .0), c .before .pre .1 .2)
+reach-reach-below-requires t c κs = (standing-noded _ _ _ _ (c .before .pre .1 .0), c .before .pre .1 .1)
 
 reach-enum-known-r : (t : ℕ) → reach-lts.Need-enum-known-r (reach-uses t) (reach-at t) reach.Post
 reach-enum-known-r t c = search needs
@@ -68,15 +68,10 @@ reach-enum-told t c = search needs
 reach-returns : (t : ℕ) → reach-lts.Need-returns (reach-uses t) (reach-at t) reach.Post
 reach-returns t c = reach-past _ _ _ _ (c .before .before .reach-below .ensures) (c .enum-told .given .1)
 
-reach-node-len-requires : (t : ℕ) → reach-lts.Need-node-len-requires (reach-uses t) (reach-at t) reach.Post
-reach-node-len-requires t c κs =
+reach-node-end-requires : (t : ℕ) → reach-lts.Need-node-end-requires (reach-uses t) (reach-at t) reach.Post
+reach-node-end-requires t c κs =
     let s = c .before .before .before .before .before in
     standing-noded _ _ _ _ (s .pre .1 .0)
-
-reach-add-reach-all : (t : ℕ) → reach-lts.Need-add-reach-all (reach-uses t) (reach-at t) reach.Post
-reach-add-reach-all t c =
-    let s = c .before .before .before .before .before .before in
-    omega (arith, standing-there _ _ _ _ (s .pre .1 .0), c .node-len .ensures)
 
 reach-sub-reach-all : (t : ℕ) → reach-lts.Need-sub-reach-all (reach-uses t) (reach-at t) reach.Post
 reach-sub-reach-all t c =
@@ -96,20 +91,19 @@ reach-reach-all-requires t c κs =
     let is = s .pre .0 in
     let h = s .pre .1 in
     let least = standing-some _ _ _ _ (h .0) in
-    let long = c .before .node-len .ensures in
+    let next = c .before .node-end .ensures in
     let many = c .children .ensures in
-    let few = children-few _ _ _ _ (h .0) _ _ long many in
     let says = after-reach-below .reach-below .ensures in
-    let below = reach-some _ _ _ _ says (h .2) (standing-noded _ _ _ _ (h .0)) _ (after-r .r .given .1) in
-    (omega arith, (standing-children _ _ _ _ (h .0) _ _ long many, omega arith, few, below))
+    let below = reach-some _ _ _ _ says (h .1) (standing-noded _ _ _ _ (h .0)) _ (after-r .r .given .1) in
+    (omega arith, (standing-children _ _ _ _ (h .0) _ _ next many, below))
 
 reach-returns-2 : (t : ℕ) → reach-lts.Need-returns-2 (reach-uses t) (reach-at t) reach.Post
 reach-returns-2 t c =
     let after-r = c .before .before .before .before in
     let after-reach-below = after-r .before .before in
     let says = after-reach-below .reach-below .ensures in
-    let long = c .before .before .node-len .ensures in
-    reach-goes _ _ _ _ says _ (after-r .r .given .1) _ _ long (c .before .children .ensures) _ (c .reach-all .ensures)
+    let next = c .before .before .node-end .ensures in
+    reach-goes _ _ _ _ says _ (after-r .r .given .1) _ _ next (c .before .children .ensures) _ (c .reach-all .ensures)
 
 -- what the trees from here on come to is what all of them do
 abbrev reach-all-Inv-loop : reach-all-lts.InvT-loop
@@ -127,7 +121,7 @@ reach-all-reach-requires t c κs =
     let s = c .before .before .before in
     let is = s .pre .0 in
     let h = s .pre .1 in
-    (omega arith, (first-standing _ _ _ _ _ (c .loop-test .taken) (c .before .loop .inv .0), h .1, h .3))
+    (omega arith, (first-standing _ _ _ _ _ (c .loop-test .taken) (c .before .loop .inv .0), h .1))
 
 reach-all-enum-known-r : (t : ℕ) → reach-all-lts.Need-enum-known-r (reach-all-uses t) (reach-all-at t) reach-all.Post reach-all-Inv-loop reach-all-μ-loop
 reach-all-enum-known-r t c = search needs
@@ -174,8 +168,7 @@ pub +reach+reach-all-spec : {M : Type 1} → statement M
     (reach-enum-known-r t)
     (reach-enum-told t)
     (reach-returns t)
-    (reach-node-len-requires t)
-    (reach-add-reach-all t)
+    (reach-node-end-requires t)
     (reach-sub-reach-all t)
     (reach-children-requires t)
     (reach-reach-all-requires t)

@@ -47,7 +47,7 @@ body-place-requires c κs =
 reach-requires : tie.Need-reach-requires
 reach-requires c κs =
     let s = c .before .before .before .before .before .before in
-    (body-standing _ _ (s .pre .0) _ (s .pre .1) (no-input-here (c .before)) _ (c .body-place .ensures), omega arith, omega arith)
+    (body-standing _ _ (s .pre .0) _ (s .pre .1) (no-input-here (c .before)) _ (c .body-place .ensures), omega arith)
 
 enum-told : tie.Need-enum-told
 enum-told c = search needs

@@ -4,9 +4,8 @@ use mathlib.Core.Path.{_≡_, refl, sym, _∙_}
 use native.Mathlib.Omega.{arith}
 use borrow.Author.Needs.{needs}
 use borrow.Author.Tests.{not-true, not-false}
-use Rattle.laws.proofs.Nodes.{node-next}
 use Rattle.tree.specs.Judged.{Flat, treesJudged}
-use Rattle.tree.proofs.Judging.{FirstOf, flat-first, noded-few, tree-no-nodes, tree-no-depth, tree-misfit}
+use Rattle.tree.proofs.Judging.{FirstOf, flat-first, tree-no-nodes, tree-no-depth, tree-misfit}
 use Rattle.tree.proofs.Judging.{tree-goes, trees-none, trees-bad, trees-go, bad-judges, fits-judges}
 use borrow.Fn.Kinds.{In}
 use borrow.Fn.PlainCycle.{Measures, is, falls, and}
@@ -17,7 +16,7 @@ use Rattle.tree.proofs.shape.shape_all.Reads as shape-all
 use Rattle.tree.proofs.shape.shape_all.Kinds as shape-all-kinds
 use Rattle.tree.proofs.shape.+shape+shape_all.Lts-shape_all as shape-all-lts
 use Rattle.tree.proofs.node.children.Reads as children-reads
-use Rattle.tree.proofs.node.node_len.Reads as node-len-reads
+use Rattle.tree.proofs.node.node_end.Reads as node-end-reads
 use Rattle.tree.proofs.shape.fits_here.Reads as fits-here-reads
 use Rattle.tree.proofs.shape.wanted_below.Reads as wanted-below-reads
 use Rattle.tree.proofs.shape.+shape+shape_all.{statement}
@@ -46,8 +45,8 @@ abbrev shape-uses : ℕ → shape-lts.Claims
 shape-uses t = (
   fits-here-reads.Asked,
   fits-here-reads.Learnt,
-  node-len-reads.Asked,
-  node-len-reads.Learnt,
+  node-end-reads.Asked,
+  node-end-reads.Learnt,
   wanted-below-reads.Asked,
   wanted-below-reads.Learnt,
   children-reads.Asked,
@@ -80,20 +79,14 @@ shape-fits-here-requires t c κs =
 shape-returns-3 : (t : ℕ) → shape-lts.Need-returns-3 (shape-uses t) (shape-at t) shape.Post
 shape-returns-3 t c =
     let else1 = c .before .before .before in
-    let first = the-first t (c .before .before) in
-    let n = first .noded in
-    let here = c .before .fits-here .ensures (n .what) (n .next) (n .read) in
+    let noded = the-first t (c .before .before) .noded in
+    let here = c .before .fits-here .ensures in
     let nodes = else1 .if1 .left in
     let depth = c .before .before .if2 .left in
-    bad-judges _ _ (tree-misfit _ _ _ _ _ nodes depth (n .what) (n .next) (n .read) (sym here ∙ not-true _ (c .if3 .taken)))
+    bad-judges _ _ (tree-misfit _ _ _ _ _ nodes depth noded (sym here ∙ not-true _ (c .if3 .taken)))
 
-shape-node-len-requires : (t : ℕ) → shape-lts.Need-node-len-requires (shape-uses t) (shape-at t) shape.Post
-shape-node-len-requires t c κs = the-first t (c .before .before) .noded
-
-shape-add-next : (t : ℕ) → shape-lts.Need-add-next (shape-uses t) (shape-at t) shape.Post
-shape-add-next t c =
-    let else2 = c .before .before .before in
-    omega (arith, the-first t else2 .there, c .node-len .ensures)
+shape-node-end-requires : (t : ℕ) → shape-lts.Need-node-end-requires (shape-uses t) (shape-at t) shape.Post
+shape-node-end-requires t c κs = the-first t (c .before .before) .noded
 
 shape-wanted-below-requires : (t : ℕ) → shape-lts.Need-wanted-below-requires (shape-uses t) (shape-at t) shape.Post
 shape-wanted-below-requires t c κs =
@@ -111,29 +104,27 @@ shape-shape-all-requires t c κs =
     let else2 = c .before .before .before .before .before in
     let s = else2 .before .before .before in
     let first = the-first t else2 in
-    let few = noded-few _ _ _ _ (first .noded) (c .children .ensures) in
     let is = s .pre .0 in
     let some = else2 .if2 .left in
-    (omega arith, (s .pre .1 .0, rw (c .before .before .node-len .ensures) (first .rest), omega arith, c .before .wanted-below .ensures .1, few))
+    (omega arith, (s .pre .1 .0, rw (c .before .before .node-end .ensures) (first .rest), omega arith, c .before .wanted-below .ensures .1))
 
 shape-returns-4 : (t : ℕ) → shape-lts.Need-returns-4 (shape-uses t) (shape-at t) shape.Post
 shape-returns-4 t c =
-    let after-node-len = c .before .before .before in
-    let else3 = after-node-len .before in
+    let after-node-end = c .before .before .before in
+    let else3 = after-node-end .before in
     let after-fits-here = else3 .before in
     let else2 = after-fits-here .before in
     let else1 = else2 .before in
-    let n = the-first t else2 .noded in
-    let here = sym (after-fits-here .fits-here .ensures (n .what) (n .next) (n .read)) ∙ not-false _ (else3 .if3 .left) in
-    let long = after-node-len .node-len .ensures in
-    let below = c .before .before .wanted-below .ensures .0 (n .what) (n .next) (n .read) in
-    let many = c .before .children .ensures (n .what) (n .next) (n .read) in
-    let next = node-next _ _ _ (n .what) (n .next) (n .read) in
+    let noded = the-first t else2 .noded in
+    let here = sym (after-fits-here .fits-here .ensures) ∙ not-false _ (else3 .if3 .left) in
+    let next = after-node-end .node-end .ensures in
+    let below = c .before .before .wanted-below .ensures .0 in
+    let many = c .before .children .ensures in
     let nodes = else1 .if1 .left in
     let depth = else2 .if2 .left in
     let all = c .shape-all .ensures in
     record {
-      is = all .is ∙ rw (long, below, many, ← next) (tree-goes _ _ _ _ _ nodes depth (n .what) (n .next) (n .read) here);
+      is = all .is ∙ rw (next, below, many) (tree-goes _ _ _ _ _ nodes depth noded here);
       flat = all .flat;
     }
 
@@ -199,8 +190,7 @@ pub +shape+shape-all-spec : {M : Type 1} → statement M
     (shape-returns-2 t)
     (shape-fits-here-requires t)
     (shape-returns-3 t)
-    (shape-node-len-requires t)
-    (shape-add-next t)
+    (shape-node-end-requires t)
     (shape-wanted-below-requires t)
     (shape-children-requires t)
     (shape-shape-all-requires t)

@@ -5,7 +5,7 @@ use Rattle.tree.proofs.skip.skip.Statement.{statement}
 use Rattle.tree.proofs.skip.skip.Tie as tie
 
 skip-all-requires : tie.Need-skip-all-requires
-skip-all-requires c κs = (standing-one _ _ _ _ (c .before .pre .0), c .before .pre .1, omega arith)
+skip-all-requires c κs = standing-one _ _ _ _ (c .before .pre)
 
 returns : tie.Need-returns
 returns c = one-ends _ _ _ _ (c .skip-all .ensures)

@@ -24,7 +24,7 @@ first : (c : tie.In-loop Inv-loop μ-loop) →
 first c = first-standing _ _ _ _ _ (c .loop-test .taken) (c .before .loop .inv .0)
 
 loop-holds : tie.Need-loop-holds Inv-loop μ-loop
-loop-holds c = (c .before .pre .0, λ r h. h)
+loop-holds c = (c .before .pre, λ r h. h)
 
 sub-need : tie.Need-sub-need Inv-loop μ-loop
 sub-need c = omega (arith, c .loop-test .taken)
@@ -38,18 +38,15 @@ add-need c =
     let s = here .before .before .before in
     let few = trees-few _ _ _ _ _ (here .loop-test .taken) (here .before .loop .inv .0) in
     let most = children-few _ _ _ _ (first here) _ _ refl (c .children .ensures) in
-    omega (arith, s .pre .1)
+    omega (arith, s .pre .most)
 
-node-len-requires : tie.Need-node-len-requires Inv-loop μ-loop
-node-len-requires c κs = standing-noded _ _ _ _ (first (c .before))
-
-add-p : tie.Need-add-p Inv-loop μ-loop
-add-p c = omega (arith, standing-there _ _ _ _ (first (c .before .before)), c .node-len .ensures)
+node-end-requires : tie.Need-node-end-requires Inv-loop μ-loop
+node-end-requires c κs = standing-noded _ _ _ _ (first (c .before))
 
 loop-less : tie.Need-loop-less Inv-loop μ-loop
 loop-less c =
     let tree = first (c .before .before) in
-    omega (arith, standing-there _ _ _ _ tree, standing-long _ _ _ _ tree, c .node-len .ensures)
+    omega (arith, standing-there _ _ _ _ tree, standing-long _ _ _ _ tree, c .node-end .ensures)
 
 loop-again : tie.Need-loop-again Inv-loop μ-loop
 loop-again c =
@@ -57,9 +54,9 @@ loop-again c =
     let at-loop = here .before in
     let loop = at-loop .loop in
     let some = here .loop-test .taken in
-    let long = c .node-len .ensures in
+    let next = c .node-end .ensures in
     let many = c .before .children .ensures in
-    (past-standing _ _ _ _ _ _ some long many _ (loop .inv .0), λ r h. loop .inv .1 r (past-ends _ _ _ _ _ _ some long many r h))
+    (past-standing _ _ _ _ _ _ some next many _ (loop .inv .0), λ r h. loop .inv .1 r (past-ends _ _ _ _ _ _ some next many r h))
 
 returns : tie.Need-returns Inv-loop μ-loop
 returns c = c .before .loop .inv .1 _ (λ es q h m. none-left _ _ es _ q _ (omega (arith, c .loop-test .left)) h m)
@@ -74,8 +71,7 @@ skip-all-spec =
     sub-need
     children-requires
     add-need
-    node-len-requires
-    add-p
+    node-end-requires
     loop-less
     loop-again
     returns)

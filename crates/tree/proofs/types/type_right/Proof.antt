@@ -32,7 +32,7 @@ body-place-requires c κs =
 type-of-requires : tie.Need-type-of-requires
 type-of-requires c κs =
     let s = c .before .before .before .before in
-    (s .pre .0 .prepared, body-standing _ _ (s .pre .0) _ (s .pre .1) (no-input-here (c .before)) _ (c .body-place .ensures), omega arith)
+    (s .pre .0 .prepared, body-standing _ _ (s .pre .0) _ (s .pre .1) (no-input-here (c .before)) _ (c .body-place .ensures))
 
 enum-told : tie.Need-enum-told
 enum-told c = search needs
