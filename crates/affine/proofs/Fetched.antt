@@ -1,23 +1,19 @@
 -- What is read number by number is the row and the map of the fields. Assumes nothing.
-use Prim.Native.Nat.{ℕ, _+_, _*_, _^_, _≤_, _<_}
+use Prim.Native.Nat.{ℕ, _+_, _*_, _≤_, _<_}
 use mathlib.Core.Path.{_≡_, refl, sym, ap, _∙_}
 use mathlib.Core.Logic.{⊎-elim}
 use mathlib.Core.List.{List, [], _∷_}
 use native.Mathlib.Omega.{arith}
 use native.Mathlib.Nat.{suc-mul, mul-le-mul, mul-le-mul-right}
 use lib.ListN.{length}
-use lib.Dec.{ltb}
-use borrow.Author.Tests.{lt-ltb, le-ltb}
 use lib.IntN.{ℤ, pos, natAbs}
 use Rattle.alpha.specs.declared.Int.{Int}
 use Rattle.alpha.specs.Field.{field}
-use Rattle.alpha.specs.Pick.{ifb}
 use Rattle.alpha.specs.Sheet as Sheet
 use Rattle.alpha.specs.Read.{got, dependence}
 use Rattle.affine.specs.declared.Row.{Row}
 use Rattle.affine.specs.declared.Map.{Map}
-use Rattle.affine.specs.Value.{at, line, pointOf, rowOf, mapOf, NeatRow, Neat}
-use Rattle.affine.specs.Size.{rowSize, Fit}
+use Rattle.affine.specs.Value.{at, line, rowOf, mapOf, NeatRow, Neat}
 use Rattle.affine.specs.Reading.{rowFields, rowsFields, mapFields, RowAmong, MapRead, MapThere}
 use Rattle.affine.proofs.Several.{lt-or-le, several-same, below-four, past-four, zeros-at}
 use Rattle.affine.proofs.Meaning.{padded-more, row-same, map-same, past-line}
@@ -73,19 +69,6 @@ module _ {bs : List ℕ} {p i k n : ℕ} where
         zeros = λ h. record { coefs = λ j q. zeros-at j; const = refl };
       }
 
--- there is a row i among them, also where the code has read none
-record RowThere (bs : List ℕ) (p i k n : ℕ) : Type 0 where
-  row : Row
-  among : RowAmong bs p i k n row
-
-row-there : (bs : List ℕ) (p i k n : ℕ) → n ≤ 4 → RowThere bs p i k n
-row-there bs p i k n few =
-    let q = p + i * (8 * n + 8) in
-    let x : ℕ → Int = λ j. record { v = ifb (ltb j n) (λ _. field bs (q + 8 * j)) (λ _. pos 0) } in
-    let e : (j : ℕ) → Coefficient bs q n j (x j .v) = λ j. (λ h. rw (lt-ltb j n h), λ h. rw (le-ltb j n h)) in
-    let read = row-is bs q n few (x 0) (x 1) (x 2) (x 3) (record { v = field bs (q + 8 * n) }) (e 0) (e 1) (e 2) (e 3) refl in
-    ⊎-elim (λ l. record { row = _; among = row-among l (read .0) (read .1) }) (λ l. record { row = zerosRow; among = past-among l }) (lt-or-le i k)
-
 -- ---- a map
 
 -- m has the k rows of n coefficients that stand from p on
@@ -110,21 +93,6 @@ module _ (bs : List ℕ) (p k n : ℕ) (cols-few : n ≤ 4) (rows-few : k ≤ 4)
         refl,
         refl,
       )
-
-  -- each row has a value at z where each map of the rows has an image of z: for there is such a map with this row
-  pub among-fits :
-      (z : List Int) → ((m : Map) → RowsMap bs p n k m → Fit m z) →
-      (i : ℕ) → i < 4 → (r : Row) → RowAmong bs p i k n r → rowSize (rowOf 4 r) (pointOf 4 z) < 2 ^ 63
-  among-fits z fit =
-      let a = row-there bs p 0 k n cols-few in
-      let b = row-there bs p 1 k n cols-few in
-      let c = row-there bs p 2 k n cols-few in
-      let d = row-there bs p 3 k n cols-few in
-      below-four (λ i. (r : Row) → RowAmong bs p i k n r → rowSize (rowOf 4 r) (pointOf 4 z) < 2 ^ 63)
-      (λ r e. fit _ (rows-are e (b .among) (c .among) (d .among)) 0)
-      (λ r e. fit _ (rows-are (a .among) e (c .among) (d .among)) 1)
-      (λ r e. fit _ (rows-are (a .among) (b .among) e (d .among)) 2)
-      (λ r e. fit _ (rows-are (a .among) (b .among) (c .among) e) 3)
 
 module _ (bs : List ℕ) (p : ℕ) (m : Map) (neat : Neat m) where
   -- where no dependence stands, any map will do

@@ -423,33 +423,13 @@ pub fn map_read(b: &[u8], p: usize) -> Map
     rows_read(b, p + 16, k, n)
 }
 
-// The image of the point z by the map of the dependence whose fields stand at p, a case for each shape that is common: there the rows and
-// columns past it are known to be zeros before any is read. Three or four rows are taken one by one: rows_read with a number of rows that is
-// not known is too large to become part of this function, and a call of it makes the compiler copy the slice to memory in every case.
+// The image of the point z by the map of the dependence whose fields stand at p.
 pub fn image_at(b: &[u8], p: usize, z: [Int; 4]) -> [Int; 4]
     requires { ⌜ MapThere (now b) p × ((m : Map) → MapRead (now b) p m → Fit m z) ⌝ }
     ensures { λ y. ⌜ ImageAt (now (b .entry)) p z y ⌝ }
 {
     let n = integer::to_usize(integer::number_at(b, p));
     let k = integer::to_usize(integer::number_at(b, p + 8));
-    if k < 1 {
-        return apply(rows_read(b, p + 16, 0, n), z);
-    }
-    if k < 2 {
-        if n == 1 {
-            return apply(rows_read(b, p + 16, 1, 1), z);
-        }
-        if n == 2 {
-            return apply(rows_read(b, p + 16, 1, 2), z);
-        }
-        return apply(rows_read(b, p + 16, 1, n), z);
-    }
-    if k < 3 {
-        return apply(rows_read(b, p + 16, 2, n), z);
-    }
-    let y0 = coordinate(k, 0, row_of(b, p + 16, 0, k, n), z);
-    let y1 = coordinate(k, 1, row_of(b, p + 16, 1, k, n), z);
-    let y2 = coordinate(k, 2, row_of(b, p + 16, 2, k, n), z);
-    let y3 = coordinate(k, 3, row_of(b, p + 16, 3, k, n), z);
-    [y0, y1, y2, y3]
+    let map = rows_read(b, p + 16, k, n);
+    apply(map, z)
 }

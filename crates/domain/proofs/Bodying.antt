@@ -13,10 +13,10 @@ use Rattle.alpha.specs.Sheet.{Range, Point}
 use Rattle.alpha.specs.Affine.{meetsAll}
 use Rattle.alpha.specs.Box.{size, inBox, pointAt}
 use Rattle.alpha.specs.Read.{dimension}
-use Rattle.alpha.specs.Holds.{variable, isInput, inDomain}
+use Rattle.alpha.specs.Holds.{variable, inDomain}
 use Rattle.alpha.specs.Reach.{topReach}
 use Rattle.alpha.specs.Ask.{numberOf}
-use Rattle.laws.specs.Sheets.{headsOf, varsOf, sheetOf}
+use Rattle.laws.specs.Sheets.{headsOf, sheetOf}
 use Rattle.laws.proofs.Boxes.{index-pointAt, pointAt-inBox, readBox-ordered, inBox-small}
 use Rattle.affine.specs.Value.{pointOf}
 use Rattle.affine.specs.Size.{Near}
@@ -28,7 +28,7 @@ use Rattle.domain.specs.declared.Stood.{Stood}
 use Rattle.domain.specs.Walk.{Walk}
 use Rattle.domain.specs.Standing.{standing, StandsAt}
 use Rattle.domain.specs.Inside.{Inside, bit}
-use Rattle.domain.specs.Element.{bodyStanding}
+use Rattle.domain.specs.Element.{bodyStanding, HasBody}
 use Rattle.domain.proofs.Records.{VariableLaid}
 
 pub near-each : (r : ℕ) (z : Point) → ((i : ℕ) → natAbs (getD z i (pos 0)) ≤ r) → Near r z
@@ -87,7 +87,7 @@ module _ (bs tab : List ℕ) (v i : ℕ) (h : VariableLaid bs tab v) (low : i < 
 
   -- ---- its walk
 
-  module _ (f : Formed bs tab) (lt : v < varsOf bs) (input : isInput (variable (sheetOf bs) v) ≡ false) (z : List Int)
+  module _ (f : Formed bs tab) (body : HasBody bs v) (z : List Int)
       (at : PointAt bs (getD tab v 0) i z) (place : ℕ) (place-is : place ≡ getD tab (69 + v) 0) where
     dims : dimensionAt bs (getD tab v 0) ≡ length box
     dims = h .dims-are ∙ ap (λ x. length (x .box)) (sym (h .head-is))
@@ -96,11 +96,11 @@ module _ (bs tab : List ℕ) (v i : ℕ) (h : VariableLaid bs tab v) (low : i < 
     point-is = ap (λ n. pointOf n z) (sym dims) ∙ at .is ∙ ap (λ b. pointAt b i) (h .box-is)
 
     starts : place ≡ variable (sheetOf bs) v .start
-    starts = place-is ∙ f .placed .starts v lt
+    starts = place-is ∙ f .placed .starts v (body .known)
 
     pub body-walk : Walk bs place 2048 z
     body-walk =
-        let b = f .placed .body v lt input in
+        let b = f .placed .body v (body .known) (body .no-input) in
         record {
           tree = variable (sheetOf bs) v .body;
           end = variable (sheetOf bs) v .end;
@@ -108,8 +108,9 @@ module _ (bs tab : List ℕ) (v i : ℕ) (h : VariableLaid bs tab v) (low : i < 
           bound = topReach;
           at = rw starts (b .at);
           few = b .few;
+          most = omega arith;
           fitting = b .fitting;
-          reaches = f .body-reach v lt input;
+          reaches = f .body-reach v (body .known) (body .no-input);
           point = record {
             padded = rw dims at (at .rest);
             near = rw point-is (near-each topReach point (λ j. inBox-small box point j (h .box-read) in-box));
@@ -120,6 +121,6 @@ module _ (bs tab : List ℕ) (v i : ℕ) (h : VariableLaid bs tab v) (low : i < 
 
     pub body-way : (r : Stood) → StandsAt bs place z r → r .how ≡ standing (variable (sheetOf bs) v .body) (sheetOf bs) point
     body-way r t =
-        let b = f .placed .body v lt input in
+        let b = f .placed .body v (body .known) (body .no-input) in
         t (variable (sheetOf bs) v .body) (variable (sheetOf bs) v .end) (length box) (rw starts (b .at)) (b .fitting) .1
         ∙ ap (standing (variable (sheetOf bs) v .body) (sheetOf bs)) point-is

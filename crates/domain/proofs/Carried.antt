@@ -2,39 +2,40 @@
 -- a dependence at the image. And it is one thing whichever tree at the place it is said of, since there is one, of one dimension.
 -- Assumes nothing.
 use mathlib.Core.Path.{_≡_, refl, sym, ap, _∙_}
-use Prim.Native.Nat.{ℕ, _+_, _*_, _-_, _≤_}
+use Prim.Native.Nat.{ℕ, _+_, _-_, _≤_}
 use native.Mathlib.Omega.{arith}
 use mathlib.Core.Bool.{Bool, true, false, _&&_}
 use mathlib.Core.List.{List}
 use lib.ListN.{length}
-use lib.IntN.{natAbs}
 use lib.Dec.{eqb}
 use borrow.Author.Tests.{eqb-true}
 use Rattle.alpha.specs.declared.Int.{Int}
-use Rattle.alpha.specs.Field.{field}
-use Rattle.alpha.specs.Sheet.{Node, Head, Expr, Exprs, Constraint, Sheet, Point}
+use Rattle.alpha.specs.Sheet.{Head, Expr, Exprs, Constraint, Sheet, Point}
 use Rattle.alpha.specs.Sheet.{Expr.var, Expr.int, Expr.boo, Expr.un, Expr.bin, Expr.ite, Expr.kase, Expr.restr, Expr.dep, Exprs.none, Exprs.more}
 use Rattle.alpha.specs.Affine.{meetsAll, image}
-use Rattle.alpha.specs.Read.{got, node, dimension}
+use Rattle.alpha.specs.Read.{dimension}
 use Rattle.alpha.specs.Shape.{fits, allFit}
 use Rattle.alpha.specs.Written.{branchCount}
-use Rattle.laws.specs.At.{nodeLen, At, AllAt}
+use Rattle.laws.specs.At.{nodeRead, nodeEnd, At, AllAt}
 use Rattle.laws.specs.Children.{arity}
 use Rattle.laws.specs.Sheets.{headsOf, varsOf, sheetOf}
 use Rattle.laws.proofs.Tests.{&&-left, &&-right, true-not-false}
 use Rattle.laws.proofs.Trees.{at-unique}
-use Rattle.laws.proofs.Shapes.{at-node, at-restr, at-dep, RestrAt, DepAt}
+use Rattle.laws.proofs.Shapes.{at-node, RestrAt, DepAt}
 use Rattle.affine.specs.declared.Map.{Map}
 use Rattle.affine.specs.Value.{pointOf, mapOf, Padded}
 use Rattle.affine.specs.Reading.{MapRead}
 use Rattle.affine.proofs.Meaning.{height-length, width-cols}
+use Rattle.tree.specs.declared.Class.the-variants.{Operator, Restriction, Dependence}
+use Rattle.tree.specs.Classes.{classAt}
+use Rattle.tree.proofs.Classes.{operator-at, restriction-at, dependence-at}
 use Rattle.domain.specs.declared.Standing.{Standing}
 use Rattle.domain.specs.declared.Standing.the-variants.{Not, Holds, Clash}
 use Rattle.domain.specs.Walk.{Ends, Walk, WalkAll}
-use Rattle.domain.specs.Standing.{standing, both, together, StandsAt, Unaries}
+use Rattle.domain.specs.Standing.{standing, both, together}
 use Rattle.domain.specs.Held.{Held, HeldAll}
 use Rattle.domain.specs.Holding.{isHeld}
-use Rattle.domain.proofs.Walks.{tree-code, code-field, walk-children, walk-image, walks-split, walk-first, walk-rest}
+use Rattle.domain.proofs.Walks.{walk-children, walk-image, walks-split, walk-first, walk-rest}
 use Rattle.domain.proofs.Restrictions.{restriction-walk}
 use Rattle.domain.proofs.Standings.{operands-stand, restriction-stands, restriction-not, dependence-stands}
 
@@ -116,22 +117,6 @@ module _ (bs : List ℕ) where
         let wide = fits-once (varsOf bs) bs (headsOf bs) (w .dims) n e p q a (rw same at (w .fitting)) f in
         rw (same, wide) at (h .clear)
 
-  -- how it stands, whichever tree there is asked
-  pub walk-stands : (p left : ℕ) (z : List Int) (w : Walk bs p left z) →
-      StandsAt bs p z (record { how = standing (w .tree) (sheetOf bs) (pointOf (w .dims) z); next = w .end })
-  walk-stands p left z w e q n a f =
-      let u = at-unique (varsOf bs) bs p (w .tree) e (w .end) q (w .at) a in
-      let wide = fits-once (varsOf bs) bs (headsOf bs) (w .dims) n e p q a (rw (u .tree-is) at (w .fitting)) f in
-      (u .end-is, rw (u .tree-is, wide) refl)
-
-  -- below unary operators
-  pub held-unaries : (p left : ℕ) (z : List Int) (k : ℕ) → Unaries bs p k → Held bs p left z → Held bs (p + 16 * k) (left - 1) z
-  held-unaries p left z k u h =
-      let w = h .walk in
-      let below = u .walk left z w in
-      let stands = u .way z _ (walk-stands (p + 16 * k) (left - 1) z below) (w .tree) (w .end) (w .dims) (w .at) (w .fitting) in
-      record { walk = below; clear = stands .1 ∙ h .clear }
-
   module _ (p left : ℕ) (z : List Int) (h : Held bs p left z) where
     abbrev w : Walk bs p left z
     w = h .walk
@@ -139,47 +124,49 @@ module _ (bs : List ℕ) where
     abbrev here : Expr → Standing
     here e = standing e (sheetOf bs) (pointOf (w .dims) z)
 
-    -- its operands, where the code says that there are n and that the node has k bytes
-    module _ (k n : ℕ) (long : k ≡ nodeLen bs p) (many : (nd : Node) (q : ℕ) → node (varsOf bs) bs p ≡ got nd q → n ≡ arity nd) where
-      pub held-operands : 3 ≤ natAbs (field bs p) → natAbs (field bs p) ≤ 5 → HeldAll bs (p + k) (left - 1) n z
+    -- ---- its children, where the next place is k
+
+    module _ (k : ℕ) (next : k ≡ nodeEnd (varsOf bs) bs p) where
+      -- an operator's operands, where the code has n of them
+      pub held-operands : classAt bs p ≡ Operator → (n : ℕ) → n ≡ arity (nodeRead (varsOf bs) bs p) → HeldAll bs k (left - 1) n z
       unfolding walk-children
-      held-operands low high =
-          let code = tree-code bs p (w .tree) (w .end) (w .at) in
+      held-operands class-is n many =
+          let operator = operator-at bs (w .tree) p (w .end) (w .at) class-is .class-is in
           record {
-            walk = walk-children bs p left z w k n long many (λ c. omega arith);
-            clear = sym (operands-stand (sheetOf bs) (pointOf (w .dims) z) (w .tree) (omega arith) (omega arith)) ∙ h .clear;
+            walk = walk-children bs p left z w k n next many (rw class-is tt);
+            clear = sym (operands-stand (sheetOf bs) (pointOf (w .dims) z) (w .tree) operator) ∙ h .clear;
           }
 
-    -- a restriction's child
-    pub held-restricted : natAbs (field bs p) ≡ 7 → Held bs (p + nodeLen bs p) (left - 1) z
-    held-restricted code =
-        let x = at-restr (varsOf bs) bs (w .tree) p (w .end) (w .at) (code-field bs p (w .tree) (w .end) 7 (w .at) code) in
-        held-by (p + nodeLen bs p) (left - 1) z (x .child) (w .end) (w .dims) (x .below) (fit x) (restriction-walk bs p left z w code)
-        (restricted-holds (x .dim) (x .given) (x .child) (sheetOf bs) (pointOf (w .dims) z) (sym (ap here (x .is)) ∙ h .clear))
-      where
-        fit : (x : RestrAt (w .tree) (varsOf bs) bs p (w .end)) → fits (x .child) (headsOf bs) (w .dims) ≡ true
-        fit x = unfold fits in
-            &&-right (eqb (x .dim) (w .dims)) (fits (x .child) (headsOf bs) (w .dims))
-            (sym (ap (λ t. fits t (headsOf bs) (w .dims)) (x .is)) ∙ w .fitting)
+      -- a restriction's child
+      pub held-restricted : classAt bs p ≡ Restriction → Held bs k (left - 1) z
+      held-restricted class-is =
+          let x = restriction-at bs (w .tree) p (w .end) (w .at) class-is in
+          held-by k (left - 1) z (x .child) (w .end) (w .dims) (rw next (x .below)) (fit x) (restriction-walk bs p left z w class-is k next)
+          (restricted-holds (x .dim) (x .given) (x .child) (sheetOf bs) (pointOf (w .dims) z) (sym (ap here (x .is)) ∙ h .clear))
+        where
+          fit : (x : RestrAt (w .tree) (varsOf bs) bs p (w .end)) → fits (x .child) (headsOf bs) (w .dims) ≡ true
+          fit x = unfold fits in
+              &&-right (eqb (x .dim) (w .dims)) (fits (x .child) (headsOf bs) (w .dims))
+              (sym (ap (λ t. fits t (headsOf bs) (w .dims)) (x .is)) ∙ w .fitting)
 
-    -- a dependence's child at the image, where its map is m
-    pub held-image : natAbs (field bs p) ≡ 8 → (m : Map) → MapRead bs (p + 8) m → (y : List Int) →
-        pointOf (m .height) y ≡ image (mapOf m .rows) (pointOf (m .width) z) → Padded (m .height) y → Held bs (p + nodeLen bs p) (left - 1) y
-    held-image code m r y is rest =
-        let x = at-dep (varsOf bs) bs (w .tree) p (w .end) (w .at) (code-field bs p (w .tree) (w .end) 8 (w .at) code) in
-        let map-is = r .is (x .by) (p + nodeLen bs p) (x .fields .read) in
-        let parts = fit x in
-        let child = fits (x .child) (headsOf bs) (length (x .by .rows)) in
-        let cols = eqb-true (x .by .cols) (w .dims) (&&-left (eqb (x .by .cols) (w .dims)) child parts) in
-        let point : pointOf (length (x .by .rows)) y ≡ image (x .by .rows) (pointOf (w .dims) z) =
-        rw (height-length m map-is, width-cols m map-is, cols) at (is ∙ ap (λ f. image (f .rows) (pointOf (m .width) z)) map-is) in
-        held-by (p + nodeLen bs p) (left - 1) y (x .child) (w .end) (length (x .by .rows)) (x .below)
-        (&&-right (eqb (x .by .cols) (w .dims)) child parts) (walk-image bs p left z w code m r y is rest)
-        (rw point (sym (dependence-stands (sheetOf bs) (pointOf (w .dims) z) (x .by) (x .child)) ∙ sym (ap here (x .is)) ∙ h .clear))
-      where
-        fit : (x : DepAt (w .tree) (varsOf bs) bs p (w .end)) →
-            eqb (x .by .cols) (w .dims) && fits (x .child) (headsOf bs) (length (x .by .rows)) ≡ true
-        fit x = unfold fits in (sym (ap (λ t. fits t (headsOf bs) (w .dims)) (x .is)) ∙ w .fitting)
+      -- a dependence's child at the image, where its map is m
+      pub held-image : classAt bs p ≡ Dependence → (m : Map) → MapRead bs (p + 8) m → (y : List Int) →
+          pointOf (m .height) y ≡ image (mapOf m .rows) (pointOf (m .width) z) → Padded (m .height) y → Held bs k (left - 1) y
+      held-image class-is m r y is rest =
+          let x = dependence-at bs (w .tree) p (w .end) (w .at) class-is in
+          let map-is = r .is (x .by) (x .fields .next) (x .fields .read) in
+          let parts = fit x in
+          let child = fits (x .child) (headsOf bs) (length (x .by .rows)) in
+          let cols = eqb-true (x .by .cols) (w .dims) (&&-left (eqb (x .by .cols) (w .dims)) child parts) in
+          let point : pointOf (length (x .by .rows)) y ≡ image (x .by .rows) (pointOf (w .dims) z) =
+          rw (height-length m map-is, width-cols m map-is, cols) at (is ∙ ap (λ f. image (f .rows) (pointOf (m .width) z)) map-is) in
+          held-by k (left - 1) y (x .child) (w .end) (length (x .by .rows)) (rw next (x .below))
+          (&&-right (eqb (x .by .cols) (w .dims)) child parts) (walk-image bs p left z w class-is m r k next y is rest)
+          (rw point (sym (dependence-stands (sheetOf bs) (pointOf (w .dims) z) (x .by) (x .child)) ∙ sym (ap here (x .is)) ∙ h .clear))
+        where
+          fit : (x : DepAt (w .tree) (varsOf bs) bs p (w .end)) →
+              eqb (x .by .cols) (w .dims) && fits (x .child) (headsOf bs) (length (x .by .rows)) ≡ true
+          fit x = unfold fits in (sym (ap (λ t. fits t (headsOf bs) (w .dims)) (x .is)) ∙ w .fitting)
 
   -- ---- so many operands
 

@@ -1,32 +1,30 @@
 -- The branch that a case takes: one holds and no other does, so it is the spared one where none of the others is found to hold; and its
 -- outcome is the case's. Assumes nothing.
 use mathlib.Core.Path.{_≡_, refl, sym, ap, _∙_, subst}
-use Prim.Native.Nat.{ℕ, _+_, _-_, _≤_, _<_}
+use Prim.Native.Nat.{ℕ, _-_, _≤_, _<_}
 use native.Mathlib.Omega.{arith}
 use mathlib.Core.Bool.{Bool, true, false, _&&_}
 use mathlib.Core.List.{List}
 use mathlib.Core.Option.{Option, some}
 use mathlib.Core.Option as Option
-use lib.IntN.{natAbs}
 use Rattle.alpha.specs.declared.Int.{Int}
 use Rattle.alpha.specs.Pick.{ifb}
-use Rattle.alpha.specs.Field.{field}
-use Rattle.alpha.specs.Sheet.{Node, Expr, Expr.kase, Exprs, Exprs.none, Exprs.more, Sheet, Point}
-use Rattle.alpha.specs.Read.{got, node}
+use Rattle.alpha.specs.Sheet.{Expr, Expr.kase, Exprs, Exprs.none, Exprs.more, Sheet, Point}
 use Rattle.alpha.specs.Shape.{fits, allFit}
 use Rattle.alpha.specs.Holds.{holds, clashes}
 use Rattle.alpha.specs.Outcome.{Outcome, outside, eval, evalFirst}
 use Rattle.alpha.specs.Written.{branchCount}
-use Rattle.laws.specs.At.{nodeLen, At, AllAt}
-use Rattle.laws.specs.Children.{arity}
+use Rattle.laws.specs.At.{nodeRead, nodeEnd, At, AllAt}
+use Rattle.laws.specs.Children.{childrenOf, arity}
 use Rattle.laws.specs.Sheets.{headsOf, varsOf, sheetOf}
 use Rattle.laws.proofs.Tests.{&&-left, &&-right, true-not-false}
-use Rattle.laws.proofs.Readers.{counted-is}
-use Rattle.laws.proofs.Shapes.{at-kase, KaseAt, MoreAt}
+use Rattle.laws.proofs.Shapes.{MoreAt}
 use Rattle.affine.specs.Value.{pointOf}
+use Rattle.tree.specs.declared.Class.the-variants.{Case}
+use Rattle.tree.specs.Classes.{classAt}
 use Rattle.tree.specs.Ends.{EndsAt}
-use Rattle.tree.proofs.Noding.{length-other, arity-case-is}
-use Rattle.tree.proofs.Standings.{standing-noded, children-at, children-counted, one-more}
+use Rattle.tree.proofs.Classes.{case-at}
+use Rattle.tree.proofs.Standings.{children-at, children-counted, one-more}
 use Rattle.domain.specs.declared.Standing.{Standing}
 use Rattle.domain.specs.declared.Standing.the-variants.{Not, Holds, Clash}
 use Rattle.domain.specs.declared.Stood.{Stood}
@@ -35,8 +33,8 @@ use Rattle.domain.specs.Held.{Held}
 use Rattle.domain.specs.Standing.{rated, standing, either, together, StandsAt}
 use Rattle.domain.specs.Holding.{isHeld, firstHolding, HoldsAt, StandsSo, Picked, Taken, Sought, Chooses}
 use Rattle.domain.proofs.Standings.{branches-stand}
-use Rattle.domain.proofs.Walks.{code-field, walk-standing, walk-children, walk-first, children-fit}
-use Rattle.domain.proofs.Carried.{not-held, held-by, walk-stands, held-tree}
+use Rattle.domain.proofs.Walks.{SamePoint, walk-children, walk-first, children-fit}
+use Rattle.domain.proofs.Carried.{not-held, held-by, held-tree}
 
 -- ---- the outcome of a case
 
@@ -89,13 +87,6 @@ neither-holds Clash b e = clash-not e
 -- a tree holds as it stands
 pub held-at : (bs : List ℕ) (p : ℕ) (z : List Int) (t : Stood) (r : Bool) → StandsAt bs p z t → r ≡ isHeld (t .how) → HoldsAt bs p z r
 held-at bs p z t r stands is e q n h f = is ∙ ap isHeld (stands e q n h f .1) ∙ held-is e (sheetOf bs) (pointOf n z)
-
--- and holds as a tree below does, where it stands as that does
-pub held-through : (bs : List ℕ) (p left : ℕ) (z : List Int) (w : Walk bs p left z) (at : ℕ) (y : List Int) →
-    ((t : Stood) → StandsAt bs p z t → StandsAt bs at y t) → (r : Bool) → HoldsAt bs p z r → HoldsAt bs at y r
-held-through bs p left z w at y carried r found =
-    held-at bs at y _ r (carried _ (walk-stands bs p left z w))
-    (found (w .tree) (w .end) (w .dims) (w .at) (w .fitting) ∙ sym (held-is (w .tree) (sheetOf bs) (pointOf (w .dims) z)))
 
 -- what is found at a place is so of any tree there
 found-so : (bs : List ℕ) (p : ℕ) (z : List Int) (r : Bool) (how : Standing) → HoldsAt bs p z r → StandsSo bs p z how → r ≡ isHeld how
@@ -275,44 +266,36 @@ module _ (bs : List ℕ) (left : ℕ) (z : List Int) where
 
 -- ---- a case
 
-module _ (bs : List ℕ) (p left count : ℕ) (z : List Int) (held : Held bs p left z) (code : natAbs (field bs p) ≡ 6)
-    (many : count ≡ natAbs (field bs (p + 8))) where
+module _ (bs : List ℕ) (p left k count : ℕ) (z : List Int) (held : Held bs p left z) (class-is : classAt bs p ≡ Case)
+    (next : k ≡ nodeEnd (varsOf bs) bs p) (many : count ≡ arity (nodeRead (varsOf bs) bs p)) where
   abbrev w : Walk bs p left z
   w = held .walk
 
-  other : (c : ℕ) → (c ≡ 6 → ⊥) → natAbs (field bs p) ≡ c → ⊥
-  other c ne e = ne (sym e ∙ code)
+  same : SamePoint (classAt bs p)
+  same = rw class-is tt
 
-  long : 16 ≡ nodeLen bs p
-  long =
-      length-other (varsOf bs) bs p (standing-noded (varsOf bs) bs p left (walk-standing bs p left z w)) (other 5 (λ e. omega arith))
-      (other 7 (λ e. omega arith)) (other 8 (λ e. omega arith))
-
-  counted : (nd : Node) (q : ℕ) → node (varsOf bs) bs p ≡ got nd q → count ≡ arity nd
-  counted nd q read = many ∙ arity-case-is (varsOf bs) bs p nd q read code
-
-  pub walk-branches : WalkAll bs (p + 16) (left - 1) count z
-  walk-branches = walk-children bs p left z w 16 count long counted (other 8 (λ e. omega arith))
-
-  case-at : (e : Expr) (q : ℕ) → At e (varsOf bs) bs p q → KaseAt e (varsOf bs) bs p q
-  case-at e q h = at-kase (varsOf bs) bs e p q h (code-field bs p e q 6 h code)
+  pub walk-branches : WalkAll bs k (left - 1) count z
+  walk-branches = walk-children bs p left z w k count next many same
 
   pub some-branch : 1 ≤ count
-  some-branch = let x = case-at (w .tree) (w .end) (w .at) .many in omega (arith, x .low, counted-is x, many)
+  some-branch =
+      let x = case-at bs (w .tree) p (w .end) (w .at) class-is in
+      let counted = children-counted (varsOf bs) bs p k count next many (w .tree) (w .end) (w .at) in
+      omega (arith, x .many .low, ap (λ t. branchCount (childrenOf t)) (x .is), counted)
 
   -- where its first branch is spared at first
-  module _ (next : ℕ) (ends : EndsAt (varsOf bs) bs (p + 16) next) (r : ℕ) (x : Sought bs next (left - 1) (count - 1) z (p + 16) r) where
+  module _ (after : ℕ) (ends : EndsAt (varsOf bs) bs k after) (r : ℕ) (x : Sought bs after (left - 1) (count - 1) z k r) where
     taken : (es : Exprs) (q n : ℕ) → At (kase es) (varsOf bs) bs p q → fits (kase es) (headsOf bs) n ≡ true → Taken bs es n z r
     taken es q n a f =
-        taken-by bs (left - 1) z (p + 16) count some-branch walk-branches es q n
-        (children-at (varsOf bs) bs p 16 count long counted (kase es) q a)
-        (children-counted (varsOf bs) bs p 16 count long counted (kase es) q a)
-        (children-fit bs p (kase es) q n a (other 8 (λ e. omega arith)) f) next ends r x
+        taken-by bs (left - 1) z k count some-branch walk-branches es q n
+        (children-at (varsOf bs) bs p k count next many (kase es) q a)
+        (children-counted (varsOf bs) bs p k count next many (kase es) q a)
+        (children-fit bs p (kase es) q a same n f) after ends r x
         (sym (branches-stand (sheetOf bs) (pointOf n z) es) ∙ held-tree bs p left z (kase es) q n a f held)
 
     pub chooses : Chooses bs p (left - 1) z r
     chooses =
-        let c = case-at (w .tree) (w .end) (w .at) in
+        let c = case-at bs (w .tree) p (w .end) (w .at) class-is in
         let here : At (kase (c .branches)) (varsOf bs) bs p (w .end) = subst (λ t. At t (varsOf bs) bs p (w .end)) (c .is) (w .at) in
         let y = taken (c .branches) (w .end) (w .dims) here (sym (ap (λ t. fits t (headsOf bs) (w .dims)) (c .is)) ∙ w .fitting) in
         record { says = taken; held = held-by bs r (left - 1) z (y .tree) (y .end) (w .dims) (y .at) (y .fitting) (x .walk) (y .clear) }

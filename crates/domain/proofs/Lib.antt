@@ -5,8 +5,6 @@ pub mod Restrictions
 pub mod Records
 pub mod Leaves
 pub mod Ways
-pub mod Stepping
-pub mod Lowering
 pub mod Carried
 pub mod Choices
 pub mod Checking

@@ -16,23 +16,26 @@ use Rattle.alpha.specs.Affine.{meets, meetsAll}
 use Rattle.alpha.specs.Shape.{fits}
 use Rattle.alpha.specs.Reach.{limit, rowReach, allReach, reach}
 use Rattle.alpha.specs.Written.{nodeCount}
-use Rattle.laws.specs.At.{nodeLen}
+use Rattle.laws.specs.At.{nodeEnd}
 use Rattle.laws.specs.Sheets.{headsOf, varsOf}
 use Rattle.laws.proofs.Tests.{&&-left, &&-right}
 use Rattle.laws.proofs.Readers.{counted-is}
 use Rattle.laws.proofs.Rows.{ConstraintAt}
 use Rattle.laws.proofs.Nodes.{Restricts, restr-constraint}
-use Rattle.laws.proofs.Shapes.{RestrAt, at-restr}
+use Rattle.laws.proofs.Shapes.{RestrAt}
 use Rattle.affine.specs.declared.Row.{Row as Coded}
 use Rattle.affine.specs.Value.{pointOf, rowOf, NeatRow}
 use Rattle.affine.specs.Size.{Near, rowSize}
 use Rattle.affine.proofs.Several.{rowSize-neat}
 use Rattle.affine.proofs.Bounds.{rowSize-near}
+use Rattle.tree.specs.declared.Class.the-variants.{Restriction}
+use Rattle.tree.specs.Classes.{classAt}
 use Rattle.tree.specs.Standing.{Wide}
+use Rattle.tree.proofs.Classes.{restriction-at, restriction-fields}
+use Rattle.tree.proofs.Standings.{at-noded}
 use Rattle.tree.proofs.Reaching.{row-fields}
 use Rattle.domain.specs.Walk.{Walk}
 use Rattle.domain.specs.Constraints.{constraintFields, constraintsFields, Testable, AllTestable, RestrictionTestable}
-use Rattle.domain.proofs.Walks.{code-field}
 
 -- ---- what the fields say
 
@@ -128,9 +131,9 @@ module _ (bs : List ℕ) (p : ℕ) where
       cs ≡ constraintsFields (natAbs (field bs (p + 16))) (natAbs (field bs (p + 8))) bs (p + 24)
   restriction-says d cs h = rw (← counted-is (h .many), ← counted-is (h .dim)) (constraints-are d bs cs (p + 24) (λ i lt c. restr-constraint h i lt c))
 
-  module _ (left : ℕ) (z : List Int) (h : Walk bs p left z) (code : natAbs (field bs p) ≡ 7) where
+  module _ (left : ℕ) (z : List Int) (h : Walk bs p left z) (class-is : classAt bs p ≡ Restriction) where
     here : RestrAt (h .tree) (varsOf bs) bs p (h .end)
-    here = at-restr (varsOf bs) bs (h .tree) p (h .end) (h .at) (code-field bs p (h .tree) (h .end) 7 (h .at) code)
+    here = restriction-at bs (h .tree) p (h .end) (h .at) class-is
 
     fit-here : eqb (here .dim) (h .dims) && fits (here .child) (headsOf bs) (h .dims) ≡ true
     unfolding fits
@@ -147,11 +150,14 @@ module _ (bs : List ℕ) (p : ℕ) where
     unfolding nodeCount
     count-here = ap nodeCount (here .is)
 
+    wide : Wide bs p
+    wide = restriction-fields bs p (record { noded = at-noded (varsOf bs) bs (h .tree) p (h .end) (h .at); class-is = class-is })
+
     -- its constraints can be tested
-    pub restriction-testable : Wide bs p → RestrictionTestable bs p z
-    restriction-testable w = record {
-      there = w .there;
-      few = w .dim;
+    pub restriction-testable : RestrictionTestable bs p z
+    restriction-testable = record {
+      there = wide .there;
+      few = wide .dim;
       all =
           rw (← counted-is (here .fields .many), ← counted-is (here .fields .dim))
           (constraints-testable (here .dim) bs (here .fields .dim .high) (h .bound) (pointOf (here .dim) z) (rw dims-are (h .point .near))
@@ -159,15 +165,16 @@ module _ (bs : List ℕ) (p : ℕ) where
           (&&-left (allReach (h .bound) (here .given)) (reach (here .child) (h .bound)) reach-here));
     }
 
-    -- and its child may be walked at the same point
-    pub restriction-walk : Walk bs (p + nodeLen bs p) (left - 1) z
-    restriction-walk = record {
+    -- and its child, at the next place, may be walked at the same point
+    pub restriction-walk : (k : ℕ) → k ≡ nodeEnd (varsOf bs) bs p → Walk bs k (left - 1) z
+    restriction-walk k next = record {
       tree = here .child;
       end = h .end;
       dims = h .dims;
       bound = h .bound;
-      at = here .below;
+      at = rw next (here .below);
       few = omega (arith, h .few, count-here);
+      most = omega (arith, h .most);
       fitting = &&-right (eqb (here .dim) (h .dims)) (fits (here .child) (headsOf bs) (h .dims)) fit-here;
       reaches = &&-right (allReach (h .bound) (here .given)) (reach (here .child) (h .bound)) reach-here;
       point = h .point;

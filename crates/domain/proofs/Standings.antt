@@ -1,17 +1,19 @@
--- How the standing of a tree follows from its children's: by its node where there are none, together where it is an operator, an if or a
--- case, as the child where a restriction's constraints hold, and as the child at the image for a dependence. Assumes nothing.
+-- How the standing of a tree follows from its children's: by its node where there are none, together where it is an operator or a case,
+-- as the child where a restriction's constraints hold, and as the child at the image for a dependence. Assumes nothing.
 use mathlib.Core.Path.{_≡_, refl, sym, ap, _∙_}
-use Prim.Native.Nat.{ℕ, _≤_}
-use native.Mathlib.Omega.{arith}
+use Prim.Native.Nat.{ℕ}
 use mathlib.Core.Bool.{Bool, true, false, _&&_, _||_}
 use mathlib.Core.List.{List}
 use Rattle.alpha.specs.Sheet.{Constraint, Map, Expr, Exprs, Sheet, Point}
-use Rattle.alpha.specs.Sheet.{Expr.var, Expr.int, Expr.boo, Expr.un, Expr.bin, Expr.ite, Expr.kase, Expr.restr, Expr.dep, Exprs.none, Exprs.more}
+use Rattle.alpha.specs.Sheet.{Expr.kase, Expr.restr, Expr.dep, Exprs.none, Exprs.more}
 use Rattle.alpha.specs.Affine.{meetsAll, image}
 use Rattle.alpha.specs.Holds.{holds, someHolds, twoHold, clashes, inBranches}
-use Rattle.laws.specs.At.{codeNumber}
+use Rattle.laws.specs.At.{nodeOf}
 use Rattle.laws.specs.Children.{childrenOf}
 use Rattle.laws.proofs.Tests.{true-not-false}
+use Rattle.tree.specs.declared.Class.the-variants.{Operator}
+use Rattle.tree.specs.Classes.{classOf}
+use Rattle.tree.proofs.Classes.{operator-tree}
 use Rattle.domain.specs.declared.Standing.{Standing}
 use Rattle.domain.specs.declared.Standing.the-variants.{Not, Holds, Clash}
 use Rattle.domain.specs.Standing.{rated, standing, both, either, joined, alone, together}
@@ -68,23 +70,15 @@ rated-both true true true false = refl
 rated-both true true true true = refl
 
 module _ (s : Sheet) (z : Point) where
-  -- an operator or an if stands as its operands together
-  pub operands-stand : (e : Expr) → 3 ≤ codeNumber e → codeNumber e ≤ 5 → standing e s z ≡ together false (childrenOf e) s z
+  -- an operator stands as its operands together
+  pub operands-stand : (e : Expr) → classOf (nodeOf e) ≡ Operator → standing e s z ≡ together false (childrenOf e) s z
   unfolding holds clashes together
-  operands-stand (var v) l h = absurd (omega arith)
-  operands-stand (int c) l h = absurd (omega arith)
-  operands-stand (boo b) l h = absurd (omega arith)
-  operands-stand (un o a) l h = sym (both-alone (standing a s z))
-  operands-stand (bin o a b) l h =
-      rated-both (holds a s z) (clashes a s z) (holds b s z) (clashes b s z) ∙ ap (both (standing a s z)) (sym (both-alone (standing b s z)))
-  operands-stand (ite a b c) l h =
+  operands-stand = operator-tree (λ e. standing e s z ≡ together false (childrenOf e) s z) (λ o a. sym (both-alone (standing a s z))) (λ o a b.
+      rated-both (holds a s z) (clashes a s z) (holds b s z) (clashes b s z) ∙ ap (both (standing a s z)) (sym (both-alone (standing b s z)))) (λ a b c.
       rated-both (holds a s z && holds b s z) (clashes a s z || clashes b s z) (holds c s z) (clashes c s z)
       ∙ ap (λ x. both x (standing c s z)) (rated-both (holds a s z) (clashes a s z) (holds b s z) (clashes b s z))
       ∙ both-assoc (standing a s z) (standing b s z) (standing c s z)
-      ∙ ap (λ x. both (standing a s z) (both (standing b s z) x)) (sym (both-alone (standing c s z)))
-  operands-stand (kase es) l h = absurd (omega arith)
-  operands-stand (restr d cs a) l h = absurd (omega arith)
-  operands-stand (dep f a) l h = absurd (omega arith)
+      ∙ ap (λ x. both (standing a s z) (both (standing b s z) x)) (sym (both-alone (standing c s z))))
 
   -- ---- branches
 

@@ -1,28 +1,25 @@
 -- What a walk at a point knows at a node, and that it may go on at the children: at the same point, or at the image below a dependence;
 -- and that no sum of a constraint or of an image leaves an i64. Assumes nothing.
-use mathlib.Core.Path.{_≡_, refl, sym, ap, _∙_}
+use mathlib.Core.Path.{_≡_, refl, sym, ap, _∙_, subst}
 use Prim.Native.Nat.{ℕ, suc, _+_, _-_, _≤_}
 use native.Mathlib.Omega.{arith}
 use mathlib.Core.Bool.{true, _&&_}
 use mathlib.Core.List.{List}
 use lib.ListN.{length}
-use lib.IntN.{pos, natAbs}
 use lib.Dec.{leb, eqb}
 use borrow.Author.Tests.{leb-true, eqb-true}
 use Rattle.alpha.specs.declared.Int.{Int}
-use Rattle.alpha.specs.Field.{field}
-use Rattle.alpha.specs.Sheet.{Node, Expr}
+use Rattle.alpha.specs.Sheet.{Expr}
 use Rattle.alpha.specs.Sheet.{Expr.var, Expr.int, Expr.boo, Expr.un, Expr.bin, Expr.ite, Expr.kase, Expr.restr, Expr.dep}
 use Rattle.alpha.specs.Affine.{image}
-use Rattle.alpha.specs.Read.{got, node}
 use Rattle.alpha.specs.Shape.{fits, allFit}
 use Rattle.alpha.specs.Reach.{limit, mapReach, reach, reachAll}
 use Rattle.alpha.specs.Written.{nodeCount, nodeCounts}
-use Rattle.laws.specs.At.{nodeOf, codeNumber, nodeLen, At}
+use Rattle.laws.specs.At.{nodeOf, nodeRead, nodeEnd, At}
 use Rattle.laws.specs.Children.{childrenOf, arity, fitsHere, wanted, reachHere, reachBelow}
 use Rattle.laws.specs.Sheets.{headsOf, varsOf}
 use Rattle.laws.proofs.Tests.{&&-left, &&-right}
-use Rattle.laws.proofs.Shapes.{code-high, at-code, at-dep, DepAt, MoreAt}
+use Rattle.laws.proofs.Shapes.{DepAt, MoreAt}
 use Rattle.laws.proofs.Children.{children-count, fits-children, reach-children}
 use Rattle.laws.proofs.NormalReach.{mapReach-pos}
 use Rattle.affine.specs.declared.Map.{Map}
@@ -32,12 +29,24 @@ use Rattle.affine.specs.Reading.{MapRead, MapThere}
 use Rattle.affine.proofs.Meaning.{height-length, width-cols}
 use Rattle.affine.proofs.Fetched.{map-there}
 use Rattle.affine.proofs.Bounds.{image-near, map-fits}
+use Rattle.tree.specs.declared.Class.{Class}
+use Rattle.tree.specs.declared.Class.the-variants.{Leaf, Operator, Case, Restriction, Dependence}
+use Rattle.tree.specs.Classes.{classOf, classAt}
 use Rattle.tree.specs.Standing.{Standing}
+use Rattle.tree.proofs.Classes.{class-same, dependence-at}
 use Rattle.tree.proofs.Standings.{children-at, children-counted, one-more}
 use Rattle.domain.specs.Walk.{Ends, Walk, WalkAll}
 
--- only a dependence changes the point for its children
-pub same-below : (e : Expr) (n r : ℕ) → (codeNumber e ≡ 8 → ⊥) → (wanted (nodeOf e) n ≡ n) × (reachBelow (nodeOf e) r ≡ r)
+-- the children of a node of this class stand at its own point
+abbrev pub SamePoint : Class → Type 0
+SamePoint Leaf = Unit {0}
+SamePoint Operator = Unit {0}
+SamePoint Case = Unit {0}
+SamePoint Restriction = Unit {0}
+SamePoint Dependence = ⊥
+
+-- and so the same is asked of them, and given to them
+pub same-below : (e : Expr) (n r : ℕ) → SamePoint (classOf (nodeOf e)) → (wanted (nodeOf e) n ≡ n) × (reachBelow (nodeOf e) r ≡ r)
 same-below (var v) n r h = (refl, refl)
 same-below (int c) n r h = (refl, refl)
 same-below (boo b) n r h = (refl, refl)
@@ -46,63 +55,54 @@ same-below (bin o a b) n r h = (refl, refl)
 same-below (ite a b c) n r h = (refl, refl)
 same-below (kase es) n r h = (refl, refl)
 same-below (restr d cs a) n r h = (refl, refl)
-same-below (dep f a) n r h = absurd (h refl)
+same-below (dep f a) n r h = absurd h
 
 module _ (bs : List ℕ) where
-  -- the code of any tree at p
-  pub tree-code : (p : ℕ) (e : Expr) (q : ℕ) → At e (varsOf bs) bs p q → natAbs (field bs p) ≡ codeNumber e
-  tree-code p e q h = ap natAbs (at-code (varsOf bs) bs e p q h)
+  module _ (p : ℕ) (e : Expr) (q : ℕ) (h : At e (varsOf bs) bs p q) (same : SamePoint (classAt bs p)) where
+    same-here : SamePoint (classOf (nodeOf e))
+    same-here = subst SamePoint (class-same bs e p q h) same
 
-  pub code-field : (p : ℕ) (e : Expr) (q code : ℕ) → At e (varsOf bs) bs p q → natAbs (field bs p) ≡ code → field bs p ≡ pos code
-  code-field p e q code h c = at-code (varsOf bs) bs e p q h ∙ ap pos (sym (tree-code p e q h) ∙ c)
+    -- the children of any tree at p have its dimension
+    pub children-fit : (n : ℕ) → fits e (headsOf bs) n ≡ true → allFit (childrenOf e) (headsOf bs) n ≡ true
+    children-fit n f =
+        rw (same-below e n 0 same-here .0) at
+        (&&-right (fitsHere (nodeOf e) (headsOf bs) n) (allFit (childrenOf e) (headsOf bs) (wanted (nodeOf e) n)) (sym (fits-children (headsOf bs) n e) ∙ f))
 
-  -- below any tree at p that is no dependence the same dimension is wanted of the children
-  pub children-fit : (p : ℕ) (e : Expr) (q n : ℕ) → At e (varsOf bs) bs p q → (natAbs (field bs p) ≡ 8 → ⊥) → fits e (headsOf bs) n ≡ true →
-      allFit (childrenOf e) (headsOf bs) n ≡ true
-  children-fit p e q n h c f =
-      rw (same-below e n 0 (λ x. c (tree-code p e q h ∙ x)) .0) at
-      (&&-right (fitsHere (nodeOf e) (headsOf bs) n) (allFit (childrenOf e) (headsOf bs) (wanted (nodeOf e) n)) (sym (fits-children (headsOf bs) n e) ∙ f))
-
-  -- and the same reach is given to them
-  pub children-reach : (p : ℕ) (e : Expr) (q r : ℕ) → At e (varsOf bs) bs p q → (natAbs (field bs p) ≡ 8 → ⊥) → reach e r ≡ true →
-      reachAll (childrenOf e) r ≡ true
-  children-reach p e q r h c f =
-      rw (same-below e 0 r (λ x. c (tree-code p e q h ∙ x)) .1) at
-      (&&-right (reachHere (nodeOf e) r) (reachAll (childrenOf e) (reachBelow (nodeOf e) r)) (sym (reach-children e r) ∙ f))
+    -- and its reach
+    pub children-reach : (r : ℕ) → reach e r ≡ true → reachAll (childrenOf e) r ≡ true
+    children-reach r f =
+        rw (same-below e 0 r same-here .1) at
+        (&&-right (reachHere (nodeOf e) r) (reachAll (childrenOf e) (reachBelow (nodeOf e) r)) (sym (reach-children e r) ∙ f))
 
   module _ (p left : ℕ) (z : List Int) (h : Walk bs p left z) where
     pub walk-standing : Standing (varsOf bs) bs p left
-    walk-standing = record { tree = h .tree; end = h .end; at = h .at; few = h .few }
+    walk-standing = record { tree = h .tree; end = h .end; at = h .at; few = h .few; most = h .most }
 
-    -- a code past those of the operators and the case, and no dependence's, is a restriction's
-    pub walk-seven : 7 ≤ natAbs (field bs p) → (natAbs (field bs p) ≡ 8 → ⊥) → natAbs (field bs p) ≡ 7
-    walk-seven low other = omega (arith, tree-code p (h .tree) (h .end) (h .at), code-high (h .tree))
+    -- ---- the children at the same point, where the code has n of them and the next place is k
 
-    -- ---- the children, where the code says that there are n and that the node has k bytes
-
-    module _ (k n : ℕ) (long : k ≡ nodeLen bs p) (many : (nd : Node) (q : ℕ) → node (varsOf bs) bs p ≡ got nd q → n ≡ arity nd) where
-      -- at the same point
-      unfoldable pub walk-children : (natAbs (field bs p) ≡ 8 → ⊥) → WalkAll bs (p + k) (left - 1) n z
-      walk-children c =
+    module _ (k n : ℕ) (next : k ≡ nodeEnd (varsOf bs) bs p) (many : n ≡ arity (nodeRead (varsOf bs) bs p)) where
+      unfoldable pub walk-children : SamePoint (classAt bs p) → WalkAll bs k (left - 1) n z
+      walk-children same =
           let e = h .tree in
           record {
             trees = childrenOf e;
             end = h .end;
             dims = h .dims;
             bound = h .bound;
-            at = children-at (varsOf bs) bs p k n long many e (h .end) (h .at);
+            at = children-at (varsOf bs) bs p k n next many e (h .end) (h .at);
             few = omega (arith, h .few, children-count e);
-            many = children-counted (varsOf bs) bs p k n long many e (h .end) (h .at);
-            fitting = children-fit p e (h .end) (h .dims) (h .at) c (h .fitting);
-            reaches = children-reach p e (h .end) (h .bound) (h .at) c (h .reaches);
+            most = omega (arith, h .most);
+            many = children-counted (varsOf bs) bs p k n next many e (h .end) (h .at);
+            fitting = children-fit p e (h .end) (h .at) same (h .dims) (h .fitting);
+            reaches = children-reach p e (h .end) (h .at) same (h .bound) (h .reaches);
             point = h .point;
           }
 
     -- ---- a dependence
 
-    module _ (code : natAbs (field bs p) ≡ 8) where
+    module _ (class-is : classAt bs p ≡ Dependence) where
       below : DepAt (h .tree) (varsOf bs) bs p (h .end)
-      below = at-dep (varsOf bs) bs (h .tree) p (h .end) (h .at) (code-field p (h .tree) (h .end) 8 (h .at) code)
+      below = dependence-at bs (h .tree) p (h .end) (h .at) class-is
 
       fit-below : eqb (below .by .cols) (h .dims) && fits (below .child) (headsOf bs) (length (below .by .rows)) ≡ true
       unfolding fits
@@ -127,7 +127,7 @@ module _ (bs : List ℕ) where
       -- where its map is m
       module _ (m : Map) (r : MapRead bs (p + 8) m) where
         map-is : mapOf m ≡ below .by
-        map-is = r .is (below .by) (p + nodeLen bs p) (below .fields .read)
+        map-is = r .is (below .by) (below .fields .next) (below .fields .read)
 
         rows-are : mapOf m .rows ≡ below .by .rows
         rows-are = ap (λ f. f .rows) map-is
@@ -142,16 +142,17 @@ module _ (bs : List ℕ) where
         pub image-fits : Fit m z
         image-fits = map-fits (h .bound) m z (r .neat) (rw dims-are (h .point .near)) (rw rows-are within-limit)
 
-        -- and the child may be walked there
-        pub walk-image : (y : List Int) → pointOf (m .height) y ≡ image (mapOf m .rows) (pointOf (m .width) z) → Padded (m .height) y →
-            Walk bs (p + nodeLen bs p) (left - 1) y
-        walk-image y is rest = record {
+        -- and the child, at the next place, may be walked there
+        pub walk-image : (k : ℕ) → k ≡ nodeEnd (varsOf bs) bs p → (y : List Int) → pointOf (m .height) y ≡ image (mapOf m .rows) (pointOf (m .width) z) → Padded (m .height) y →
+            Walk bs k (left - 1) y
+        walk-image k next y is rest = record {
           tree = below .child;
           end = h .end;
           dims = m .height;
           bound = mapReach (h .bound) (below .by .rows);
-          at = below .below;
+          at = rw next (below .below);
           few = omega (arith, h .few, count-below);
+          most = omega (arith, h .most);
           fitting = rw (height-length m map-is)
               (&&-right (eqb (below .by .cols) (h .dims)) (fits (below .child) (headsOf bs) (length (below .by .rows))) fit-below);
           reaches = &&-right (leb (mapReach (h .bound) (below .by .rows)) limit) (reach (below .child) (mapReach (h .bound) (below .by .rows))) reach-below;
@@ -192,6 +193,7 @@ module _ (bs : List ℕ) where
       bound = h .bound;
       at = walks-split .before;
       few = omega (arith, count-all, h .few);
+      most = h .most;
       fitting = fit-first;
       reaches = &&-left (reach (walks-split .first) (h .bound)) (reachAll (walks-split .rest) (h .bound)) reach-all;
       point = h .point;
@@ -206,6 +208,7 @@ module _ (bs : List ℕ) where
       bound = h .bound;
       at = rw (ends (walks-split .first) (walks-split .middle) (h .dims) (walks-split .before) fit-first) (walks-split .after);
       few = omega (arith, count-all, h .few);
+      most = h .most;
       many = walks-split .many;
       fitting = &&-right (fits (walks-split .first) (headsOf bs) (h .dims)) (allFit (walks-split .rest) (headsOf bs) (h .dims)) fit-all;
       reaches = &&-right (reach (walks-split .first) (h .bound)) (reachAll (walks-split .rest) (h .bound)) reach-all;

@@ -16,7 +16,7 @@ use Rattle.alpha.specs.Box.{inBox}
 use Rattle.alpha.specs.Read.{dimension}
 use Rattle.alpha.specs.Holds.{variable}
 use Rattle.alpha.specs.Ask.{numberOf}
-use Rattle.laws.specs.Sheets.{headsOf}
+use Rattle.laws.specs.Sheets.{headsOf, varsOf, sheetOf}
 use Rattle.affine.specs.Value.{pointOf}
 use Rattle.tree.specs.Formed.{DeclaredRead}
 use Rattle.domain.specs.Constraints.{Testable}
@@ -31,8 +31,18 @@ pub record DeclaredTestable (bs : List ℕ) (p v : ℕ) (z : List Int) : Type 0 
   pub read : DeclaredRead bs p
   pub test : natAbs (field bs p) ≡ v → Testable bs (p + 8) (dimension (headsOf bs) v) (pointOf (dimension (headsOf bs) v) z)
 
+-- z is a point in the box of variable v
+pub record InBoxOf (bs : List ℕ) (v : ℕ) (z : List Int) : Type 0 where
+  pub known : v < varsOf bs
+  pub in-box : inBox (variable (sheetOf bs) v .head .box) (pointOf (dimension (headsOf bs) v) z) ≡ true
+
 -- the bytes of the elements of the variables below v are as they must be
 pub record FilledBelow (s : Sheet) (v : ℕ) (inside : List ℕ) : Type 0 where
   pub sized : length inside ≡ 4096
   pub says : (w : ℕ) (z : Point) → w < v → w < length s → inBox (variable s w .head .box) z ≡ true →
       getD inside (numberOf s w z) 0 ≡ bit (meetsAll (variable s w .declared) z)
+
+-- and v is a variable
+pub record FillsNext (bs : List ℕ) (v : ℕ) (inside : List ℕ) : Type 0 where
+  pub known : v < varsOf bs
+  pub filled : FilledBelow (sheetOf bs) v inside

@@ -15,9 +15,12 @@ use Rattle.alpha.specs.Written.{branchCount}
 use Rattle.laws.specs.At.{At, AllAt}
 use Rattle.laws.specs.Sheets.{headsOf, varsOf, sheetOf}
 use Rattle.affine.specs.Value.{pointOf}
+use Rattle.tree.specs.declared.Class.the-variants.{Case}
+use Rattle.tree.specs.Classes.{classAt}
+use Rattle.tree.specs.Ends.{EndsKept}
 use Rattle.domain.specs.declared.Standing.{Standing}
 use Rattle.domain.specs.declared.Standing.the-variants.{Not, Holds, Clash}
-use Rattle.domain.specs.Walk.{Walk}
+use Rattle.domain.specs.Walk.{Grounds, Walk}
 use Rattle.domain.specs.Standing.{standing, together}
 use Rattle.domain.specs.Held.{Held}
 
@@ -49,6 +52,13 @@ pub record Picked (first : Bool) (p q r : ℕ) : Type 0 where
   pub two : first ≡ false → r ≡ q
 
 -- ---- what is chosen
+
+-- the case at p, of at most `left` nodes, holds at z without a clash, and the tables are as they must be
+pub record Choosing (bs tab inside ends : List ℕ) (p left : ℕ) (z : List Int) : Type 0 where
+  pub grounds : Grounds bs tab inside
+  pub kept : EndsKept bs ends
+  pub held : Held bs p left z
+  pub is-case : classAt bs p ≡ Case
 
 -- r is the place of the tree that is taken at z of the trees es, of dimension n: the first that holds
 pub record Taken (bs : List ℕ) (es : Exprs) (n : ℕ) (z : List Int) (r : ℕ) : Type 0 where

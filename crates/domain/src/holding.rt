@@ -1,25 +1,15 @@
 // The branch that a case takes at a point where it holds without a clash: one branch holds there, so the largest one is spared, and taken
 // where no other holds. Assumes nothing.
 use super::Standing;
-use super::leaf::tip_stands;
-use super::lower::lowered;
-use super::lower::passes;
 use super::stand::stand;
 use alpha::Int;
 use tree::ends::end_of;
-use tree::node::natural;
-use tree::node::node_len;
+use tree::node::children;
+use tree::node::node_end;
 ghost use mathlib.Core.Path.{_≡_};
-ghost use Prim.Native.Nat.{_+_, _-_, _≤_};
-ghost use lib.IntN.{natAbs};
-ghost use Rattle.alpha.specs.Field.{field};
-ghost use Rattle.laws.specs.Sheets.{sheetOf};
-ghost use Rattle.tree.specs.Ends.{EndsKept};
-ghost use Rattle.tree.specs.Formed.{BodiesPlaced};
-ghost use Rattle.domain.specs.Inside.{Inside};
-ghost use Rattle.domain.specs.Walk.{Walk};
-ghost use Rattle.domain.specs.Held.{Held};
-ghost use Rattle.domain.specs.Holding.{isHeld, HoldsAt, Picked, Chooses};
+ghost use Prim.Native.Nat.{_-_};
+ghost use Rattle.domain.specs.Walk.{Grounds, Walk};
+ghost use Rattle.domain.specs.Holding.{isHeld, HoldsAt, Picked, Choosing, Chooses};
 
 fn is_held(how: Standing) -> bool
     ensures { λ r. ⌜ r ≡ isHeld how ⌝ }
@@ -31,28 +21,7 @@ fn is_held(how: Standing) -> bool
     }
 }
 
-// Whether the tree at `at`, of at most `left` nodes, holds at z. A variable or a constant is told here, which spares a call.
-fn tree_holds(
-    s: &[u8],
-    tab: &[usize; 102],
-    inside: &[u8; 4096],
-    at: usize,
-    left: usize,
-    z: [Int; 4],
-) -> bool
-    requires { ⌜ BodiesPlaced (now s) (now tab) × Inside (sheetOf (now s)) (now inside) × Walk (now s) at left z × (left ≤ 2048) ⌝ }
-    ensures { λ r. ⌜ HoldsAt (now (s .entry)) at z r ⌝ }
-{
-    if natural(s, at) < 3 {
-        return is_held(tip_stands(s, tab, inside, at, z));
-    }
-    let it = stand(s, tab, inside, at, left, z);
-    let how = it.how;
-    is_held(how)
-}
-
-// The same. Restrictions and dependences are passed on the way to the first other node, and below a restriction that does not hold
-// nothing is walked.
+// Whether the tree at `at`, of at most `left` nodes, holds at z.
 fn holds(
     s: &[u8],
     tab: &[usize; 102],
@@ -61,22 +30,12 @@ fn holds(
     left: usize,
     z: [Int; 4],
 ) -> bool
-    requires { ⌜ BodiesPlaced (now s) (now tab) × Inside (sheetOf (now s)) (now inside) × Walk (now s) at left z × (left ≤ 2048) ⌝ }
+    requires { ⌜ Grounds (now s) (now tab) (now inside) × Walk (now s) at left z ⌝ }
     ensures { λ r. ⌜ HoldsAt (now (s .entry)) at z r ⌝ }
 {
-    let mut p = at;
-    let mut n = left;
-    let mut y = z;
-    while natural(s, p) > 6 {
-        if !passes(s, p, y) {
-            return false;
-        }
-        let lower = lowered(s, p, y);
-        y = lower;
-        p += node_len(s, p);
-        n -= 1;
-    }
-    tree_holds(s, tab, inside, p, n, y)
+    let it = stand(s, tab, inside, at, left, z);
+    let how = it.how;
+    is_held(how)
 }
 
 // One of two places.
@@ -97,12 +56,12 @@ pub fn holding(
     left: usize,
     z: [Int; 4],
 ) -> usize
-    requires { ⌜ BodiesPlaced (now s) (now tab) × Inside (sheetOf (now s)) (now inside) × EndsKept (now s) (now ends) × Held (now s) at left z × (left ≤ 2048) × (natAbs (field (now s) at) ≡ 6) ⌝ }
+    requires { ⌜ Choosing (now s) (now tab) (now inside) (now ends) at left z ⌝ }
     ensures { λ r. ⌜ Chooses (now (s .entry)) at (left - 1) z r ⌝ }
 {
     let n = left - 1;
-    let mut more = natural(s, at + 8) - 1;
-    let mut spared = at + 16;
+    let mut more = children(s, at) - 1;
+    let mut spared = node_end(s, at);
     let mut next = end_of(s, ends, spared, n);
     let mut size = next - spared;
     while more > 0 {

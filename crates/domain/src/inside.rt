@@ -14,19 +14,18 @@ ghost use mathlib.Core.Bool.{true};
 ghost use lib.ListN.{length, set};
 ghost use Rattle.alpha.specs.Sheet.{Declared};
 ghost use Rattle.alpha.specs.Affine.{meetsAll};
-ghost use Rattle.alpha.specs.Box.{inBox};
 ghost use Rattle.alpha.specs.Read.{got, dimension};
 ghost use Rattle.alpha.specs.Read as Read;
 ghost use Rattle.alpha.specs.Box as Box;
 ghost use Rattle.alpha.specs.Holds.{variable};
 ghost use Rattle.laws.specs.Heads.{declaredLen};
-ghost use Rattle.laws.specs.Sheets.{headsOf, varsOf, sheetOf};
+ghost use Rattle.laws.specs.Sheets.{headsOf, sheetOf};
 ghost use Rattle.affine.specs.Value.{pointOf};
 ghost use Rattle.tree.specs.Prepared.{Prepared};
 ghost use Rattle.tree.specs.Formed.{DeclaredRead, Formed};
 ghost use Rattle.domain.specs.Element.{PointOf};
 ghost use Rattle.domain.specs.Inside.{Inside, bit};
-ghost use Rattle.domain.specs.Filling.{declaredMeets, DeclaredTestable, FilledBelow};
+ghost use Rattle.domain.specs.Filling.{declaredMeets, DeclaredTestable, InBoxOf, FilledBelow, FillsNext};
 
 // The place after the declared constraint at `at`.
 fn next_declared(s: &[u8], tab: &[usize; 102], at: usize) -> usize
@@ -52,7 +51,7 @@ fn declared_meets(s: &[u8], tab: &[usize; 102], at: usize, v: usize, z: [Int; 4]
 
 // All declared constraints of variable v hold at z, a point of its box.
 fn all_declared_meet(s: &[u8], tab: &[usize; 102], v: usize, z: [Int; 4]) -> bool
-    requires { ⌜ Formed (now s) (now tab) × (v < varsOf (now s)) × (inBox (variable (sheetOf (now s)) v .head .box) (pointOf (dimension (headsOf (now s)) v) z) ≡ true) ⌝ }
+    requires { ⌜ Formed (now s) (now tab) × InBoxOf (now s) v z ⌝ }
     ensures { λ r. ⌜ r ≡ meetsAll (variable (sheetOf (now (s .entry))) v .declared) (pointOf (dimension (headsOf (now (s .entry))) v) z) ⌝ }
 {
     let second = second_place(tab);
@@ -94,7 +93,7 @@ fn keep(inside: &mut [u8; 4096], n: usize, met: bool)
 
 // The bytes of the elements of variable v, after those of the variables before it.
 fn fill_variable(s: &[u8], tab: &[usize; 102], inside: &mut [u8; 4096], v: usize)
-    requires { ⌜ Formed (now s) (now tab) × (v < varsOf (now s)) × FilledBelow (sheetOf (now s)) v (now inside) ⌝ }
+    requires { ⌜ Formed (now s) (now tab) × FillsNext (now s) v (now inside) ⌝ }
     ensures { λ _. ⌜ FilledBelow (sheetOf (now (s .entry))) (v + 1) (now (inside .exit)) ⌝ }
 {
     let first = first_element(tab, v);

@@ -1,7 +1,6 @@
 // How several trees stand together. Assumes nothing.
 use super::Standing;
 ghost use mathlib.Core.Path.{_≡_};
-ghost use Prim.Native.Nat.{ℕ};
 ghost use Rattle.domain.specs.Standing as Meaning;
 
 // Two operands: not where one does not hold, and else a clash where one has it.
@@ -50,11 +49,4 @@ pub fn alone(branches: bool) -> Standing
     } else {
         Standing::Holds
     }
-}
-
-// Whether a node of this code, 3 or more, gives way to its children: a case among branches, an operator or an if among operands.
-pub fn opens(branches: bool, code: usize) -> bool
-    ensures { λ r. ⌜ r ≡ Meaning.opens branches code ⌝ }
-{
-    if branches { code == 6 } else { code < 6 }
 }

@@ -17,9 +17,8 @@ mod faults;
 pub mod holding;
 mod inside;
 mod join;
-pub mod leaf;
-pub mod lower;
-pub mod stand;
+mod leaf;
+mod stand;
 
 // How an expression stands at a point: it does not hold, it holds, or it holds and a case that is reached there clashes.
 pub enum Standing {
@@ -32,14 +31,6 @@ pub enum Standing {
 pub struct Stood {
     pub how: Standing,
     pub next: usize,
-}
-
-// What the first of several trees adds to how they stand together: how it stands itself, or, where its children take its place, what none of
-// them come to; the place after what was looked at; and how many trees stand there in its place.
-pub struct Step {
-    pub how: Standing,
-    pub next: usize,
-    pub more: usize,
 }
 
 // Which elements are inside their declared domain, and then GAP and CLASH over all elements: refusals 10 and 11 with their places.

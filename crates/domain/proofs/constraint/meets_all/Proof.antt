@@ -9,8 +9,6 @@ use Rattle.domain.specs.Constraints.{constraintsFields, AllTestable}
 use Rattle.domain.proofs.Restrictions.{testable-first, testable-rest, first-fails, first-holds, none-fail}
 use Rattle.domain.proofs.constraint.meets_all.Statement.{statement}
 use Rattle.domain.proofs.constraint.meets_all.Tie as tie
-use Rattle.domain.proofs.constraint.meets_all.Reads as reads
-use Rattle.domain.proofs.constraint.meets_all.Lts as lts
 
 abbrev Inv-loop : tie.InvT-loop
 Inv-loop s at count n z p₀ left₀ p left =

@@ -23,7 +23,7 @@ abbrev μ-loop : tie.MeasureT-loop
 
 -- the variable
 laid : (c : tie.Start Inv-loop μ-loop) → VariableLaid (c .args .s .now) (c .args .tab .now) (c .args .v)
-laid c = laid-variable _ _ (c .pre .0 .placed) _ (c .pre .2)
+laid c = laid-variable _ _ (c .pre .0 .formed .placed) _ (c .pre .1 .known)
 
 -- its first element
 first-is : (c : tie.After-first-element Inv-loop μ-loop) →
@@ -64,8 +64,7 @@ low c = omega (arith, size-is (c .before .before), c .loop-test .taken)
 body-stands-requires : tie.Need-body-stands-requires Inv-loop μ-loop
 body-stands-requires c κs =
     let s = c .before .before .before .before .before in
-    let p = s .pre in
-    (p .0, p .1, record { known = p .2; low = low c }, p .3)
+    (s .pre .0, record { has-body = s .pre .1; low = low c })
 
 is-clear-requires : tie.Need-is-clear-requires Inv-loop μ-loop
 is-clear-requires c κs = search needs
@@ -87,12 +86,11 @@ returns c =
     let at-loop = in-loop .before in
     let after-first-element = at-loop .before .before in
     let s = after-first-element .before .before in
-    let p = s .pre in
     let how = after-body-stands .body-stands in
     let faulty = sym (c .before .before .is-clear .ensures) ∙ not-true _ (c .before .if1 .taken) in
     c .fault .ensures
     ∙ ap (λ n. faultOf (how .result) (n + at-loop .loop .i)) (first-is after-first-element)
-    ∙ body-fails _ _ _ (at-loop .loop .inv) (low in-loop) (p .3) _ (how .ensures) faulty
+    ∙ body-fails _ _ _ (at-loop .loop .inv) (low in-loop) (s .pre .1 .no-input) _ (how .ensures) faulty
 
 add-i : tie.Need-add-i Inv-loop μ-loop
 add-i c = search needs
@@ -105,9 +103,8 @@ loop-again c =
     let in-loop = c .before .before .before in
     let at-loop = in-loop .before in
     let s = at-loop .before .before .before .before in
-    let p = s .pre in
     let clear = sym (c .before .is-clear .ensures) ∙ not-false _ (c .if1 .left) in
-    body-passes _ _ _ (at-loop .loop .inv) (low in-loop) (p .3) _ (c .before .before .body-stands .ensures) clear
+    body-passes _ _ _ (at-loop .loop .inv) (low in-loop) (s .pre .1 .no-input) _ (c .before .before .body-stands .ensures) clear
 
 returns-2 : tie.Need-returns-2 Inv-loop μ-loop
 returns-2 c = body-end _ _ _ (c .before .loop .inv) (omega (arith, size-is (c .before .before), c .loop-test .left))

@@ -22,7 +22,7 @@ variable-count-requires c κs = search needs
 
 -- the table says how many variables the sheet has
 count-is : (c : tie.After-variable-count Inv-loop μ-loop) → c .variable-count .result ≡ varsOf (c .before .before .args .s .now)
-count-is c = c .variable-count .ensures ∙ c .before .before .pre .0 .placed .prepared .table .variables
+count-is c = c .variable-count .ensures ∙ c .before .before .pre .formed .placed .prepared .table .variables
 
 loop-holds : tie.Need-loop-holds Inv-loop μ-loop
 loop-holds c = all-start _
@@ -30,8 +30,7 @@ loop-holds c = all-start _
 variable-faults-requires : tie.Need-variable-faults-requires Inv-loop μ-loop
 variable-faults-requires c κs =
     let s = c .before .before .before .before in
-    let p = s .pre in
-    (p .0, p .1, omega (arith, count-is (c .before .before), c .loop-test .taken))
+    (s .pre, omega (arith, count-is (c .before .before), c .loop-test .taken))
 
 enum-told : tie.Need-enum-told Inv-loop μ-loop
 enum-told c = search needs
@@ -43,7 +42,7 @@ enum-told-2 c = search needs
 low : (c : tie.In-loop Inv-loop μ-loop) → c .before .loop .v < length (sheetOf (c .before .before .before .before .args .s .now))
 low c =
     let s = c .before .before .before .before in
-    omega (arith, count-is (c .before .before), s .pre .0 .placed .many, c .loop-test .taken)
+    omega (arith, count-is (c .before .before), s .pre .formed .placed .many, c .loop-test .taken)
 
 returns : tie.Need-returns Inv-loop μ-loop
 returns c =
@@ -67,7 +66,7 @@ loop-again c =
 returns-2 : tie.Need-returns-2 Inv-loop μ-loop
 returns-2 c =
     let s = c .before .before .before .before in
-    let many = s .pre .0 .placed .many in
+    let many = s .pre .formed .placed .many in
     all-end _ _ (c .before .loop .inv) (omega (arith, count-is (c .before .before), c .loop-test .left))
 
 pub faults-spec : {M : Type 1} → statement M

@@ -1,12 +1,12 @@
--- `domain::holding` meets its contract: the branches of the case stand after its code and their number, and the first is spared at first.
+-- `domain::holding` meets its contract: the branches of the case stand after its node, and the first is spared at first.
 -- Assumes nothing.
-use mathlib.Core.Path.{_≡_, sym, _∙_}
-use Prim.Native.Nat.{ℕ, _+_, _-_, _≤_}
+use mathlib.Core.Path.{refl, sym, _∙_}
+use Prim.Native.Nat.{ℕ, _-_, _≤_}
 use native.Mathlib.Omega.{arith}
 use borrow.Author.Needs.{needs}
-use lib.ListN.{length}
+use Rattle.laws.specs.Sheets.{varsOf}
 use Rattle.laws.proofs.Shapes.{at-long}
-use Rattle.tree.proofs.Noding.{second-there}
+use Rattle.tree.specs.Standing.{Noded}
 use Rattle.tree.proofs.Standings.{standing-noded, standing-some}
 use Rattle.domain.specs.Walk.{Walk, WalkAll}
 use Rattle.domain.specs.Holding.{Sought, Chooses}
@@ -25,45 +25,36 @@ abbrev μ-loop : tie.MeasureT-loop
 
 -- ---- before the loop
 
--- the number of branches is there
-there : (c : tie.Start Inv-loop μ-loop) → c .args .at + 16 ≤ length (c .args .s .now)
-there c =
-    let code = c .pre .5 in
-    let w = c .pre .3 .walk in
-    second-there _ _ _ (standing-noded _ _ _ _ (walk-standing _ _ _ _ w)) (λ e. let z : _≡_ {A = ℕ} 6 5 = sym code ∙ e in omega arith)
+noded : (c : tie.Start Inv-loop μ-loop) → Noded (varsOf (c .args .s .now)) (c .args .s .now) (c .args .at)
+noded c = standing-noded _ _ _ _ (walk-standing _ _ _ _ (c .pre .held .walk))
 
 sub-n : tie.Need-sub-n Inv-loop μ-loop
-sub-n c = omega (arith, standing-some _ _ _ _ (walk-standing _ _ _ _ (c .before .pre .3 .walk)))
+sub-n c = omega (arith, standing-some _ _ _ _ (walk-standing _ _ _ _ (c .before .pre .held .walk)))
 
-add-natural : tie.Need-add-natural Inv-loop μ-loop
-add-natural c = omega (arith, there (c .before))
+children-requires : tie.Need-children-requires Inv-loop μ-loop
+children-requires c κs = noded (c .before)
 
-natural-requires : tie.Need-natural-requires Inv-loop μ-loop
-natural-requires c κs = omega (arith, there (c .before))
-
-module _ (c : tie.After-natural Inv-loop μ-loop) where
-  abbrev s : tie.Start Inv-loop μ-loop
-  s = c .before .before
-
-  some : 1 ≤ c .natural .result
-  some = some-branch _ _ _ _ _ (s .pre .3) (s .pre .5) (c .natural .ensures)
-
-  branches : WalkAll (s .args .s .now) (s .args .at + 16) (s .args .left - 1) (c .natural .result) (s .args .z)
-  branches = walk-branches _ _ _ _ _ (s .pre .3) (s .pre .5) (c .natural .ensures)
-
-  first-branch : Walk (s .args .s .now) (s .args .at + 16) (s .args .left - 1) (s .args .z)
-  first-branch = walk-first _ _ _ _ _ some branches
+some : (c : tie.After-children Inv-loop μ-loop) → 1 ≤ c .children .result
+some c = let s = c .before .before in some-branch _ _ _ _ _ _ (s .pre .held) (s .pre .is-case) refl (c .children .ensures)
 
 sub-more : tie.Need-sub-more Inv-loop μ-loop
 sub-more c = omega (arith, some c)
 
-add-spared : tie.Need-add-spared Inv-loop μ-loop
-add-spared c = omega (arith, there (c .before .before))
+node-end-requires : tie.Need-node-end-requires Inv-loop μ-loop
+node-end-requires c κs = noded (c .before .before)
+
+module _ (c : tie.After-node-end Inv-loop μ-loop) where
+  abbrev s : tie.Start Inv-loop μ-loop
+  s = c .before .before .before
+
+  branches : WalkAll (s .args .s .now) (c .node-end .result) (s .args .left - 1) (c .before .children .result) (s .args .z)
+  branches = walk-branches _ _ _ _ _ _ (s .pre .held) (s .pre .is-case) (c .node-end .ensures) (c .before .children .ensures)
+
+  first-branch : Walk (s .args .s .now) (c .node-end .result) (s .args .left - 1) (s .args .z)
+  first-branch = walk-first _ _ _ _ _ (some (c .before)) branches
 
 end-of-requires : tie.Need-end-of-requires Inv-loop μ-loop
-end-of-requires c κs =
-    let p = c .before .before .pre in
-    (walk-standing _ _ _ _ (first-branch c), omega (arith, p .4), p .2)
+end-of-requires c κs = (walk-standing _ _ _ _ (first-branch c), s c .pre .kept)
 
 sub-size : tie.Need-sub-size Inv-loop μ-loop
 sub-size c =
@@ -72,37 +63,38 @@ sub-size c =
 
 loop-holds : tie.Need-loop-holds Inv-loop μ-loop
 loop-holds c =
-    let after-natural = c .before in
+    let after-node-end = c .before in
     let ends = c .end-of .ensures in
-    let others = walk-rest _ _ _ _ _ (some after-natural) (branches after-natural) _ (λ e q n h f. ends e q h) in
-    (first-branch after-natural, others, λ r x. x)
+    let others = walk-rest _ _ _ _ _ (some (after-node-end .before)) (branches after-node-end) _ (λ e q n h f. ends e q h) in
+    (first-branch after-node-end, others, λ r x. x)
 
 -- what is taken of the first branch, which is spared, and of the others
 module _ (c : tie.At-loop Inv-loop μ-loop) where
   abbrev from : tie.Start Inv-loop μ-loop
-  from = c .before .before .before .before
+  from = s (c .before .before)
 
   case-chooses : (r : ℕ) →
-      Sought (from .args .s .now) (c .before .end-of .result) (from .args .left - 1) (c .before .before .natural .result - 1) (from .args .z)
-      (from .args .at + 16) r →
+      Sought (from .args .s .now) (c .before .end-of .result) (from .args .left - 1) (c .before .before .before .children .result - 1) (from .args .z)
+      (c .before .before .node-end .result) r →
       Chooses (from .args .s .now) (from .args .at) (from .args .left - 1) (from .args .z) r
   case-chooses r x =
       let after-end-of = c .before in
-      chooses _ _ _ _ _ (from .pre .3) (from .pre .5) (after-end-of .before .natural .ensures) _ (after-end-of .end-of .ensures) r x
+      let after-node-end = after-end-of .before in
+      chooses _ _ _ _ _ _ (from .pre .held) (from .pre .is-case) (after-node-end .node-end .ensures) (after-node-end .before .children .ensures) _
+      (after-end-of .end-of .ensures) r x
 
 -- ---- in the loop
 
 module _ (c : tie.In-loop Inv-loop μ-loop) where
   abbrev start : tie.Start Inv-loop μ-loop
-  start = c .before .before .before .before .before
+  start = from (c .before)
 
   this-branch : Walk (start .args .s .now) (c .before .loop .next) (start .args .left - 1) (start .args .z)
   this-branch = walk-first _ _ _ _ _ (c .loop-test .taken) (c .before .loop .inv .1)
 
 end-of-requires-2 : tie.Need-end-of-requires-2 Inv-loop μ-loop
 end-of-requires-2 c κs =
-    let p = start c .pre in
-    (walk-standing _ _ _ _ (this-branch c), omega (arith, p .4), p .2)
+    (walk-standing _ _ _ _ (this-branch c), start c .pre .kept)
 
 sub-long : tie.Need-sub-long Inv-loop μ-loop
 sub-long c =
@@ -116,9 +108,8 @@ holds-requires : tie.Need-holds-requires Inv-loop μ-loop
 holds-requires c κs =
     let in-loop = c .before .before in
     let loop = in-loop .before .loop in
-    let p = start in-loop .pre in
     let walk = tried-walk _ _ (start in-loop .args .z) _ _ (in-loop .loop-test .taken) (loop .inv .1) _ (loop .inv .0) _ _ (c .pick .ensures) in
-    (p .0, p .1, walk, omega (arith, p .4))
+    (start in-loop .pre .grounds, walk)
 
 returns : tie.Need-returns Inv-loop μ-loop
 returns c =
@@ -184,10 +175,9 @@ holding-spec =
     Inv-loop
     μ-loop
     sub-n
-    add-natural
-    natural-requires
+    children-requires
     sub-more
-    add-spared
+    node-end-requires
     end-of-requires
     sub-size
     loop-holds

@@ -39,14 +39,14 @@ loop-holds : tie.Need-loop-holds Inv-loop μ-loop
 loop-holds c =
     let s = c .before .before .before in
     let e = second-is (c .before) in
-    meets-left _ _ (s .args .z) _ (s .pre .0) (s .pre .1) _ _ (c .natural .ensures ∙ ap (λ p. natAbs (field (s .args .s .now) p)) e) (ap (λ p. p + 8) e)
+    meets-left _ _ (s .args .z) _ (s .pre .0) (s .pre .1 .known) _ _ (c .natural .ensures ∙ ap (λ p. natAbs (field (s .args .s .now) p)) e) (ap (λ p. p + 8) e)
 
 declared-meets-requires : tie.Need-declared-meets-requires Inv-loop μ-loop
 declared-meets-requires c κs =
     let s = c .before .before .before .before .before in
     let p = s .pre in (
       p .0 .placed .prepared,
-      first-testable _ _ (s .args .z) _ _ (c .before .loop .inv) _ (laid-variable _ _ (p .0 .placed) _ (p .1)) (p .2)
+      first-testable _ _ (s .args .z) _ _ (c .before .loop .inv) _ (laid-variable _ _ (p .0 .placed) _ (p .1 .known)) (p .1 .in-box)
           (c .loop-test .taken),
     )
 

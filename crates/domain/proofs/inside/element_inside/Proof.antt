@@ -49,7 +49,7 @@ all-declared-meet-requires : tie.Need-all-declared-meet-requires
 all-declared-meet-requires c κs =
     let s = c .before .before .before .before .before .before in
     let at = rw (c .before .record-place .ensures) at (c .point .ensures) in
-    (s .pre .0, s .pre .1 .known, point-inside _ _ _ _ (laid s) (s .pre .1 .low) _ at)
+    (s .pre .0, record { known = s .pre .1 .known; in-box = point-inside _ _ _ _ (laid s) (s .pre .1 .low) _ at })
 
 returns-2 : tie.Need-returns-2
 returns-2 c =

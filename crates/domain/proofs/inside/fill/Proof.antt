@@ -31,7 +31,7 @@ fill-variable-requires c κs =
     let after-variable-count = c .before .before .before in
     let s = after-variable-count .before .before in
     let p = s .pre in
-    (p .0, omega (arith, count-is after-variable-count, c .before .loop-test .taken), c .before .before .loop .inv)
+    (p .0, record { known = omega (arith, count-is after-variable-count, c .before .loop-test .taken); filled = c .before .before .loop .inv })
 
 add-v : tie.Need-add-v Inv-loop μ-loop
 add-v c = omega (arith, c .before .before .loop-test .taken)

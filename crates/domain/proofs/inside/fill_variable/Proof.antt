@@ -20,7 +20,7 @@ abbrev μ-loop : tie.MeasureT-loop
 
 -- the variable
 laid : (c : tie.Start Inv-loop μ-loop) → VariableLaid (c .args .s .now) (c .args .tab .now) (c .args .v)
-laid c = laid-variable _ _ (c .pre .0 .placed) _ (c .pre .1)
+laid c = laid-variable _ _ (c .pre .0 .placed) _ (c .pre .1 .known)
 
 -- its first element
 first-is : (c : tie.After-first-element Inv-loop μ-loop) →
@@ -67,7 +67,7 @@ sub-size c =
 loop-holds : tie.Need-loop-holds Inv-loop μ-loop
 loop-holds c =
     let s = c .before .before .before in
-    fill-none _ _ _ (s .pre .2)
+    fill-none _ _ _ (s .pre .1 .filled)
 
 add-n : tie.Need-add-n Inv-loop μ-loop
 add-n c = omega (arith, number-low c)
@@ -76,7 +76,7 @@ element-inside-requires : tie.Need-element-inside-requires Inv-loop μ-loop
 element-inside-requires c κs =
     let after-first-element2 = c .before .before in
     let s = after-first-element2 .before .before .before in
-    (s .pre .0, record { known = s .pre .1; low = low c })
+    (s .pre .0, record { known = s .pre .1 .known; low = low c })
 
 keep-requires : tie.Need-keep-requires Inv-loop μ-loop
 keep-requires c κs =

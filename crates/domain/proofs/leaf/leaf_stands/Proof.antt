@@ -1,89 +1,73 @@
--- `domain::leaf_stands` meets its contract: off the box it does not hold, and in the box the element's byte tells. Assumes nothing.
-use mathlib.Core.Path.{sym, _∙_}
-use Prim.Native.Nat.{_+_, _<_}
+-- `domain::leaf_stands` meets its contract: a variable stands as its element does, and a constant holds. Assumes nothing.
+use mathlib.Core.Path.{ap, _∙_}
 use native.Mathlib.Omega.{arith}
 use borrow.Author.Needs.{needs}
-use Rattle.domain.proofs.Records.{VariableLaid, laid-variable}
-use Rattle.domain.proofs.Leaves.{off-stands, element-low, byte-stands, byte-not}
+use Rattle.tree.specs.Classes.{leafCode}
+use Rattle.tree.proofs.Classes.{leaf-there}
+use Rattle.tree.proofs.Heading.{prepared-sections}
+use Rattle.tree.proofs.Fitting.{variable-known}
+use Rattle.domain.proofs.Ways.{variable-way, integer-way, boolean-way}
 use Rattle.domain.proofs.leaf.leaf_stands.Statement.{statement}
 use Rattle.domain.proofs.leaf.leaf_stands.Tie as tie
 
--- the variable
-laid : (c : tie.Start) → VariableLaid (c .args .s .now) (c .args .tab .now) (c .args .v)
-laid c = laid-variable _ _ (c .pre .0) _ (c .pre .2)
-
-record-place-requires : tie.Need-record-place-requires
-record-place-requires c κs = laid (c .before) .low
-
-index-requires : tie.Need-index-requires
-index-requires c κs =
-    let l = laid (c .before .before) in
-    rw (c .record-place .ensures) (l .recorded, rw (l .box-is) (omega (arith, l .few)))
-
-enum-known-found : tie.Need-enum-known-found
-enum-known-found c = search needs
+leaf-of-requires : tie.Need-leaf-of-requires
+leaf-of-requires c κs = c .before .pre .1
 
 enum-told : tie.Need-enum-told
 enum-told c = search needs
 
+enum-told-2 : tie.Need-enum-told-2
+enum-told-2 c = search needs
+
+enum-told-3 : tie.Need-enum-told-3
+enum-told-3 c = search needs
+
+add-natural : tie.Need-add-natural
+add-natural c =
+    let s = c .before .before .before .before in
+    omega (arith, leaf-there _ _ (s .pre .1))
+
+natural-requires : tie.Need-natural-requires
+natural-requires c κs =
+    let s = c .before .before .before .before in
+    omega (arith, leaf-there _ _ (s .pre .1))
+
+variable-stands-requires : tie.Need-variable-stands-requires
+variable-stands-requires c κs =
+    let after-leaf-of = c .before .before .before in
+    let s = after-leaf-of .before .before in
+    let code = after-leaf-of .leaf-of .ensures ∙ ap leafCode (c .before .enum-told .given .1) in
+    let known = variable-known _ _ (s .pre .1 .noded) code (prepared-sections _ _ (s .pre .0 .placed .prepared) .some) in
+    (s .pre .0, rw (c .natural .ensures) known)
+
 returns : tie.Need-returns
 returns c =
-    let after-record-place = c .before .before .before in
-    let s = after-record-place .before .before in
-    off-stands _ _ _ (s .args .z) (laid s)
-    (rw (after-record-place .record-place .ensures) at (sym (c .enum-told .given .1) ∙ c .before .before .index .ensures))
-
-first-element-requires : tie.Need-first-element-requires
-first-element-requires c κs =
-    let s = c .before .before .before .before .before .before in
-    omega (arith, laid s .low)
-
--- the element's number
-number-low : (c : tie.After-first-element) → c .first-element .result + c .before .before .found .given .0 .0 < 4096
-number-low c =
-    let after-index = c .before .before .before .before in
-    let after-record-place = after-index .before in
-    let s = after-record-place .before .before in
-    let at = rw (after-record-place .record-place .ensures) at (sym (c .before .before .found .given .1) ∙ after-index .index .ensures) in
-    omega (arith, element-low _ _ _ (s .args .z) (laid s) _ at, c .first-element .ensures)
-
-add-n : tie.Need-add-n
-add-n c = omega (arith, number-low c)
-
-element-copy-out-if1 : tie.Need-element-copy-out-if1
-element-copy-out-if1 c = number-low c
+    let after-leaf-of = c .before .before .before .before in
+    let s = after-leaf-of .before .before in
+    let code = after-leaf-of .leaf-of .ensures ∙ ap leafCode (c .before .before .enum-told .given .1) in
+    variable-way _ _ (s .args .z) _ _ code (c .before .natural .ensures) (c .variable-stands .ensures)
 
 returns-2 : tie.Need-returns-2
 returns-2 c =
-    let n = c .before .before in
-    let after-found = n .before .before in
-    let after-index = after-found .before .before in
-    let after-record-place = after-index .before in
-    let s = after-record-place .before .before in
-    let at = rw (after-record-place .record-place .ensures) at (sym (after-found .found .given .1) ∙ after-index .index .ensures) in
-    byte-stands _ _ _ (s .args .z) (laid s) _ at _ (s .pre .1) (rw (n .first-element .ensures) at (c .if1 .taken))
+    let s = c .before .before .before .before in
+    integer-way _ _ (s .args .z) (c .before .before .leaf-of .ensures ∙ ap leafCode (c .enum-told2 .given .1))
 
 returns-3 : tie.Need-returns-3
 returns-3 c =
-    let n = c .before .before in
-    let after-found = n .before .before in
-    let after-index = after-found .before .before in
-    let after-record-place = after-index .before in
-    let s = after-record-place .before .before in
-    let at = rw (after-record-place .record-place .ensures) at (sym (after-found .found .given .1) ∙ after-index .index .ensures) in
-    byte-not _ _ _ (s .args .z) (laid s) _ at _ (s .pre .1) (rw (n .first-element .ensures) at (c .if1 .left))
+    let s = c .before .before .before .before in
+    boolean-way _ _ (s .args .z) (c .before .before .leaf-of .ensures ∙ ap leafCode (c .enum-told3 .given .1))
 
 pub leaf-stands-spec : {M : Type 1} → statement M
 leaf-stands-spec =
     tie.close
     (tie.spec
-    record-place-requires
-    index-requires
-    enum-known-found
+    leaf-of-requires
     enum-told
+    add-natural
+    natural-requires
+    variable-stands-requires
+    enum-told-2
+    enum-told-3
     returns
-    first-element-requires
-    add-n
-    element-copy-out-if1
     returns-2
     returns-3)
