@@ -37,7 +37,7 @@ use Rattle.tree.specs.Standing.{Standing}
 use Rattle.normal.specs.declared.Pen.{Pen}
 use Rattle.normal.specs.declared.Taken.{Taken}
 use Rattle.normal.specs.Count.{countOf}
-use Rattle.normal.specs.Part.{Part, beside, own, partOf, chosenOf}
+use Rattle.normal.specs.Part.{Part, beside, givenBy, own, partOf, chosenOf}
 use Rattle.normal.specs.Followed.{advance, roomOf, Route, Wrote, Follows}
 use Rattle.normal.specs.Body.{written, takenBy, nothing, both, total, branchesIn, branchIn, BodyAt, BranchAt, IsBody, TakesBranch, TakesFrom}
 use Rattle.normal.specs.Body.{StoresBranch, RoomFor, RoomFrom, StoresFrom}
@@ -63,8 +63,7 @@ module _ (m : Sheet.Map) (few : m .cols ≤ 4) (high : length (m .rows) ≤ 4) (
         mul-le-mul-right (8 * m .cols + 8) high,
       )
 
-  own-short : (t : Bool) (nd : Node) (l : ℕ) → ((d : ℕ) (cs : List Constraint) → nd ≡ nRestr d cs → length cs ≤ 64) →
-      length (own t nd m l .out) ≤ 3104
+  own-short : (t : Bool) (nd : Node) (l : ℕ) → length (givenBy nd) ≤ 64 → length (own t nd m l .out) ≤ 3104
   unfolding bytes
   own-short true (nVar v) l c = leaf-short (nat 0) (nat v) (length-nat 0) (length-nat v)
   own-short true (nInt x) l c = leaf-short (nat 1) (Rattle.alpha.specs.Field.num x) (length-nat 1) (length-num x)
@@ -87,19 +86,10 @@ module _ (m : Sheet.Map) (few : m .cols ≤ 4) (high : length (m .rows) ≤ 4) (
         arith,
         constraints-long (m .cols) (map (constraintAfter m) cs) (constraints-after-wide m cs wide),
         length-map cs (constraintAfter m),
-        mul-le-mul-right (16 + 8 * m .cols) (c d cs refl),
+        mul-le-mul-right (16 + 8 * m .cols) c,
         ap (λ n. n * (16 + 8 * m .cols)) (length-map cs (constraintAfter m)),
       )
   own-short false (nDep f) l c = omega arith
-
-restr-given : (cs : List Constraint) (e : ℕ) → length cs ≤ e → (d : ℕ) (ds : List Constraint) (i : ℕ) → nRestr i cs ≡ nRestr d ds → length ds ≤ e
-restr-given cs e h d ds i same = subst (λ x. length x ≤ e) (ap givenOf same) h
-  where
-    givenOf : Node → List Constraint
-    givenOf nd = Rattle.normal.specs.Part.givenBy nd
-
-no-restr : (nd : Node) → Rattle.laws.specs.At.codeOf nd < 7 → (d : ℕ) (cs : List Constraint) → nd ≡ nRestr d cs → length cs ≤ 64
-no-restr nd h d cs e = absurd (omega (arith, ap Rattle.laws.specs.At.codeOf e))
 
 two-short : (p q : Part) (a b : ℕ) → length (p .out) ≤ a → length (q .out) ≤ b → length (beside p q .out) ≤ a + b
 two-short p q a b h g = omega (arith, length-append (p .out) (q .out))
@@ -111,14 +101,14 @@ module _ (vars : ℕ) where
     pub part-short : (t : Bool) (e : Expr) (m : Sheet.Map) (l b : ℕ) → Writable e vars → m .cols ≤ 4 → length (m .rows) ≤ 4 →
         RowsWide (m .cols) (m .rows) →
         length (partOf t e m l b .out) ≤ 3104 * nodeCount e
-    part-short t (var v) m l b w f h r = omega (arith, own-short m f h r t (nVar v) l (no-restr (nVar v) (omega arith)))
-    part-short t (int c) m l b w f h r = omega (arith, own-short m f h r t (nInt c) l (no-restr (nInt c) (omega arith)))
-    part-short t (boo c) m l b w f h r = omega (arith, own-short m f h r t (nBool c) l (no-restr (nBool c) (omega arith)))
+    part-short t (var v) m l b w f h r = omega (arith, own-short m f h r t (nVar v) l (omega arith))
+    part-short t (int c) m l b w f h r = omega (arith, own-short m f h r t (nInt c) l (omega arith))
+    part-short t (boo c) m l b w f h r = omega (arith, own-short m f h r t (nBool c) l (omega arith))
     part-short t (un o a) m l b w f h r =
         omega (
           arith,
           two-short (own t (nUnary o) m l) (partOf t a m (l + 1) b) 3104 (3104 * nodeCount a)
-              (own-short m f h r t (nUnary o) l (no-restr (nUnary o) (omega arith)))
+              (own-short m f h r t (nUnary o) l (omega arith))
               (part-short t a m (l + 1) b w f h r),
         )
     part-short t (bin o x y) m l b w f h r =
@@ -127,7 +117,7 @@ module _ (vars : ℕ) where
         omega (
           arith,
           two-short (own t (nBinary o) m l) (beside (partOf t x m (l + 1) i) (partOf t y m (l + 1) j)) 3104 (3104 * nodeCount x + 3104 * nodeCount y)
-              (own-short m f h r t (nBinary o) l (no-restr (nBinary o) (omega arith)))
+              (own-short m f h r t (nBinary o) l (omega arith))
               (two-short (partOf t x m (l + 1) i) (partOf t y m (l + 1) j) (3104 * nodeCount x) (3104 * nodeCount y)
               (part-short t x m (l + 1) i (w .0) f h r) (part-short t y m (l + 1) j (w .1) f h r)),
         )
@@ -139,7 +129,7 @@ module _ (vars : ℕ) where
         omega (
           arith,
           two-short (own t nIf m l) (beside (partOf t x m (l + 1) i) (beside (partOf t y m (l + 1) j) (partOf t z m (l + 1) k))) 3104
-              (3104 * nodeCount x + (3104 * nodeCount y + 3104 * nodeCount z)) (own-short m f h r t nIf l (no-restr nIf (omega arith)))
+              (3104 * nodeCount x + (3104 * nodeCount y + 3104 * nodeCount z)) (own-short m f h r t nIf l (omega arith))
               (two-short (partOf t x m (l + 1) i) (beside (partOf t y m (l + 1) j) (partOf t z m (l + 1) k)) (3104 * nodeCount x)
               (3104 * nodeCount y + 3104 * nodeCount z)
               (part-short t x m (l + 1) i (w .0) f h r)
@@ -152,7 +142,7 @@ module _ (vars : ℕ) where
         omega (
           arith,
           two-short (own t (nRestr i cs) m l) (partOf t a m l b) 3104 (3104 * nodeCount a)
-              (own-short m f h r t (nRestr i cs) l (λ j ds e. restr-given cs 64 (w .1) j ds i e)) (part-short t a m l b (w .3) f h r),
+              (own-short m f h r t (nRestr i cs) l (w .1)) (part-short t a m l b (w .3) f h r),
         )
     part-short t (dep g a) m l b w f h r =
         omega (
@@ -259,7 +249,7 @@ module _ (bs : List ℕ) (p left n many : ℕ) (h : BodyAt bs p left n many) whe
   is-body = record { end = h .end; at = h .at; fitting = h .fitting; count = h .count }
 
   pub tree-standing : Standing (varsOf bs) bs p left
-  tree-standing = record { tree = h .tree; end = h .end; at = h .at; few = h .few }
+  tree-standing = record { tree = h .tree; end = h .end; at = h .at; few = h .few; most = h .left-low }
 
 module _ (bs : List ℕ) (p left n many b : ℕ) (h : BranchAt bs p left n many b) where
   body-is : IsBody bs p n many (h .body .tree)

@@ -136,6 +136,7 @@ module _ (bs tab : List ℕ) (f : Formed bs tab) where
         end = variable (sheetOf bs) v .end;
         at = rw start-is (stands .at);
         few = stands .few;
+        most = omega arith;
       }
 
       pub branches-are : branchesIn bs (variable (sheetOf bs) v .body) ≡ branchesOf (sheetOf bs) (variable (sheetOf bs) v)

@@ -6,13 +6,12 @@ use mathlib.Core.Bool.{Bool, true, false}
 use mathlib.Core.List.{List}
 use lib.ListN.{length}
 use lib.Seq.{sets}
-use Rattle.alpha.specs.Sheet.{Node, Expr, Exprs}
+use Rattle.alpha.specs.Sheet.{Expr, Exprs}
 use Rattle.alpha.specs.Affine.{mapAfter}
-use Rattle.alpha.specs.Read.{got, node}
 use Rattle.alpha.specs.Shape.{fits, allFit}
 use Rattle.alpha.specs.Reach.{limit, topReach, mapReach, reach, reachAll}
 use Rattle.alpha.specs.Written.{branchCount, nodeCount, nodeCounts}
-use Rattle.laws.specs.At.{At, AllAt}
+use Rattle.laws.specs.At.{nodeRead, At, AllAt}
 use Rattle.laws.specs.Sheets.{headsOf, varsOf}
 use Rattle.affine.specs.declared.Map.{Map}
 use Rattle.affine.specs.Value.{line, mapOf, Neat}
@@ -110,8 +109,7 @@ pub record Wrote (dry : Bool) (pen : Pen) (out out′ : List ℕ) (r : Pen) (par
 
 -- of the node at p alone
 abbrev pub Visits : List ℕ → ℕ → Map → Bool → ℕ → Bool → Pen → List ℕ → List ℕ → Pen → Type 0
-Visits bs p m t level dry pen out out′ r =
-    (nd : Node) (q : ℕ) → node (varsOf bs) bs p ≡ got nd q → Wrote dry pen out out′ r (own t nd (mapOf m) level)
+Visits bs p m t level dry pen out out′ r = Wrote dry pen out out′ r (own t (nodeRead (varsOf bs) bs p) (mapOf m) level)
 
 -- of branch b of the tree at p, which has `of`
 abbrev pub Follows : List ℕ → ℕ → Map → ℕ → ℕ → Bool → ℕ → Bool → Pen → List ℕ → List ℕ → Pen → Type 0

@@ -7,29 +7,12 @@ use super::node::visit;
 use affine::Map;
 use affine::compose;
 use affine::rows_read;
+use tree::Class;
 use tree::node::children;
+use tree::node::class_of;
 use tree::node::natural;
-use tree::node::node_len;
-ghost use mathlib.Core.Path.{_≡_};
-ghost use Prim.Native.Nat.{_≤_};
-ghost use Rattle.alpha.specs.Sheet.{Node};
-ghost use Rattle.laws.specs.At.{codeOf};
-ghost use Rattle.normal.specs.Part.{levelBelow};
+use tree::node::node_end;
 ghost use Rattle.normal.specs.Followed.{roomOf, Composes, Lowers, Route, RouteAll, Follows, FollowsAll};
-
-// How many nodes of the tree stand above the children of a node with such a code.
-fn level_below(code: usize, level: usize) -> usize
-    requires { ⌜ level ≤ 4096 ⌝ }
-    ensures { λ r. ⌜ ((nd : Node) → codeOf nd ≡ code → r ≡ levelBelow nd level) ⌝ }
-{
-    if code < 3 {
-        return level;
-    }
-    if 5 < code {
-        return level;
-    }
-    level + 1
-}
 
 // The map of the dependence whose fields stand at p, after the map so far.
 fn map_below(s: &[u8], p: usize, m: Map) -> Map
@@ -58,20 +41,41 @@ pub fn follow(
     requires { ⌜ Route (now s) at left m b of tree level pen (roomOf dry (now out)) ⌝ }
     ensures { λ r. ⌜ Follows (now (s .entry)) at m b of tree level dry pen (now (out .entry)) (now (out .exit)) r ⌝ }
 {
-    let code = natural(s, at);
-    let next = at + node_len(s, at);
-    let many = children(s, at);
-    if code == 6 {
-        let c = choose(s, next, left - 1, many, b, of);
-        return follow(s, c.at, left - 1, c.b, c.of, m, tree, dry, level, out, pen);
+    let class = class_of(s, at);
+    let next = node_end(s, at);
+    match class {
+        Class::Leaf => visit(s, at, m, tree, dry, level, out, pen),
+        Class::Operator => {
+            let now = visit(s, at, m, tree, dry, level, out, pen);
+            let many = children(s, at);
+            follow_all(
+                s,
+                next,
+                left - 1,
+                many,
+                b,
+                of,
+                m,
+                tree,
+                dry,
+                level + 1,
+                out,
+                now,
+            )
+        }
+        Class::Case => {
+            let c = choose(s, next, left - 1, children(s, at), b, of);
+            follow(s, c.at, left - 1, c.b, c.of, m, tree, dry, level, out, pen)
+        }
+        Class::Restriction => {
+            let now = visit(s, at, m, tree, dry, level, out, pen);
+            follow(s, next, left - 1, b, of, m, tree, dry, level, out, now)
+        }
+        Class::Dependence => {
+            let w = map_below(s, at + 8, m);
+            follow(s, next, left - 1, b, of, w, tree, dry, level, out, pen)
+        }
     }
-    if code == 8 {
-        let w = map_below(s, at + 8, m);
-        return follow(s, next, left - 1, b, of, w, tree, dry, level, out, pen);
-    }
-    let now = visit(s, at, m, tree, dry, level, out, pen);
-    let down = level_below(code, level);
-    follow_all(s, next, left - 1, many, b, of, m, tree, dry, down, out, now)
 }
 
 // Combination b of `many` operands one after another, which have `of`, the leftmost operand's branch changing slowest. The last operand has

@@ -6,52 +6,71 @@ use affine::Map;
 use integer::number_at;
 use integer::put;
 use integer::put_nat;
+use tree::Class;
+use tree::OperatorKind;
+use tree::node::class_of;
 use tree::node::natural;
+use tree::node::node_end;
+use tree::node::operator_of;
 ghost use mathlib.Core.Path.{_≡_};
 ghost use mathlib.Core.Bool.{true, false};
 ghost use Prim.Native.Nat.{_+_, _^_, _≤_, max};
 ghost use lib.ListN.{length};
 ghost use lib.Seq.{sets};
-ghost use Rattle.alpha.specs.Sheet.{Node};
-ghost use Rattle.laws.specs.At.{codeOf};
 ghost use Rattle.laws.specs.Sheets.{varsOf};
-ghost use Rattle.affine.specs.Value.{mapOf, Neat};
+ghost use Rattle.affine.specs.Value.{Neat};
+ghost use Rattle.tree.specs.declared.Class.the-variants.{Leaf, Operator};
+ghost use Rattle.tree.specs.Classes.{classAt};
 ghost use Rattle.tree.specs.Standing.{Noded};
-ghost use Rattle.normal.specs.Part.{ofTree};
 ghost use Rattle.normal.specs.Followed.{roomOf, Visits};
-ghost use Rattle.normal.specs.Spot.{headBytes, Spot, Stop, Sized, Stores, moves, Sizes};
+ghost use Rattle.normal.specs.Spot.{twoFields, Spot, Stop, Sized, Stores, Sizes};
 
 // ---- stored
 
-// The own fields of a leaf or an operator: its code, and but for an if one field more.
-fn put_head(s: &[u8], at: usize, out: &mut [u8], to: usize)
-    requires { ⌜ Noded (varsOf (now s)) (now s) at × (to + length (headBytes (now s) at) ≤ length (now out)) ⌝ }
-    ensures { λ _. ⌜ now (out .exit) ≡ sets (now (out .entry)) to (headBytes (now (s .entry)) at) ⌝ }
+// The code and the field after it, as they stand at `at`.
+fn put_two(s: &[u8], at: usize, out: &mut [u8], to: usize)
+    requires { ⌜ (at + 16 ≤ length (now s)) × (to + 16 ≤ length (now out)) ⌝ }
+    ensures { λ _. ⌜ now (out .exit) ≡ sets (now (out .entry)) to (twoFields (now (s .entry)) at) ⌝ }
 {
-    let code = natural(s, at);
-    if code == 5 {
-        put_nat(out, to, code);
-        return;
-    }
-    put_nat(out, to, code);
+    put_nat(out, to, natural(s, at));
     put(out, to + 8, number_at(s, at + 8));
 }
 
-// In the tree: a leaf below one dependence, an operator as it is, and nothing of any other node.
+// A leaf, below one dependence.
+fn put_leaf(s: &[u8], at: usize, m: Map, out: &mut [u8], to: usize)
+    requires { ⌜ Spot (now s) at m true to (length (now out)) × (classAt (now s) at ≡ Leaf) ⌝ }
+    ensures { λ _. ⌜ Stores (now (s .entry)) at m true to (now (out .entry)) (now (out .exit)) ⌝ }
+{
+    put_map(out, to, m);
+    put_two(s, at, out, to + (24 + m.height * (8 * m.width + 8)));
+}
+
+// An operator as it is: its code, and but for an if one field more.
+fn put_operator(s: &[u8], at: usize, m: Map, out: &mut [u8], to: usize)
+    requires { ⌜ Spot (now s) at m true to (length (now out)) × (classAt (now s) at ≡ Operator) ⌝ }
+    ensures { λ _. ⌜ Stores (now (s .entry)) at m true to (now (out .entry)) (now (out .exit)) ⌝ }
+{
+    let kind = operator_of(s, at);
+    match kind {
+        OperatorKind::Unary => put_two(s, at, out, to),
+        OperatorKind::Binary => put_two(s, at, out, to),
+        OperatorKind::If => put_nat(out, to, 5),
+    }
+}
+
+// In the tree: a leaf, an operator, and nothing of any other node.
 fn put_node(s: &[u8], at: usize, m: Map, out: &mut [u8], to: usize)
     requires { ⌜ Spot (now s) at m true to (length (now out)) ⌝ }
     ensures { λ _. ⌜ Stores (now (s .entry)) at m true to (now (out .entry)) (now (out .exit)) ⌝ }
 {
-    let code = natural(s, at);
-    if 5 < code {
-        return;
+    let class = class_of(s, at);
+    match class {
+        Class::Leaf => put_leaf(s, at, m, out, to),
+        Class::Operator => put_operator(s, at, m, out, to),
+        Class::Case => {}
+        Class::Restriction => {}
+        Class::Dependence => {}
     }
-    if code < 3 {
-        put_map(out, to, m);
-        put_head(s, at, out, to + (24 + m.height * (8 * m.width + 8)));
-        return;
-    }
-    put_head(s, at, out, to);
 }
 
 // In the constraints: those of a restriction, after the map.
@@ -59,47 +78,53 @@ fn put_limits(s: &[u8], at: usize, m: Map, out: &mut [u8], to: usize)
     requires { ⌜ Spot (now s) at m false to (length (now out)) ⌝ }
     ensures { λ _. ⌜ Stores (now (s .entry)) at m false to (now (out .entry)) (now (out .exit)) ⌝ }
 {
-    let code = natural(s, at);
-    if code != 7 {
-        return;
+    let class = class_of(s, at);
+    match class {
+        Class::Leaf => {}
+        Class::Operator => {}
+        Class::Case => {}
+        Class::Restriction => {
+            let n = natural(s, at + 8);
+            let count = natural(s, at + 16);
+            put_constraints(s, at + 24, count, n, m, out, to);
+        }
+        Class::Dependence => {}
     }
-    let n = natural(s, at + 8);
-    let count = natural(s, at + 16);
-    put_constraints(s, at + 24, count, n, m, out, to);
 }
 
 // ---- measured
 
-// In the tree, below `level` nodes.
-fn node_size(code: usize, m: Map, level: usize) -> Pen
-    requires { ⌜ Neat m × (level ≤ 4096) ⌝ }
-    ensures { λ r. ⌜ ((nd : Node) → codeOf nd ≡ code → r ≡ moves (ofTree nd (mapOf m) level)) ⌝ }
+// Of a node that gives nothing.
+fn nothing() -> Pen
+    ensures { λ r. ⌜ r ≡ record { to = 0; things = 0; deep = 0 } ⌝ }
 {
-    if code < 3 {
-        return Pen {
-            to: 40 + m.height * (8 * m.width + 8),
-            things: 2,
-            deep: level + 2,
-        };
-    }
-    if code < 5 {
-        return Pen {
-            to: 16,
-            things: 1,
-            deep: 0,
-        };
-    }
-    if code < 6 {
-        return Pen {
-            to: 8,
-            things: 1,
-            deep: 0,
-        };
-    }
     Pen {
         to: 0,
         things: 0,
         deep: 0,
+    }
+}
+
+// In the tree, below `level` nodes.
+fn node_size(s: &[u8], at: usize, m: Map, level: usize) -> Pen
+    requires { ⌜ Sized (now s) at m level ⌝ }
+    ensures { λ r. ⌜ Sizes (now (s .entry)) at m true level r ⌝ }
+{
+    let class = class_of(s, at);
+    match class {
+        Class::Leaf => Pen {
+            to: 40 + m.height * (8 * m.width + 8),
+            things: 2,
+            deep: level + 2,
+        },
+        Class::Operator => Pen {
+            to: node_end(s, at) - at,
+            things: 1,
+            deep: 0,
+        },
+        Class::Case => nothing(),
+        Class::Restriction => nothing(),
+        Class::Dependence => nothing(),
     }
 }
 
@@ -108,19 +133,20 @@ fn limits_size(s: &[u8], at: usize, m: Map) -> Pen
     requires { ⌜ Noded (varsOf (now s)) (now s) at × Neat m ⌝ }
     ensures { λ r. ⌜ Sizes (now (s .entry)) at m false 0 r ⌝ }
 {
-    let code = natural(s, at);
-    if code != 7 {
-        return Pen {
-            to: 0,
-            things: 0,
-            deep: 0,
-        };
-    }
-    let count = natural(s, at + 16);
-    Pen {
-        to: count * (16 + 8 * m.width),
-        things: count,
-        deep: 0,
+    let class = class_of(s, at);
+    match class {
+        Class::Leaf => nothing(),
+        Class::Operator => nothing(),
+        Class::Case => nothing(),
+        Class::Restriction => {
+            let count = natural(s, at + 16);
+            Pen {
+                to: count * (16 + 8 * m.width),
+                things: count,
+                deep: 0,
+            }
+        }
+        Class::Dependence => nothing(),
     }
 }
 
@@ -142,7 +168,7 @@ fn size_of(s: &[u8], at: usize, m: Map, tree: bool, level: usize) -> Pen
     ensures { λ r. ⌜ Sizes (now (s .entry)) at m tree level r ⌝ }
 {
     if tree {
-        node_size(natural(s, at), m, level)
+        node_size(s, at, m, level)
     } else {
         limits_size(s, at, m)
     }

@@ -4,9 +4,10 @@ use super::Taken;
 use super::body::measure_from;
 use super::body::put_from;
 use super::count::count_tree;
+use tree::Class;
 use tree::node::children;
-use tree::node::natural;
-use tree::node::node_len;
+use tree::node::class_of;
+use tree::node::node_end;
 ghost use Prim.Native.Nat.{_^_, min};
 ghost use lib.ListN.{length};
 ghost use Rattle.normal.specs.Body as Body;
@@ -18,12 +19,17 @@ pub fn measure_tree(s: &[u8], at: usize, left: usize, n: usize, of: usize, sofar
     requires { ⌜ Body.BodyAt (now s) at left n of × Body.Spare of sofar ⌝ }
     ensures { λ r. ⌜ Body.TakesFrom (now (s .entry)) at n of 0 sofar r ⌝ }
 {
-    if natural(s, at) == 6 {
-        let next = at + node_len(s, at);
-        let many = children(s, at);
-        return measure_children(s, next, left - 1, many, n, of, sofar);
+    let class = class_of(s, at);
+    match class {
+        Class::Leaf | Class::Operator | Class::Restriction | Class::Dependence => {
+            measure_from(s, at, left, n, of, 0, sofar)
+        }
+        Class::Case => {
+            let next = node_end(s, at);
+            let many = children(s, at);
+            measure_children(s, next, left - 1, many, n, of, sofar)
+        }
     }
-    measure_from(s, at, left, n, of, 0, sofar)
 }
 
 // What those of `many` children of a case take. The last child has the branches that are left.
@@ -69,12 +75,17 @@ pub fn put_tree(
     requires { ⌜ Body.BodyAt (now s) at left n of × Body.RoomFrom (now s) at n of 0 to (min (2 ^ 40) (length (now out))) ⌝ }
     ensures { λ r. ⌜ Body.StoresFrom (now (s .entry)) at n of 0 to (now (out .entry)) (now (out .exit)) r ⌝ }
 {
-    if natural(s, at) == 6 {
-        let next = at + node_len(s, at);
-        let many = children(s, at);
-        return put_children(s, next, left - 1, many, n, of, out, to);
+    let class = class_of(s, at);
+    match class {
+        Class::Leaf | Class::Operator | Class::Restriction | Class::Dependence => {
+            put_from(s, at, left, n, of, 0, out, to)
+        }
+        Class::Case => {
+            let next = node_end(s, at);
+            let many = children(s, at);
+            put_children(s, next, left - 1, many, n, of, out, to)
+        }
     }
-    put_from(s, at, left, n, of, 0, out, to)
 }
 
 // Those of `many` children of a case. The last child has the branches that are left.

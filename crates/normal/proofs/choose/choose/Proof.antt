@@ -21,7 +21,7 @@ loop-holds c = (c .before .pre, λ r h. h)
 count-tree-requires : tie.Need-count-tree-requires Inv-loop μ-loop
 count-tree-requires c κs =
     let h = c .before .loop .inv .0 in
-    (first-standing _ _ _ _ _ (children-some _ _ _ _ _ _ h) (children-standing _ _ _ _ _ _ h), h .left-low)
+    first-standing _ _ _ _ _ (children-some _ _ _ _ _ _ h) (children-standing _ _ _ _ _ _ h)
 
 returns : tie.Need-returns Inv-loop μ-loop
 returns c =

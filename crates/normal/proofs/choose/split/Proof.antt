@@ -7,7 +7,7 @@ use Rattle.normal.proofs.choose.split.Tie as tie
 skip-requires : tie.Need-skip-requires
 skip-requires c κs =
     let s = c .before .before in
-    (operand-standing _ _ _ _ _ (s .pre), s .pre .left-low)
+    operand-standing _ _ _ _ _ (s .pre)
 
 returns : tie.Need-returns
 returns c =
@@ -17,7 +17,7 @@ returns c =
 count-tree-requires : tie.Need-count-tree-requires
 count-tree-requires c κs =
     let s = c .before .before in
-    (operand-standing _ _ _ _ _ (s .pre), s .pre .left-low)
+    operand-standing _ _ _ _ _ (s .pre)
 
 div-among : tie.Need-div-among
 div-among c =

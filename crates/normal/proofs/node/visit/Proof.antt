@@ -1,5 +1,5 @@
 -- `normal::visit` meets its contract: measured, and stored where it is not only measured. Assumes nothing.
-use Rattle.normal.proofs.Spots.{noded, visit-room, visit-is, stored-spot, dry-laid, stored-laid}
+use Rattle.normal.proofs.Spots.{visit-room, visit-is, stored-spot, dry-laid, stored-laid}
 use borrow.Author.Needs.{needs}
 use Rattle.normal.proofs.node.visit.Statement.{statement}
 use Rattle.normal.proofs.node.visit.Tie as tie
@@ -7,7 +7,7 @@ use Rattle.normal.proofs.node.visit.Tie as tie
 size-of-requires : tie.Need-size-of-requires
 size-of-requires c κs =
     let s = c .before .before in
-    record { noded = noded _ _ (s .args .m) _ _ _ (s .pre .spot); neat = s .pre .spot .neat; level-low = s .pre .level-low }
+    record { noded = s .pre .spot .noded; neat = s .pre .spot .neat; level-low = s .pre .level-low }
 
 moved-requires : tie.Need-moved-requires
 moved-requires c κs =

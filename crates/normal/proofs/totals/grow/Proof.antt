@@ -13,7 +13,7 @@ body-place-requires c κs = few _ _ (c .before .pre .formed .placed) _ (c .befor
 count-tree-requires : tie.Need-count-tree-requires
 count-tree-requires c κs =
     let s = c .before .before in
-    (body-standing _ _ (s .pre .formed) _ (s .pre .known) (s .pre .body) _ _ (c .body-place .ensures) refl, omega arith)
+    body-standing _ _ (s .pre .formed) _ (s .pre .known) (s .pre .body) _ _ (c .body-place .ensures) refl
 
 returns : tie.Need-returns
 returns c =

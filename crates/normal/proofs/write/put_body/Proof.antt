@@ -19,7 +19,7 @@ body-place-requires c κs = few _ _ (c .before .before .pre .0 .formed .placed) 
 count-tree-requires : tie.Need-count-tree-requires
 count-tree-requires c κs =
     let s = c .before .before .before in
-    (body-standing _ _ (s .pre .0 .formed) _ (s .pre .0 .known) (s .pre .0 .body) _ _ (c .body-place .ensures) refl, omega arith)
+    body-standing _ _ (s .pre .0 .formed) _ (s .pre .0 .known) (s .pre .0 .body) _ _ (c .body-place .ensures) refl
 
 dimension-of-requires : tie.Need-dimension-of-requires
 dimension-of-requires c κs =
