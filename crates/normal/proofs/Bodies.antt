@@ -12,7 +12,7 @@ use lib.Dec.{ltb}
 use Rattle.alpha.specs.Pick.{ifb}
 use Rattle.alpha.specs.Field.{nat}
 use Rattle.alpha.specs.Sheet as Sheet
-use Rattle.alpha.specs.Sheet.{Node, Expr, Exprs, Constraint}
+use Rattle.alpha.specs.Sheet.{Node, Expr, Exprs}
 use Rattle.alpha.specs.Sheet.{Node.nVar, Node.nInt, Node.nBool, Node.nUnary, Node.nBinary, Node.nIf, Node.nCase, Node.nRestr, Node.nDep}
 use Rattle.alpha.specs.Sheet.{Expr.var, Expr.int, Expr.boo, Expr.un, Expr.bin, Expr.ite, Expr.kase, Expr.restr, Expr.dep, Exprs.none, Exprs.more}
 use Rattle.alpha.specs.Affine.{rowAfter, constraintAfter, mapAfter, identity, idRows}
@@ -20,7 +20,6 @@ use Rattle.alpha.specs.Read.{dimension}
 use Rattle.alpha.specs.Reach.{topReach, mapReach}
 use Rattle.alpha.specs.Written.{flat, unaryCode, binaryCode, rowBytes, constraintBytes, bytes, allBytes, nodeCount, nodeCounts, depth}
 use Rattle.alpha.specs.Normal.{Branch, pushBranch, asExprs}
-use Rattle.laws.specs.At.{At}
 use Rattle.laws.specs.Sheets.{headsOf, varsOf}
 use Rattle.laws.specs.Wide.{RowsWide, Wide}
 use Rattle.laws.specs.Writable.{Writable, AllWritable}

@@ -7,7 +7,6 @@ use lib.ListN.{length}
 use lib.IntN.{natAbs}
 use lib.Seq.{sets}
 use Rattle.alpha.specs.Field.{field, nat}
-use Rattle.alpha.specs.Sheet as Sheet
 use Rattle.alpha.specs.Affine.{rowAfter, constraintAfter}
 use Rattle.alpha.specs.Read.{relationOf}
 use Rattle.alpha.specs.Reach.{limit, topReach, rowReach, mapReach}

@@ -29,7 +29,7 @@ use Rattle.normal.proofs.Numbered.{positive}
 
 -- ---- by the class
 
-pub leaf-count : (e : Expr) → classOf (nodeOf e) ≡ Leaf → countOf e ≡ 1
+leaf-count : (e : Expr) → classOf (nodeOf e) ≡ Leaf → countOf e ≡ 1
 unfolding countOf
 leaf-count = leaf-tree (λ e. countOf e ≡ 1) (λ v. refl) (λ c. refl) (λ b. refl)
 
@@ -128,10 +128,10 @@ module _ (bs : List ℕ) (p : ℕ) where
         let x = dependence-at bs e p q at class-is in
         record { child = x .child; at = rw next (x .below); count = ap countOf (x .is) }
 
-    module _ (below : OneBelow) where
-      pub below-standing : (left : ℕ) → Standing (varsOf bs) bs p left → 1 ≡ arity (nodeRead (varsOf bs) bs p) → Standing (varsOf bs) bs k (left - 1)
-      below-standing left h one = first-standing (varsOf bs) bs k (left - 1) 1 (omega arith) (standing-children (varsOf bs) bs p left h k 1 next one)
+    pub below-standing : (left : ℕ) → Standing (varsOf bs) bs p left → 1 ≡ arity (nodeRead (varsOf bs) bs p) → Standing (varsOf bs) bs k (left - 1)
+    below-standing left h one = first-standing (varsOf bs) bs k (left - 1) 1 (omega arith) (standing-children (varsOf bs) bs p left h k 1 next one)
 
+    module _ (below : OneBelow) where
       pub below-way : (r : ℕ) → Counts bs k r → Counts bs p r
       below-way r h = (
         h .0,

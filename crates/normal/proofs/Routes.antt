@@ -46,7 +46,7 @@ use Rattle.normal.specs.Count.{countOf, sumOf, productOf, pick}
 use Rattle.normal.specs.Counted.{ChildrenAt, Picks, OperandAt, SplitsOf, Splits}
 use Rattle.normal.specs.Part.{Part, nothing, beside, own, partOf, chosenOf, partsOf}
 use Rattle.normal.specs.Rows.{AllComposable}
-use Rattle.normal.specs.Spot.{Limits, Spot, Stop}
+use Rattle.normal.specs.Spot.{Limits, Stop}
 use Rattle.normal.specs.Followed.{roomOf, Composes, Lowers, Route, RouteAll, Wrote, Visits, Follows, FollowsAll}
 use Rattle.normal.proofs.Counting.{operator-count, case-count, Factors, factors, only-split}
 use Rattle.normal.proofs.Parts.{beside-nothing, leaf-part, operator-part, pick-kept, wrote-nothing, wrote-then, room-same, things-low, part-things}
@@ -548,7 +548,8 @@ module _ (bs : List ℕ) (p : ℕ) (m : Map) (b of : ℕ) (t : Bool) (level : �
   own-visited e q h {a} {y} visited = subst (λ nd. Wrote dry pen out a y (own t nd (mapOf m) level)) (at-read (varsOf bs) bs e p q h) visited
 
   -- a leaf: its own part
-  pub leaf-way : {out′ : List ℕ} {z : Pen} → classAt bs p ≡ Leaf → Visits bs p m t level dry pen out out′ z → Follows bs p m b of t level dry pen out out′ z
+  pub leaf-way : {out′ : List ℕ} {z : Pen} → classAt bs p ≡ Leaf → Visits bs p m t level dry pen out out′ z →
+      Follows bs p m b of t level dry pen out out′ z
   leaf-way {out′} {z} class-is visited e q h has =
       subst (Wrote dry pen out out′ z) (sym (leaf-part t (mapOf m) level b e (leaf-at bs e p q h class-is .class-is))) (own-visited e q h visited)
 

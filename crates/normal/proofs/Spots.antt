@@ -29,7 +29,7 @@ use Rattle.tree.proofs.Classes.{leaf-node, operator-node, case-node, restrictio
 use Rattle.domain.specs.Constraints.{constraintsFields}
 use Rattle.domain.proofs.Restrictions.{restriction-says}
 use Rattle.normal.specs.declared.Pen.{Pen}
-use Rattle.normal.specs.Part.{Part, nothing, mapBytes, ofTree, givenBy, ofGiven, own}
+use Rattle.normal.specs.Part.{nothing, mapBytes, ofTree, givenBy, own}
 use Rattle.normal.specs.Followed.{laid, roomOf, Visits}
 use Rattle.normal.specs.Rows.{limitBytes}
 use Rattle.normal.specs.Spot.{twoFields, Spot, moves, Sizes, Stores}
@@ -258,7 +258,8 @@ module _ (bs : List ℕ) (p : ℕ) (m : Map) where
     operator-is : (codeOf here ≡ 5 → ⊥) → ofTree here (mapOf m) 0 .out ≡ twoFields bs p
     operator-is other = operator-out bs p (mapOf m) here (h .class-is) other (node-here bs p (h .noded))
 
-    pub operator-stores : (to : ℕ) (out : List ℕ) {a : List ℕ} → (codeOf here ≡ 5 → ⊥) → a ≡ sets out to (twoFields bs p) → Stores bs p m true to out a
+    pub operator-stores : (to : ℕ) (out : List ℕ) {a : List ℕ} → (codeOf here ≡ 5 → ⊥) → a ≡ sets out to (twoFields bs p) →
+        Stores bs p m true to out a
     operator-stores to out other first = first ∙ ap (sets out to) (sym (operator-is other))
 
     pub if-stores : (to : ℕ) (out : List ℕ) {a : List ℕ} → codeOf here ≡ 5 → a ≡ sets out to (nat 5) → Stores bs p m true to out a
@@ -326,7 +327,8 @@ module _ (bs : List ℕ) (p : ℕ) (m : Map) (t dry : Bool) (to : ℕ) (out : Li
   pub dry-laid : dry ≡ true → out ≡ laid dry out to (own t (nodeRead (varsOf bs) bs p) (mapOf m) 0 .out)
   dry-laid e = ap (λ d. laid d out to (own t (nodeRead (varsOf bs) bs p) (mapOf m) 0 .out)) (sym e)
 
-  pub stored-laid : (out′ : List ℕ) → dry ≡ false → Stores bs p m t to out out′ → out′ ≡ laid dry out to (own t (nodeRead (varsOf bs) bs p) (mapOf m) 0 .out)
+  pub stored-laid : (out′ : List ℕ) → dry ≡ false → Stores bs p m t to out out′ →
+      out′ ≡ laid dry out to (own t (nodeRead (varsOf bs) bs p) (mapOf m) 0 .out)
   stored-laid out′ e h = h ∙ ap (λ d. laid d out to (own t (nodeRead (varsOf bs) bs p) (mapOf m) 0 .out)) (sym e)
 
   pub stored-spot : dry ≡ false → Spot bs p m t to (roomOf dry out) → Spot bs p m t to (length out)

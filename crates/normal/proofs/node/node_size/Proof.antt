@@ -1,10 +1,12 @@
 -- `normal::node_size` meets its contract: a leaf with its map, an operator as long as it stands, and nothing of any other class. Assumes nothing.
-use mathlib.Core.Path.{sym, _∙_}
+use mathlib.Core.Path.{_≡_, sym, _∙_}
 use mathlib.Core.Bool.{true}
 use Prim.Native.Nat.{_+_, _*_, _≤_}
 use native.Mathlib.Nat.{mul-le-mul-right}
 use native.Mathlib.Omega.{arith}
-use Rattle.tree.proofs.Classes.{noded-as, end-far}
+use Rattle.tree.proofs.Classes.{end-far}
+use Rattle.tree.specs.declared.Class.{Class}
+use Rattle.tree.specs.Classes.{classAt}
 use Rattle.normal.proofs.Spots.{nothing-sized, case-silent, restriction-bare, dependence-silent, leaf-sizes, operator-sizes}
 use borrow.Author.Needs.{needs}
 use Rattle.normal.proofs.node.node_size.Statement.{statement}
@@ -12,6 +14,11 @@ use Rattle.normal.proofs.node.node_size.Tie as tie
 
 class-of-requires : tie.Need-class-of-requires
 class-of-requires c κs = c .before .pre .noded
+
+-- the class that is told in an arm is the node's
+class : (c : tie.After-class-of) {k : Class} → c .class-of .result ≡ k →
+    classAt (c .before .before .args .s .now) (c .before .before .args .at) ≡ k
+class c told = sym (c .class-of .ensures) ∙ told
 
 enum-told : tie.Need-enum-told
 enum-told c = search needs
@@ -65,28 +72,32 @@ nothing-requires-3 c κs = search needs
 returns : tie.Need-returns
 returns c =
     let s = c .before .before .before .before .before .before in
-    leaf-sizes _ _ (s .args .m) (noded-as _ _ (s .pre .noded) _ _ (c .before .before .before .before .class-of .ensures) (c .before .before .enum-told .given .1)) (s .args .level)
+    leaf-sizes _ _ (s .args .m) (record { noded = s .pre .noded; class-is = class (c .before .before .before .before) (c .before .before .enum-told .given .1) })
+    (s .args .level)
 
 returns-2 : tie.Need-returns-2
 returns-2 c =
     let s = c .before .before .before .before .before in
-    operator-sizes _ _ (s .args .m) (noded-as _ _ (s .pre .noded) _ _ (c .before .before .before .class-of .ensures) (c .before .enum-told2 .given .1)) (s .args .level) _
-    (c .node-end .ensures)
+    operator-sizes _ _ (s .args .m) (record { noded = s .pre .noded; class-is = class (c .before .before .before) (c .before .enum-told2 .given .1) })
+    (s .args .level) _ (c .node-end .ensures)
 
 returns-3 : tie.Need-returns-3
 returns-3 c =
     let a = c .before .before .before .before .before .args in
-    nothing-sized _ _ _ (case-silent (a .s .now) (a .at) (a .m) true (sym (c .before .before .before .class-of .ensures) ∙ c .before .enum-told3 .given .1)) (a .level) (c .nothing .ensures)
+    nothing-sized _ _ _ (case-silent (a .s .now) (a .at) (a .m) true (class (c .before .before .before) (c .before .enum-told3 .given .1)))
+    (a .level) (c .nothing .ensures)
 
 returns-4 : tie.Need-returns-4
 returns-4 c =
     let a = c .before .before .before .before .before .args in
-    nothing-sized _ _ _ (restriction-bare (a .s .now) (a .at) (a .m) (sym (c .before .before .before .class-of .ensures) ∙ c .before .enum-told4 .given .1)) (a .level) (c .nothing2 .ensures)
+    nothing-sized _ _ _ (restriction-bare (a .s .now) (a .at) (a .m) (class (c .before .before .before) (c .before .enum-told4 .given .1)))
+    (a .level) (c .nothing2 .ensures)
 
 returns-5 : tie.Need-returns-5
 returns-5 c =
     let a = c .before .before .before .before .before .args in
-    nothing-sized _ _ _ (dependence-silent (a .s .now) (a .at) (a .m) true (sym (c .before .before .before .class-of .ensures) ∙ c .before .enum-told5 .given .1)) (a .level) (c .nothing3 .ensures)
+    nothing-sized _ _ _ (dependence-silent (a .s .now) (a .at) (a .m) true (class (c .before .before .before) (c .before .enum-told5 .given .1)))
+    (a .level) (c .nothing3 .ensures)
 
 pub node-size-spec : {M : Type 1} → statement M
 node-size-spec =

@@ -48,8 +48,9 @@ add-put-two-3 c = omega (arith, room (c .before .before .before .before .before 
 
 put-two-requires : tie.Need-put-two-requires
 put-two-requires c κs =
-    let s = c .before .before .before .before .before .before .before .before .before in
-    let same = ap length (c .before .before .before .before .before .put-map .ensures) ∙ length-sets (s .args .out .now) (s .args .to) (mapBytes (mapOf (s .args .m))) in
+    let mapped = c .before .before .before .before .before in
+    let s = mapped .before .before .before .before in
+    let same = ap length (mapped .put-map .ensures) ∙ length-sets (s .args .out .now) (s .args .to) (mapBytes (mapOf (s .args .m))) in
     (leaf-there _ _ (a-leaf s), omega (arith, same, room s))
 
 same-length : tie.Need-same-length
@@ -57,8 +58,9 @@ same-length c = search needs
 
 returns : tie.Need-returns
 returns c =
-    let s = c .before .before .before .before .before .before .before .before .before .before .before .before in
-    leaf-stores _ _ (s .args .m) (a-leaf s) (s .args .to) (s .args .out .now) (c .before .before .before .before .before .before .before .before .put-map .ensures) (c .before .before .put-two .ensures)
+    let mapped = c .before .before .before .before .before .before .before .before in
+    let s = mapped .before .before .before .before in
+    leaf-stores _ _ (s .args .m) (a-leaf s) (s .args .to) (s .args .out .now) (mapped .put-map .ensures) (c .before .before .put-two .ensures)
 
 pub put-leaf-spec : {M : Type 1} → statement M
 put-leaf-spec =

@@ -32,10 +32,12 @@ same-length c = search needs
 
 returns : tie.Need-returns
 returns c =
-    let a = c .before .before .before .before .before .before .before .before .before .before .before .before .args in
-    let code = c .before .before .before .before .before .before .before .before .natural in
+    let first = c .before .before .before .before .before .before .before in
+    let after-natural = first .before in
+    let a = after-natural .before .before .before .before .args in
+    let code = after-natural .natural in
     let x = c .before .before .before .number-at in
-    sets-after (a .out .now) (a .to) 8 (nat (code .result)) (num (x .result .v)) (length-nat (code .result)) (c .before .before .before .before .before .before .before .put-nat .ensures)
+    sets-after (a .out .now) (a .to) 8 (nat (code .result)) (num (x .result .v)) (length-nat (code .result)) (first .put-nat .ensures)
     (c .before .before .put .ensures)
     ∙ ap (λ i. sets (a .out .now) (a .to) (nat i ++ num (x .result .v))) (code .ensures)
     ∙ ap (λ y. sets (a .out .now) (a .to) (nat (natAbs (field (a .s .now) (a .at))) ++ num y)) (x .ensures)

@@ -62,7 +62,8 @@ measure-tree-below t =
 
 -- what the trees from here on come to with those so far is what all of them do
 abbrev measure-children-Inv-loop : measure-children-lts.InvT-loop
-measure-children-Inv-loop s at left many n of sum₀ next₀ more₀ rest₀ sum next more rest = BodiesAt s next left n more rest × Spare rest sum × ((r : Taken) → TakesAll s next n more rest sum r → TakesAll s at n many of sum₀ r)
+measure-children-Inv-loop s at left many n of sum₀ next₀ more₀ rest₀ sum next more rest =
+    BodiesAt s next left n more rest × Spare rest sum × ((r : Taken) → TakesAll s next n more rest sum r → TakesAll s at n many of sum₀ r)
 
 abbrev measure-children-μ-loop : measure-children-lts.MeasureT-loop
 measure-children-μ-loop s at left many n of sum₀ next₀ more₀ rest₀ sum next more rest = more
@@ -71,17 +72,31 @@ abbrev measure-children-uses : ℕ → measure-children-lts.Claims
 measure-children-uses t = (count-tree-reads.Asked, count-tree-reads.Learnt, measure-tree-below t, measure-tree.Post)
 
 abbrev measure-tree-uses : ℕ → measure-tree-lts.Claims
-measure-tree-uses t = (class-of-reads.Asked, class-of-reads.Learnt, measure-from-reads.Asked, measure-from-reads.Learnt, node-end-reads.Asked, node-end-reads.Learnt, children-reads.Asked, children-reads.Learnt, measure-children-below t, measure-children.Post)
+measure-tree-uses t = (
+  class-of-reads.Asked,
+  class-of-reads.Learnt,
+  measure-from-reads.Asked,
+  measure-from-reads.Learnt,
+  node-end-reads.Asked,
+  node-end-reads.Learnt,
+  children-reads.Asked,
+  children-reads.Learnt,
+  measure-children-below t,
+  measure-children.Post,
+)
 
-measure-children-loop-holds : (t : ℕ) → measure-children-lts.Need-loop-holds (measure-children-uses t) (measure-children-at t) measure-children.Post measure-children-Inv-loop measure-children-μ-loop
+measure-children-loop-holds : (t : ℕ) → measure-children-lts.Need-loop-holds (measure-children-uses t) (measure-children-at t)
+    measure-children.Post measure-children-Inv-loop measure-children-μ-loop
 measure-children-loop-holds t c = (c .before .pre .1 .0, c .before .pre .1 .1, λ r h. h)
 
-measure-children-count-tree-requires : (t : ℕ) → measure-children-lts.Need-count-tree-requires (measure-children-uses t) (measure-children-at t) measure-children.Post measure-children-Inv-loop measure-children-μ-loop
+measure-children-count-tree-requires : (t : ℕ) → measure-children-lts.Need-count-tree-requires (measure-children-uses t) (measure-children-at t)
+    measure-children.Post measure-children-Inv-loop measure-children-μ-loop
 measure-children-count-tree-requires t c κs =
     let h = c .before .loop .inv .0 in
     first-standing _ _ _ _ _ (h .some) (trees-standing _ _ _ _ _ _ h)
 
-measure-children-measure-tree-requires : (t : ℕ) → measure-children-lts.Need-measure-tree-requires (measure-children-uses t) (measure-children-at t) measure-children.Post measure-children-Inv-loop measure-children-μ-loop
+measure-children-measure-tree-requires : (t : ℕ) → measure-children-lts.Need-measure-tree-requires (measure-children-uses t) (measure-children-at t)
+    measure-children.Post measure-children-Inv-loop measure-children-μ-loop
 measure-children-measure-tree-requires t c κs =
     let inv = c .before .before .loop .inv in
     let found = c .count-tree .ensures in
@@ -90,19 +105,23 @@ measure-children-measure-tree-requires t c κs =
     let is = c .before .before .before .before .pre .0 in
     (omega arith, (first-body _ _ _ _ _ _ (inv .0) _ _ exact (found .1), (omega (arith, inv .1), omega (arith, inv .1))))
 
-measure-children-sub-rest : (t : ℕ) → measure-children-lts.Need-sub-rest (measure-children-uses t) (measure-children-at t) measure-children.Post measure-children-Inv-loop measure-children-μ-loop
+measure-children-sub-rest : (t : ℕ) → measure-children-lts.Need-sub-rest (measure-children-uses t) (measure-children-at t)
+    measure-children.Post measure-children-Inv-loop measure-children-μ-loop
 measure-children-sub-rest t c =
     let inv = c .before .before .before .loop .inv in
     let found = c .before .count-tree .ensures in
     omega (arith, first-low _ _ _ _ _ _ (inv .0) _ _ (counted-exact _ _ _ _ _ _ (inv .0) _ (found .0)) (found .1))
 
-measure-children-sub-more : (t : ℕ) → measure-children-lts.Need-sub-more (measure-children-uses t) (measure-children-at t) measure-children.Post measure-children-Inv-loop measure-children-μ-loop
+measure-children-sub-more : (t : ℕ) → measure-children-lts.Need-sub-more (measure-children-uses t) (measure-children-at t)
+    measure-children.Post measure-children-Inv-loop measure-children-μ-loop
 measure-children-sub-more t c = omega (arith, c .before .before .loop-test .taken)
 
-measure-children-loop-less : (t : ℕ) → measure-children-lts.Need-loop-less (measure-children-uses t) (measure-children-at t) measure-children.Post measure-children-Inv-loop measure-children-μ-loop
+measure-children-loop-less : (t : ℕ) → measure-children-lts.Need-loop-less (measure-children-uses t) (measure-children-at t)
+    measure-children.Post measure-children-Inv-loop measure-children-μ-loop
 measure-children-loop-less t c = omega (arith, c .before .before .loop-test .taken)
 
-measure-children-loop-again : (t : ℕ) → measure-children-lts.Need-loop-again (measure-children-uses t) (measure-children-at t) measure-children.Post measure-children-Inv-loop measure-children-μ-loop
+measure-children-loop-again : (t : ℕ) → measure-children-lts.Need-loop-again (measure-children-uses t) (measure-children-at t)
+    measure-children.Post measure-children-Inv-loop measure-children-μ-loop
 measure-children-loop-again t c =
     let loop = c .before .before .before .loop in
     let inv = loop .inv in
@@ -125,7 +144,8 @@ measure-children-measure-tree-requires-2 t c κs =
     let is = c .before .before .before .pre .0 in
     (omega arith, (last-body _ _ _ _ _ _ (inv .0) (omega (arith, c .loop-test .left)), inv .1))
 
-measure-children-returns : (t : ℕ) → measure-children-lts.Need-returns (measure-children-uses t) (measure-children-at t) measure-children.Post measure-children-Inv-loop measure-children-μ-loop
+measure-children-returns : (t : ℕ) → measure-children-lts.Need-returns (measure-children-uses t) (measure-children-at t)
+    measure-children.Post measure-children-Inv-loop measure-children-μ-loop
 measure-children-returns t c =
     let loop = c .before .before .loop in
     let few = c .before .loop-test .left in
@@ -152,21 +172,29 @@ measure-tree-children-requires t c κs = standing-noded _ _ _ _ (tree-standing _
 measure-tree-sub-measure-children : (t : ℕ) → measure-tree-lts.Need-sub-measure-children (measure-tree-uses t) (measure-tree-at t) measure-tree.Post
 measure-tree-sub-measure-children t c = omega (arith, standing-some _ _ _ _ (tree-standing _ _ _ _ _ (c .before .before .before .before .before .before .pre .1 .0)))
 
-measure-tree-measure-children-requires : (t : ℕ) → measure-tree-lts.Need-measure-children-requires (measure-tree-uses t) (measure-tree-at t) measure-tree.Post
+measure-tree-measure-children-requires : (t : ℕ) → measure-tree-lts.Need-measure-children-requires (measure-tree-uses t) (measure-tree-at t)
+    measure-tree.Post
 measure-tree-measure-children-requires t c κs =
-    let s = c .before .before .before .before .before .before in
+    let here = c .before in
+    let told = here .before in
+    let classed = told .before .before in
+    let s = classed .before .before in
     let some = standing-some _ _ _ _ (tree-standing _ _ _ _ _ (s .pre .1 .0)) in
     let is = s .pre .0 in
-    let a-case = sym (c .before .before .before .before .class-of .ensures) ∙ c .before .before .enum-told .given .1 in
-    (omega arith, (case-bodies _ _ _ _ _ _ a-case (c .before .node-end .ensures) (c .children .ensures) _ (s .pre .1 .0), s .pre .1 .1))
+    let a-case = sym (classed .class-of .ensures) ∙ told .enum-told .given .1 in
+    (omega arith, (case-bodies _ _ _ _ _ _ a-case (here .node-end .ensures) (c .children .ensures) _ (s .pre .1 .0), s .pre .1 .1))
 
 measure-tree-returns : (t : ℕ) → measure-tree-lts.Need-returns (measure-tree-uses t) (measure-tree-at t) measure-tree.Post
 measure-tree-returns t c = c .measure-from .ensures
 
 measure-tree-returns-2 : (t : ℕ) → measure-tree-lts.Need-returns-2 (measure-tree-uses t) (measure-tree-at t) measure-tree.Post
 measure-tree-returns-2 t c =
-    let a-case = sym (c .before .before .before .before .before .class-of .ensures) ∙ c .before .before .before .enum-told .given .1 in
-    case-takes _ _ _ _ _ _ a-case (c .before .before .node-end .ensures) (c .before .children .ensures) (c .before .before .before .before .before .before .before .args .sofar) _
+    let many = c .before in
+    let here = many .before in
+    let told = here .before in
+    let classed = told .before .before in
+    let a-case = sym (classed .class-of .ensures) ∙ told .enum-told .given .1 in
+    case-takes _ _ _ _ _ _ a-case (here .node-end .ensures) (many .children .ensures) (classed .before .before .args .sofar) _
     (c .measure-children .ensures)
 
 pub +measure-children+measure-tree-spec : {M : Type 1} → statement M

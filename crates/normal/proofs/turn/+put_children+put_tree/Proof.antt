@@ -65,17 +65,31 @@ abbrev put-children-uses : ℕ → put-children-lts.Claims
 put-children-uses t = (count-tree-reads.Asked, count-tree-reads.Learnt, put-tree-below t, put-tree.Post)
 
 abbrev put-tree-uses : ℕ → put-tree-lts.Claims
-put-tree-uses t = (class-of-reads.Asked, class-of-reads.Learnt, put-from-reads.Asked, put-from-reads.Learnt, node-end-reads.Asked, node-end-reads.Learnt, children-reads.Asked, children-reads.Learnt, put-children-below t, put-children.Post)
+put-tree-uses t = (
+  class-of-reads.Asked,
+  class-of-reads.Learnt,
+  put-from-reads.Asked,
+  put-from-reads.Learnt,
+  node-end-reads.Asked,
+  node-end-reads.Learnt,
+  children-reads.Asked,
+  children-reads.Learnt,
+  put-children-below t,
+  put-children.Post,
+)
 
-put-children-loop-holds : (t : ℕ) → put-children-lts.Need-loop-holds (put-children-uses t) (put-children-at t) put-children.Post put-children-Inv-loop put-children-μ-loop
+put-children-loop-holds : (t : ℕ) → put-children-lts.Need-loop-holds (put-children-uses t) (put-children-at t)
+    put-children.Post put-children-Inv-loop put-children-μ-loop
 put-children-loop-holds t c = (c .before .before .pre .1 .0, c .before .before .pre .1 .1, (λ d r h. h), refl)
 
-put-children-count-tree-requires : (t : ℕ) → put-children-lts.Need-count-tree-requires (put-children-uses t) (put-children-at t) put-children.Post put-children-Inv-loop put-children-μ-loop
+put-children-count-tree-requires : (t : ℕ) → put-children-lts.Need-count-tree-requires (put-children-uses t) (put-children-at t)
+    put-children.Post put-children-Inv-loop put-children-μ-loop
 put-children-count-tree-requires t c κs =
     let h = c .before .loop .inv .0 in
     first-standing _ _ _ _ _ (h .some) (trees-standing _ _ _ _ _ _ h)
 
-put-children-put-tree-requires : (t : ℕ) → put-children-lts.Need-put-tree-requires (put-children-uses t) (put-children-at t) put-children.Post put-children-Inv-loop put-children-μ-loop
+put-children-put-tree-requires : (t : ℕ) → put-children-lts.Need-put-tree-requires (put-children-uses t) (put-children-at t)
+    put-children.Post put-children-Inv-loop put-children-μ-loop
 put-children-put-tree-requires t c κs =
     let loop = c .before .before .before .loop in
     let inv = loop .inv in
@@ -89,19 +103,23 @@ put-children-put-tree-requires t c κs =
       ),
     )
 
-put-children-sub-rest : (t : ℕ) → put-children-lts.Need-sub-rest (put-children-uses t) (put-children-at t) put-children.Post put-children-Inv-loop put-children-μ-loop
+put-children-sub-rest : (t : ℕ) → put-children-lts.Need-sub-rest (put-children-uses t) (put-children-at t)
+    put-children.Post put-children-Inv-loop put-children-μ-loop
 put-children-sub-rest t c =
     let inv = c .before .before .before .before .before .before .loop .inv in
     let found = c .before .before .before .before .count-tree .ensures in
     omega (arith, first-low _ _ _ _ _ _ (inv .0) _ _ (counted-exact _ _ _ _ _ _ (inv .0) _ (found .0)) (found .1))
 
-put-children-sub-more : (t : ℕ) → put-children-lts.Need-sub-more (put-children-uses t) (put-children-at t) put-children.Post put-children-Inv-loop put-children-μ-loop
+put-children-sub-more : (t : ℕ) → put-children-lts.Need-sub-more (put-children-uses t) (put-children-at t)
+    put-children.Post put-children-Inv-loop put-children-μ-loop
 put-children-sub-more t c = omega (arith, c .before .before .before .before .before .loop-test .taken)
 
-put-children-loop-less : (t : ℕ) → put-children-lts.Need-loop-less (put-children-uses t) (put-children-at t) put-children.Post put-children-Inv-loop put-children-μ-loop
+put-children-loop-less : (t : ℕ) → put-children-lts.Need-loop-less (put-children-uses t) (put-children-at t)
+    put-children.Post put-children-Inv-loop put-children-μ-loop
 put-children-loop-less t c = omega (arith, c .before .before .before .before .before .loop-test .taken)
 
-put-children-loop-again : (t : ℕ) → put-children-lts.Need-loop-again (put-children-uses t) (put-children-at t) put-children.Post put-children-Inv-loop put-children-μ-loop
+put-children-loop-again : (t : ℕ) → put-children-lts.Need-loop-again (put-children-uses t) (put-children-at t)
+    put-children.Post put-children-Inv-loop put-children-μ-loop
 put-children-loop-again t c =
     let loop = c .before .before .before .before .before .before .loop in
     let inv = loop .inv in
@@ -114,7 +132,8 @@ put-children-loop-again t c =
       stored-long _ _ _ _ _ _ (inv .0) _ _ exact (found .1) _ (loop .out) _ _ stored ∙ inv .3,
     )
 
-put-children-put-tree-requires-2 : (t : ℕ) → put-children-lts.Need-put-tree-requires-2 (put-children-uses t) (put-children-at t) put-children.Post put-children-Inv-loop put-children-μ-loop
+put-children-put-tree-requires-2 : (t : ℕ) → put-children-lts.Need-put-tree-requires-2 (put-children-uses t) (put-children-at t)
+    put-children.Post put-children-Inv-loop put-children-μ-loop
 put-children-put-tree-requires-2 t c κs =
     let loop = c .before .before .loop in
     let inv = loop .inv in
@@ -122,10 +141,12 @@ put-children-put-tree-requires-2 t c κs =
     let is = c .before .before .before .before .before .pre .0 in
     (omega arith, (last-body _ _ _ _ _ _ (inv .0) few, last-room _ _ _ _ _ _ (inv .0) few _ (loop .out) _ (inv .1)))
 
-put-children-same-length : (t : ℕ) → put-children-lts.Need-same-length (put-children-uses t) (put-children-at t) put-children.Post put-children-Inv-loop put-children-μ-loop
+put-children-same-length : (t : ℕ) → put-children-lts.Need-same-length (put-children-uses t) (put-children-at t)
+    put-children.Post put-children-Inv-loop put-children-μ-loop
 put-children-same-length t c = search needs
 
-put-children-returns : (t : ℕ) → put-children-lts.Need-returns (put-children-uses t) (put-children-at t) put-children.Post put-children-Inv-loop put-children-μ-loop
+put-children-returns : (t : ℕ) → put-children-lts.Need-returns (put-children-uses t) (put-children-at t)
+    put-children.Post put-children-Inv-loop put-children-μ-loop
 put-children-returns t c =
     let loop = c .before .before .before .before .before .loop in
     let few : loop .more < 2 = omega (arith, c .before .before .before .before .loop-test .left) in
@@ -153,12 +174,15 @@ put-tree-sub-put-children t c = omega (arith, standing-some _ _ _ _ (tree-standi
 
 put-tree-put-children-requires : (t : ℕ) → put-tree-lts.Need-put-children-requires (put-tree-uses t) (put-tree-at t) put-tree.Post
 put-tree-put-children-requires t c κs =
-    let s = c .before .before .before .before .before .before .before .before in
+    let here = c .before .before in
+    let told = here .before in
+    let classed = told .before .before in
+    let s = classed .before .before .before in
     let some = standing-some _ _ _ _ (tree-standing _ _ _ _ _ (s .pre .1 .0)) in
-    let next = c .before .before .node-end .ensures in
+    let next = here .node-end .ensures in
     let many = c .before .children .ensures in
     let is = s .pre .0 in
-    let a-case = sym (c .before .before .before .before .before .class-of .ensures) ∙ c .before .before .before .enum-told .given .1 in (
+    let a-case = sym (classed .class-of .ensures) ∙ told .enum-told .given .1 in (
       omega arith,
       (
         case-bodies _ _ _ _ _ _ a-case next many _ (s .pre .1 .0),
@@ -177,8 +201,12 @@ put-tree-same-length-2 t c = search needs
 
 put-tree-returns-2 : (t : ℕ) → put-tree-lts.Need-returns-2 (put-tree-uses t) (put-tree-at t) put-tree.Post
 put-tree-returns-2 t c =
-    let a-case = sym (c .before .before .before .before .before .before .before .before .class-of .ensures) ∙ c .before .before .before .before .before .before .enum-told .given .1 in
-    case-stores _ _ _ _ _ _ a-case (c .before .before .before .before .before .node-end .ensures) (c .before .before .before .before .children .ensures) (c .before .before .before .before .before .before .before .before .before .before .before .args .to) _ _ _
+    let many = c .before .before .before .before in
+    let here = many .before in
+    let told = here .before in
+    let classed = told .before .before in
+    let a-case = sym (classed .class-of .ensures) ∙ told .enum-told .given .1 in
+    case-stores _ _ _ _ _ _ a-case (here .node-end .ensures) (many .children .ensures) (classed .before .before .before .args .to) _ _ _
     (c .before .before .put-children .ensures)
 
 pub +put-children+put-tree-spec : {M : Type 1} → statement M
