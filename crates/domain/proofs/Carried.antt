@@ -19,13 +19,12 @@ use Rattle.alpha.specs.Written.{branchCount}
 use Rattle.laws.specs.At.{nodeRead, nodeEnd, At, AllAt}
 use Rattle.laws.specs.Children.{arity}
 use Rattle.laws.specs.Sheets.{headsOf, varsOf, sheetOf}
-use Rattle.laws.proofs.Tests.{&&-left, &&-right, true-not-false}
+use Rattle.laws.proofs.Tests.{&&-left, true-not-false}
 use Rattle.laws.proofs.Trees.{at-unique}
-use Rattle.laws.proofs.Shapes.{at-node, RestrAt, DepAt}
+use Rattle.laws.proofs.Shapes.{at-node}
 use Rattle.affine.specs.declared.Map.{Map}
 use Rattle.affine.specs.Value.{pointOf, mapOf, Padded}
 use Rattle.affine.specs.Reading.{MapRead}
-use Rattle.affine.proofs.Meaning.{height-length, width-cols}
 use Rattle.tree.specs.declared.Class.the-variants.{Operator, Restriction, Dependence}
 use Rattle.tree.specs.Classes.{classAt}
 use Rattle.tree.proofs.Classes.{operator-at, restriction-at, dependence-at}
@@ -35,7 +34,7 @@ use Rattle.domain.specs.Walk.{Ends, Walk, WalkAll}
 use Rattle.domain.specs.Standing.{standing, both, together}
 use Rattle.domain.specs.Held.{Held, HeldAll}
 use Rattle.domain.specs.Holding.{isHeld}
-use Rattle.domain.proofs.Walks.{walk-children, walk-image, walks-split, walk-first, walk-rest}
+use Rattle.domain.proofs.Walks.{restricted-fits, mapped-fits, image-is, walk-children, walk-image, walks-split, walk-first, walk-rest}
 use Rattle.domain.proofs.Restrictions.{restriction-walk}
 use Rattle.domain.proofs.Standings.{operands-stand, restriction-stands, restriction-not, dependence-stands}
 
@@ -141,32 +140,20 @@ module _ (bs : List ℕ) where
       pub held-restricted : classAt bs p ≡ Restriction → Held bs k (left - 1) z
       held-restricted class-is =
           let x = restriction-at bs (w .tree) p (w .end) (w .at) class-is in
-          held-by k (left - 1) z (x .child) (w .end) (w .dims) (rw next (x .below)) (fit x) (restriction-walk bs p left z w class-is k next)
+          let fit = restricted-fits bs (w .tree) p (w .end) (w .dims) (w .fitting) x in
+          held-by k (left - 1) z (x .child) (w .end) (w .dims) (rw next (x .below)) fit (restriction-walk bs p left z w class-is k next)
           (restricted-holds (x .dim) (x .given) (x .child) (sheetOf bs) (pointOf (w .dims) z) (sym (ap here (x .is)) ∙ h .clear))
-        where
-          fit : (x : RestrAt (w .tree) (varsOf bs) bs p (w .end)) → fits (x .child) (headsOf bs) (w .dims) ≡ true
-          fit x = unfold fits in
-              &&-right (eqb (x .dim) (w .dims)) (fits (x .child) (headsOf bs) (w .dims))
-              (sym (ap (λ t. fits t (headsOf bs) (w .dims)) (x .is)) ∙ w .fitting)
 
       -- a dependence's child at the image, where its map is m
       pub held-image : classAt bs p ≡ Dependence → (m : Map) → MapRead bs (p + 8) m → (y : List Int) →
           pointOf (m .height) y ≡ image (mapOf m .rows) (pointOf (m .width) z) → Padded (m .height) y → Held bs k (left - 1) y
       held-image class-is m r y is rest =
           let x = dependence-at bs (w .tree) p (w .end) (w .at) class-is in
-          let map-is = r .is (x .by) (x .fields .next) (x .fields .read) in
-          let parts = fit x in
-          let child = fits (x .child) (headsOf bs) (length (x .by .rows)) in
-          let cols = eqb-true (x .by .cols) (w .dims) (&&-left (eqb (x .by .cols) (w .dims)) child parts) in
-          let point : pointOf (length (x .by .rows)) y ≡ image (x .by .rows) (pointOf (w .dims) z) =
-          rw (height-length m map-is, width-cols m map-is, cols) at (is ∙ ap (λ f. image (f .rows) (pointOf (m .width) z)) map-is) in
-          held-by k (left - 1) y (x .child) (w .end) (length (x .by .rows)) (rw next (x .below))
-          (&&-right (eqb (x .by .cols) (w .dims)) child parts) (walk-image bs p left z w class-is m r k next y is rest)
+          let fit = mapped-fits bs (w .tree) p (w .end) (w .dims) (w .fitting) x in
+          let point = image-is bs (w .tree) p (w .end) (w .dims) (w .fitting) x m r z y is in
+          held-by k (left - 1) y (x .child) (w .end) (length (x .by .rows)) (rw next (x .below)) fit
+          (walk-image bs p left z w class-is m r k next y is rest)
           (rw point (sym (dependence-stands (sheetOf bs) (pointOf (w .dims) z) (x .by) (x .child)) ∙ sym (ap here (x .is)) ∙ h .clear))
-        where
-          fit : (x : DepAt (w .tree) (varsOf bs) bs p (w .end)) →
-              eqb (x .by .cols) (w .dims) && fits (x .child) (headsOf bs) (length (x .by .rows)) ≡ true
-          fit x = unfold fits in (sym (ap (λ t. fits t (headsOf bs) (w .dims)) (x .is)) ∙ w .fitting)
 
   -- ---- so many operands
 

@@ -7,17 +7,16 @@ use mathlib.Core.Bool.{true, false, _&&_}
 use mathlib.Core.List.{List, [], _∷_}
 use lib.ListN.{length, getD}
 use lib.IntN.{natAbs}
-use lib.Dec.{leb, eqb}
-use borrow.Author.Tests.{leb-true, eqb-true}
+use lib.Dec.{leb}
+use borrow.Author.Tests.{leb-true}
 use Rattle.alpha.specs.declared.Int.{Int}
 use Rattle.alpha.specs.Field.{field}
 use Rattle.alpha.specs.Sheet.{Relation, Row, Constraint, Point}
 use Rattle.alpha.specs.Affine.{meets, meetsAll}
-use Rattle.alpha.specs.Shape.{fits}
 use Rattle.alpha.specs.Reach.{limit, rowReach, allReach, reach}
 use Rattle.alpha.specs.Written.{nodeCount}
 use Rattle.laws.specs.At.{nodeEnd}
-use Rattle.laws.specs.Sheets.{headsOf, varsOf}
+use Rattle.laws.specs.Sheets.{varsOf}
 use Rattle.laws.proofs.Tests.{&&-left, &&-right}
 use Rattle.laws.proofs.Readers.{counted-is}
 use Rattle.laws.proofs.Rows.{ConstraintAt}
@@ -36,6 +35,7 @@ use Rattle.tree.proofs.Standings.{at-noded}
 use Rattle.tree.proofs.Reaching.{row-fields}
 use Rattle.domain.specs.Walk.{Walk}
 use Rattle.domain.specs.Constraints.{constraintFields, constraintsFields, Testable, AllTestable, RestrictionTestable}
+use Rattle.domain.proofs.Walks.{restriction-dims, restricted-fits}
 
 -- ---- what the fields say
 
@@ -135,12 +135,8 @@ module _ (bs : List ℕ) (p : ℕ) where
     here : RestrAt (h .tree) (varsOf bs) bs p (h .end)
     here = restriction-at bs (h .tree) p (h .end) (h .at) class-is
 
-    fit-here : eqb (here .dim) (h .dims) && fits (here .child) (headsOf bs) (h .dims) ≡ true
-    unfolding fits
-    fit-here = rw (here .is) at (h .fitting)
-
     dims-are : here .dim ≡ h .dims
-    dims-are = eqb-true (here .dim) (h .dims) (&&-left (eqb (here .dim) (h .dims)) (fits (here .child) (headsOf bs) (h .dims)) fit-here)
+    dims-are = restriction-dims bs (h .tree) p (h .end) (h .dims) (h .fitting) here
 
     reach-here : allReach (h .bound) (here .given) && reach (here .child) (h .bound) ≡ true
     unfolding reach
@@ -175,7 +171,7 @@ module _ (bs : List ℕ) (p : ℕ) where
       at = rw next (here .below);
       few = omega (arith, h .few, count-here);
       most = omega (arith, h .most);
-      fitting = &&-right (eqb (here .dim) (h .dims)) (fits (here .child) (headsOf bs) (h .dims)) fit-here;
+      fitting = restricted-fits bs (h .tree) p (h .end) (h .dims) (h .fitting) here;
       reaches = &&-right (allReach (h .bound) (here .given)) (reach (here .child) (h .bound)) reach-here;
       point = h .point;
     }

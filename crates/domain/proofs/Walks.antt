@@ -3,7 +3,7 @@
 use mathlib.Core.Path.{_≡_, refl, sym, ap, _∙_, subst}
 use Prim.Native.Nat.{ℕ, suc, _+_, _-_, _≤_}
 use native.Mathlib.Omega.{arith}
-use mathlib.Core.Bool.{true, _&&_}
+use mathlib.Core.Bool.{Bool, true, _&&_}
 use mathlib.Core.List.{List}
 use lib.ListN.{length}
 use lib.Dec.{leb, eqb}
@@ -19,7 +19,7 @@ use Rattle.laws.specs.At.{nodeOf, nodeRead, nodeEnd, At}
 use Rattle.laws.specs.Children.{childrenOf, arity, fitsHere, wanted, reachHere, reachBelow}
 use Rattle.laws.specs.Sheets.{headsOf, varsOf}
 use Rattle.laws.proofs.Tests.{&&-left, &&-right}
-use Rattle.laws.proofs.Shapes.{DepAt, MoreAt}
+use Rattle.laws.proofs.Shapes.{RestrAt, DepAt, MoreAt}
 use Rattle.laws.proofs.Children.{children-count, fits-children, reach-children}
 use Rattle.laws.proofs.NormalReach.{mapReach-pos}
 use Rattle.affine.specs.declared.Map.{Map}
@@ -56,6 +56,47 @@ same-below (ite a b c) n r h = (refl, refl)
 same-below (kase es) n r h = (refl, refl)
 same-below (restr d cs a) n r h = (refl, refl)
 same-below (dep f a) n r h = absurd h
+
+-- ---- a restriction and a dependence at p, of dimension n: the dimension that they name, and their child's
+
+module _ (bs : List ℕ) (e : Expr) (p q n : ℕ) (f : fits e (headsOf bs) n ≡ true) where
+  module _ (x : RestrAt e (varsOf bs) bs p q) where
+    restriction-fits : eqb (x .dim) n && fits (x .child) (headsOf bs) n ≡ true
+    unfolding fits
+    restriction-fits = rw (x .is) at f
+
+    pub restriction-dims : x .dim ≡ n
+    restriction-dims = eqb-true (x .dim) n (&&-left (eqb (x .dim) n) (fits (x .child) (headsOf bs) n) restriction-fits)
+
+    pub restricted-fits : fits (x .child) (headsOf bs) n ≡ true
+    restricted-fits = &&-right (eqb (x .dim) n) (fits (x .child) (headsOf bs) n) restriction-fits
+
+  module _ (x : DepAt e (varsOf bs) bs p q) where
+    abbrev child-fits : Bool
+    child-fits = fits (x .child) (headsOf bs) (length (x .by .rows))
+
+    dependence-fits : eqb (x .by .cols) n && child-fits ≡ true
+    unfolding fits
+    dependence-fits = rw (x .is) at f
+
+    dependence-dims : x .by .cols ≡ n
+    dependence-dims = eqb-true (x .by .cols) n (&&-left (eqb (x .by .cols) n) child-fits dependence-fits)
+
+    pub mapped-fits : fits (x .child) (headsOf bs) (length (x .by .rows)) ≡ true
+    mapped-fits = &&-right (eqb (x .by .cols) n) child-fits dependence-fits
+
+    -- where its map is m
+    module _ (m : Map) (r : MapRead bs (p + 8) m) where
+      pub map-is : mapOf m ≡ x .by
+      map-is = r .is (x .by) (x .fields .next) (x .fields .read)
+
+      pub width-is : m .width ≡ n
+      width-is = width-cols m map-is ∙ dependence-dims
+
+      -- y is the image of z
+      pub image-is : (z y : List Int) → pointOf (m .height) y ≡ image (mapOf m .rows) (pointOf (m .width) z) →
+          pointOf (length (x .by .rows)) y ≡ image (x .by .rows) (pointOf n z)
+      image-is z y is = rw (height-length m map-is, width-is) at (is ∙ ap (λ w. image (w .rows) (pointOf (m .width) z)) map-is)
 
 module _ (bs : List ℕ) where
   module _ (p : ℕ) (e : Expr) (q : ℕ) (h : At e (varsOf bs) bs p q) (same : SamePoint (classAt bs p)) where
@@ -104,10 +145,6 @@ module _ (bs : List ℕ) where
       below : DepAt (h .tree) (varsOf bs) bs p (h .end)
       below = dependence-at bs (h .tree) p (h .end) (h .at) class-is
 
-      fit-below : eqb (below .by .cols) (h .dims) && fits (below .child) (headsOf bs) (length (below .by .rows)) ≡ true
-      unfolding fits
-      fit-below = rw (below .is) at (h .fitting)
-
       reach-below : leb (mapReach (h .bound) (below .by .rows)) limit && reach (below .child) (mapReach (h .bound) (below .by .rows)) ≡ true
       unfolding reach
       reach-below = rw (below .is) at (h .reaches)
@@ -126,25 +163,22 @@ module _ (bs : List ℕ) where
 
       -- where its map is m
       module _ (m : Map) (r : MapRead bs (p + 8) m) where
-        map-is : mapOf m ≡ below .by
-        map-is = r .is (below .by) (below .fields .next) (below .fields .read)
+        by-is : mapOf m ≡ below .by
+        by-is = map-is bs (h .tree) p (h .end) (h .dims) (h .fitting) below m r
 
         rows-are : mapOf m .rows ≡ below .by .rows
-        rows-are = ap (λ f. f .rows) map-is
+        rows-are = ap (λ f. f .rows) by-is
 
         dims-are : m .width ≡ h .dims
-        dims-are =
-            width-cols m map-is
-            ∙ eqb-true (below .by .cols) (h .dims)
-            (&&-left (eqb (below .by .cols) (h .dims)) (fits (below .child) (headsOf bs) (length (below .by .rows))) fit-below)
+        dims-are = width-is bs (h .tree) p (h .end) (h .dims) (h .fitting) below m r
 
         -- the image can be computed
         pub image-fits : Fit m z
         image-fits = map-fits (h .bound) m z (r .neat) (rw dims-are (h .point .near)) (rw rows-are within-limit)
 
         -- and the child, at the next place, may be walked there
-        pub walk-image : (k : ℕ) → k ≡ nodeEnd (varsOf bs) bs p → (y : List Int) → pointOf (m .height) y ≡ image (mapOf m .rows) (pointOf (m .width) z) → Padded (m .height) y →
-            Walk bs k (left - 1) y
+        pub walk-image : (k : ℕ) → k ≡ nodeEnd (varsOf bs) bs p → (y : List Int) →
+            pointOf (m .height) y ≡ image (mapOf m .rows) (pointOf (m .width) z) → Padded (m .height) y → Walk bs k (left - 1) y
         walk-image k next y is rest = record {
           tree = below .child;
           end = h .end;
@@ -153,8 +187,7 @@ module _ (bs : List ℕ) where
           at = rw next (below .below);
           few = omega (arith, h .few, count-below);
           most = omega (arith, h .most);
-          fitting = rw (height-length m map-is)
-              (&&-right (eqb (below .by .cols) (h .dims)) (fits (below .child) (headsOf bs) (length (below .by .rows))) fit-below);
+          fitting = rw (height-length m by-is) (mapped-fits bs (h .tree) p (h .end) (h .dims) (h .fitting) below);
           reaches = &&-right (leb (mapReach (h .bound) (below .by .rows)) limit) (reach (below .child) (mapReach (h .bound) (below .by .rows))) reach-below;
           point = record {
             padded = rest;

@@ -6,7 +6,6 @@ use mathlib.Core.Bool.{Bool, true, false, _&&_}
 use mathlib.Core.List.{List}
 use lib.ListN.{length}
 use lib.IntN.{ℤ, natAbs}
-use lib.Dec.{eqb}
 use borrow.Author.Tests.{eqb-true}
 use Rattle.alpha.specs.declared.Int.{Int}
 use Rattle.alpha.specs.Field.{field}
@@ -20,11 +19,10 @@ use Rattle.laws.specs.Children.{childrenOf, arity}
 use Rattle.laws.specs.Sheets.{headsOf, varsOf, sheetOf}
 use Rattle.laws.proofs.Tests.{&&-left, &&-right}
 use Rattle.laws.proofs.Readers.{counted-is}
-use Rattle.laws.proofs.Shapes.{DepAt, RestrAt, MoreAt, at-var, at-int, at-boo, allAt-none}
+use Rattle.laws.proofs.Shapes.{RestrAt, MoreAt, at-var, at-int, at-boo, allAt-none}
 use Rattle.affine.specs.declared.Map.{Map}
 use Rattle.affine.specs.Value.{pointOf, mapOf}
 use Rattle.affine.specs.Reading.{MapRead}
-use Rattle.affine.proofs.Meaning.{height-length, width-cols}
 use Rattle.tree.specs.declared.Class.the-variants.{Operator, Case, Restriction, Dependence}
 use Rattle.tree.specs.Classes.{classAt}
 use Rattle.tree.specs.Ends.{EndsAt}
@@ -37,7 +35,7 @@ use Rattle.domain.specs.Standing.{standing, joined, alone, together, Sta
 use Rattle.domain.specs.Constraints.{restrictionMet}
 use Rattle.domain.proofs.Standings.{joined-alone, joined-assoc, alone-joined, operands-stand, branches-stand, restriction-stands}
 use Rattle.domain.proofs.Standings.{restriction-not, dependence-stands}
-use Rattle.domain.proofs.Walks.{SamePoint, children-fit}
+use Rattle.domain.proofs.Walks.{SamePoint, children-fit, restriction-dims, restricted-fits, mapped-fits, image-is}
 use Rattle.domain.proofs.Restrictions.{restriction-says}
 
 -- ---- leaves
@@ -111,22 +109,12 @@ module _ (bs : List ℕ) (p k : ℕ) (z : List Int) (next : k ≡ nodeEnd (varsO
       StandsAt bs k y r → StandsAt bs p z r
   image-way m y r class-is read is t e q n h f =
       let x = dependence-at bs e p q h class-is in
-      let map-is = read .is (x .by) (x .fields .next) (x .fields .read) in
-      let g = fit-below (x .by .cols) (fits (x .child) (headsOf bs) (length (x .by .rows))) (parts x) in
-      let a = t (x .child) q (length (x .by .rows)) (rw next (x .below)) (g .1) in
-      let point : pointOf (length (x .by .rows)) y ≡ image (x .by .rows) (pointOf n z) =
-      rw (height-length m map-is, width-cols m map-is, g .0) at (is ∙ ap (λ w. image (w .rows) (pointOf (m .width) z)) map-is) in (
+      let a = t (x .child) q (length (x .by .rows)) (rw next (x .below)) (mapped-fits bs e p q n f x) in (
         a .0,
-        a .1 ∙ ap (standing (x .child) (sheetOf bs)) point
+        a .1 ∙ ap (standing (x .child) (sheetOf bs)) (image-is bs e p q n f x m read z y is)
             ∙ sym (dependence-stands (sheetOf bs) (pointOf n z) (x .by) (x .child))
             ∙ ap (λ t. standing t (sheetOf bs) (pointOf n z)) (sym (x .is)),
       )
-    where
-      parts : (x : DepAt e (varsOf bs) bs p q) → eqb (x .by .cols) n && fits (x .child) (headsOf bs) (length (x .by .rows)) ≡ true
-      parts x = unfold fits in rw (x .is) at f
-
-      fit-below : (c : ℕ) (b : Bool) → eqb c n && b ≡ true → (c ≡ n) × (b ≡ true)
-      fit-below c b g = (eqb-true c n (&&-left (eqb c n) b g), &&-right (eqb c n) b g)
 
   -- a restriction, whose constraints hold or not
   module _ (class-is : classAt bs p ≡ Restriction) (met : Bool) (is : met ≡ restrictionMet bs p z) where
@@ -134,12 +122,11 @@ module _ (bs : List ℕ) (p k : ℕ) (z : List Int) (next : k ≡ nodeEnd (varsO
       here : RestrAt e (varsOf bs) bs p q
       here = restriction-at bs e p q h class-is
 
-      parts : eqb (here .dim) n && fits (here .child) (headsOf bs) n ≡ true
-      unfolding fits
-      parts = rw (here .is) at f
-
       dims : natAbs (field bs (p + 8)) ≡ n
-      dims = sym (counted-is (here .fields .dim)) ∙ eqb-true (here .dim) n (&&-left (eqb (here .dim) n) (fits (here .child) (headsOf bs) n) parts)
+      dims = sym (counted-is (here .fields .dim)) ∙ restriction-dims bs e p q n f here
+
+      child-at : At (here .child) (varsOf bs) bs k q
+      child-at = subst (λ i. At (here .child) (varsOf bs) bs i q) (sym next) (here .below)
 
       met-is : met ≡ meetsAll (here .given) (pointOf n z)
       met-is = is ∙ ap (λ l. meetsAll l (pointOf (natAbs (field bs (p + 8))) z)) (sym (restriction-says bs p (here .dim) (here .given) (here .fields)))
@@ -151,15 +138,14 @@ module _ (bs : List ℕ) (p k : ℕ) (z : List Int) (next : k ≡ nodeEnd (varsO
     pub restriction-way : (r : Stood) → met ≡ true → StandsAt bs k z r → StandsAt bs p z r
     restriction-way r held t e q n h f =
         let x = here e q n h f in
-        let g = &&-right (eqb (x .dim) n) (fits (x .child) (headsOf bs) n) (parts e q n h f) in
-        let a = t (x .child) q n (subst (λ i. At (x .child) (varsOf bs) bs i q) (sym next) (x .below)) g in
+        let a = t (x .child) q n (child-at e q n h f) (restricted-fits bs e p q n f x) in
         (a .0, a .1 ∙ sym (restriction-stands (sheetOf bs) (pointOf n z) (x .dim) (x .given) (x .child) (sym (met-is e q n h f) ∙ held)) ∙ back e q n h f)
 
     -- below one whose constraints do not hold nothing is asked: it ends where its child does
     pub restriction-off-way : (end : ℕ) → met ≡ false → EndsAt (varsOf bs) bs k end → StandsAt bs p z (record { how = Not; next = end })
     restriction-off-way end fails ends e q n h f =
         let x = here e q n h f in (
-          ends (x .child) q (subst (λ i. At (x .child) (varsOf bs) bs i q) (sym next) (x .below)),
+          ends (x .child) q (child-at e q n h f),
           sym (restriction-not (sheetOf bs) (pointOf n z) (x .dim) (x .given) (x .child) (sym (met-is e q n h f) ∙ fails)) ∙ back e q n h f,
         )
 
@@ -196,7 +182,8 @@ module _ (bs : List ℕ) (z : List Int) (branches : Bool) where
     -- of `count` trees from p on the first, which end at next, come to `how`, and `more` others are left
     abbrev pub SoFar : Standing → ℕ → ℕ → Type 0
     SoFar how next more =
-        (t : Stood) → StandTogether bs next more z branches t → StandTogether bs p count z branches (record { how = joined branches how (t .how); next = t .next })
+        (t : Stood) → StandTogether bs next more z branches t →
+        StandTogether bs p count z branches (record { how = joined branches how (t .how); next = t .next })
 
     -- the answer, where it is the same
     together-is : (next : ℕ) {how how2 : Standing} → how ≡ how2 → StandTogether bs p count z branches (record { how = how; next = next }) →

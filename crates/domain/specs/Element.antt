@@ -41,7 +41,7 @@ bodyStanding s v z = ifb (inDomain (variable s v) z) (λ _. standing (variable s
 -- ---- what is needed to say it
 
 -- the sheet passes SHAPE, TYPE and REACH, and the table of its elements says which are inside
-pub record Judgeable (bs tab inside : List ℕ) : Type 0 where
+pub record Checkable (bs tab inside : List ℕ) : Type 0 where
   pub formed : Formed bs tab
   pub inside-is : Inside (sheetOf bs) inside
 

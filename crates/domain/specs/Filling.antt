@@ -13,7 +13,7 @@ use Rattle.alpha.specs.Field.{field}
 use Rattle.alpha.specs.Sheet.{Declared, Sheet, Point}
 use Rattle.alpha.specs.Affine.{meets, meetsAll}
 use Rattle.alpha.specs.Box.{inBox}
-use Rattle.alpha.specs.Read.{dimension}
+use Rattle.alpha.specs.Read.{got, dimension, declared}
 use Rattle.alpha.specs.Holds.{variable}
 use Rattle.alpha.specs.Ask.{numberOf}
 use Rattle.laws.specs.Sheets.{headsOf, varsOf, sheetOf}
@@ -25,6 +25,11 @@ use Rattle.domain.specs.Inside.{bit}
 -- the declared constraint d does not concern variable v, or it holds at z
 abbrev pub declaredMeets : ℕ → Declared → Point → Bool
 declaredMeets v d z = ifb (eqb (d .who) v) (λ _. meets (d .what) z) (λ _. true)
+
+-- r says that of the declared constraint at p
+abbrev pub DeclaredMet : List ℕ → ℕ → ℕ → List Int → Bool → Type 0
+DeclaredMet bs p v z r =
+    (d : Declared) (q : ℕ) → declared (headsOf bs) bs p ≡ got d q → r ≡ declaredMeets v d (pointOf (dimension (headsOf bs) v) z)
 
 -- a declared constraint was read at p, and if it concerns variable v it can be tested at z
 pub record DeclaredTestable (bs : List ℕ) (p v : ℕ) (z : List Int) : Type 0 where

@@ -1,5 +1,5 @@
--- What a walk of a tree at a point requires: the sheet and its tables are as they must be; and, so that no sum on the way leaves an i64, the
--- tree stands there, it has the point's dimension, and where the point's coordinates reach no reach passes the limit. The laws that carry it to the children are in
+-- What a walk of a tree at a point requires: the sheet and its tables are as they must be; and, so that no sum on the way leaves an i64,
+-- the tree stands there, it has the point's dimension, and where the point's coordinates reach no reach passes the limit. The laws that carry it to the children are in
 -- proofs/Walks.antt. Assumes nothing.
 use mathlib.Core.Path.{_≡_}
 use Prim.Native.Nat.{ℕ, _≤_}

@@ -18,7 +18,7 @@ ghost use Rattle.alpha.specs.Check as Check;
 ghost use Rattle.alpha.specs.Ask.{before};
 ghost use Rattle.laws.specs.Sheets.{varsOf, sheetOf};
 ghost use Rattle.tree.specs.Ruled.{ruled};
-ghost use Rattle.domain.specs.Element.{isClear, faultOf, bodyStanding, elementsOf, Judgeable, HasBody, BodyPoint};
+ghost use Rattle.domain.specs.Element.{isClear, faultOf, bodyStanding, elementsOf, Checkable, HasBody, BodyPoint};
 
 fn is_clear(how: Standing) -> bool
     ensures { λ r. ⌜ r ≡ isClear how ⌝ }
@@ -43,7 +43,7 @@ fn fault(how: Standing, n: usize) -> Ruling
 
 // How the body of variable v stands at the i-th point of its box. Outside its declared domain it is not asked.
 fn body_stands(s: &[u8], tab: &[usize; 102], inside: &[u8; 4096], v: usize, i: usize) -> Standing
-    requires { ⌜ Judgeable (now s) (now tab) (now inside) × BodyPoint (now s) v i ⌝ }
+    requires { ⌜ Checkable (now s) (now tab) (now inside) × BodyPoint (now s) v i ⌝ }
     ensures { λ r. ⌜ r ≡ bodyStanding (sheetOf (now (s .entry))) v (Box.pointAt (variable (sheetOf (now (s .entry))) v .head .box) i) ⌝ }
 {
     let n = first_element(tab, v) + i;
@@ -58,7 +58,7 @@ fn body_stands(s: &[u8], tab: &[usize; 102], inside: &[u8; 4096], v: usize, i: u
 
 // The elements of variable v, which is no input.
 fn body_faults(s: &[u8], tab: &[usize; 102], inside: &[u8; 4096], v: usize) -> Ruling
-    requires { ⌜ Judgeable (now s) (now tab) (now inside) × HasBody (now s) v ⌝ }
+    requires { ⌜ Checkable (now s) (now tab) (now inside) × HasBody (now s) v ⌝ }
     ensures { λ r. ⌜ ruled r ≡ Check.faults (sheetOf (now (s .entry))) (before (sheetOf (now (s .entry))) v) (elementsOf (sheetOf (now (s .entry))) v) ⌝ }
 {
     let first = first_element(tab, v);
@@ -76,7 +76,7 @@ fn body_faults(s: &[u8], tab: &[usize; 102], inside: &[u8; 4096], v: usize) -> R
 
 // The elements of variable v. An input has no body.
 fn variable_faults(s: &[u8], tab: &[usize; 102], inside: &[u8; 4096], v: usize) -> Ruling
-    requires { ⌜ Judgeable (now s) (now tab) (now inside) × (v < varsOf (now s)) ⌝ }
+    requires { ⌜ Checkable (now s) (now tab) (now inside) × (v < varsOf (now s)) ⌝ }
     ensures { λ r. ⌜ ruled r ≡ Check.faults (sheetOf (now (s .entry))) (before (sheetOf (now (s .entry))) v) (elementsOf (sheetOf (now (s .entry))) v) ⌝ }
 {
     if kind_of(s, tab, v) == 0 {
@@ -87,7 +87,7 @@ fn variable_faults(s: &[u8], tab: &[usize; 102], inside: &[u8; 4096], v: usize) 
 
 // All elements: refusals 10 and 11 with their places.
 pub fn faults(s: &[u8], tab: &[usize; 102], inside: &[u8; 4096]) -> Ruling
-    requires { ⌜ Judgeable (now s) (now tab) (now inside) ⌝ }
+    requires { ⌜ Checkable (now s) (now tab) (now inside) ⌝ }
     ensures { λ r. ⌜ ruled r ≡ Check.faults (sheetOf (now (s .entry))) 0 (Check.elements (sheetOf (now (s .entry)))) ⌝ }
 {
     let n = variable_count(tab);

@@ -9,13 +9,11 @@ use sheet::table::variable_count;
 use tree::node::natural;
 use tree::variable::dimension_of;
 ghost use mathlib.Core.Path.{_≡_};
-ghost use Prim.Native.Nat.{ℕ, _+_, _<_};
+ghost use Prim.Native.Nat.{_+_, _<_};
 ghost use mathlib.Core.Bool.{true};
 ghost use lib.ListN.{length, set};
-ghost use Rattle.alpha.specs.Sheet.{Declared};
 ghost use Rattle.alpha.specs.Affine.{meetsAll};
-ghost use Rattle.alpha.specs.Read.{got, dimension};
-ghost use Rattle.alpha.specs.Read as Read;
+ghost use Rattle.alpha.specs.Read.{dimension};
 ghost use Rattle.alpha.specs.Box as Box;
 ghost use Rattle.alpha.specs.Holds.{variable};
 ghost use Rattle.laws.specs.Heads.{declaredLen};
@@ -25,7 +23,7 @@ ghost use Rattle.tree.specs.Prepared.{Prepared};
 ghost use Rattle.tree.specs.Formed.{DeclaredRead, Formed};
 ghost use Rattle.domain.specs.Element.{PointOf};
 ghost use Rattle.domain.specs.Inside.{Inside, bit};
-ghost use Rattle.domain.specs.Filling.{declaredMeets, DeclaredTestable, InBoxOf, FilledBelow, FillsNext};
+ghost use Rattle.domain.specs.Filling.{DeclaredMet, DeclaredTestable, InBoxOf, FilledBelow, FillsNext};
 
 // The place after the declared constraint at `at`.
 fn next_declared(s: &[u8], tab: &[usize; 102], at: usize) -> usize
@@ -39,7 +37,7 @@ fn next_declared(s: &[u8], tab: &[usize; 102], at: usize) -> usize
 // The declared constraint at `at` does not concern variable v, or it holds at z.
 fn declared_meets(s: &[u8], tab: &[usize; 102], at: usize, v: usize, z: [Int; 4]) -> bool
     requires { ⌜ Prepared (now s) (now tab) × DeclaredTestable (now s) at v z ⌝ }
-    ensures { λ r. ⌜ ((d : Declared) (q : ℕ) → Read.declared (headsOf (now (s .entry))) (now (s .entry)) at ≡ got d q → r ≡ declaredMeets v d (pointOf (dimension (headsOf (now (s .entry))) v) z)) ⌝ }
+    ensures { λ r. ⌜ DeclaredMet (now (s .entry)) at v z r ⌝ }
 {
     let who = natural(s, at);
     if who != v {

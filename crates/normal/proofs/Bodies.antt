@@ -12,7 +12,7 @@ use lib.Dec.{ltb}
 use Rattle.alpha.specs.Pick.{ifb}
 use Rattle.alpha.specs.Field.{nat}
 use Rattle.alpha.specs.Sheet as Sheet
-use Rattle.alpha.specs.Sheet.{Node, Expr, Exprs, Constraint}
+use Rattle.alpha.specs.Sheet.{Node, Expr, Exprs}
 use Rattle.alpha.specs.Sheet.{Node.nVar, Node.nInt, Node.nBool, Node.nUnary, Node.nBinary, Node.nIf, Node.nCase, Node.nRestr, Node.nDep}
 use Rattle.alpha.specs.Sheet.{Expr.var, Expr.int, Expr.boo, Expr.un, Expr.bin, Expr.ite, Expr.kase, Expr.restr, Expr.dep, Exprs.none, Exprs.more}
 use Rattle.alpha.specs.Affine.{rowAfter, constraintAfter, mapAfter, identity, idRows}
@@ -20,7 +20,6 @@ use Rattle.alpha.specs.Read.{dimension}
 use Rattle.alpha.specs.Reach.{topReach, mapReach}
 use Rattle.alpha.specs.Written.{flat, unaryCode, binaryCode, rowBytes, constraintBytes, bytes, allBytes, nodeCount, nodeCounts, depth}
 use Rattle.alpha.specs.Normal.{Branch, pushBranch, asExprs}
-use Rattle.laws.specs.At.{At}
 use Rattle.laws.specs.Sheets.{headsOf, varsOf}
 use Rattle.laws.specs.Wide.{RowsWide, Wide}
 use Rattle.laws.specs.Writable.{Writable, AllWritable}
@@ -33,12 +32,13 @@ use Rattle.laws.proofs.Widths.{at-wide}
 use Rattle.affine.specs.declared.Map.{Map}
 use Rattle.affine.specs.Value.{mapOf, Neat}
 use Rattle.laws.proofs.Written.{length-num}
+use Rattle.tree.specs.Standing.{Standing}
 use Rattle.normal.specs.declared.Pen.{Pen}
 use Rattle.normal.specs.declared.Taken.{Taken}
 use Rattle.normal.specs.Count.{countOf}
-use Rattle.normal.specs.Part.{Part, beside, own, partOf, chosenOf}
+use Rattle.normal.specs.Part.{Part, beside, givenBy, own, partOf, chosenOf}
 use Rattle.normal.specs.Followed.{advance, roomOf, Route, Wrote, Follows}
-use Rattle.normal.specs.Body.{written, takenBy, nothing, both, total, branchesIn, branchIn, BodyAt, IsBody, TakesBranch, TakesFrom}
+use Rattle.normal.specs.Body.{written, takenBy, nothing, both, total, branchesIn, branchIn, BodyAt, BranchAt, IsBody, TakesBranch, TakesFrom}
 use Rattle.normal.specs.Body.{StoresBranch, RoomFor, RoomFrom, StoresFrom}
 use Rattle.normal.proofs.Numbered.{count-is}
 use Rattle.normal.proofs.Composing.{branch-first}
@@ -62,8 +62,7 @@ module _ (m : Sheet.Map) (few : m .cols ≤ 4) (high : length (m .rows) ≤ 4) (
         mul-le-mul-right (8 * m .cols + 8) high,
       )
 
-  own-short : (t : Bool) (nd : Node) (l : ℕ) → ((d : ℕ) (cs : List Constraint) → nd ≡ nRestr d cs → length cs ≤ 64) →
-      length (own t nd m l .out) ≤ 3104
+  own-short : (t : Bool) (nd : Node) (l : ℕ) → length (givenBy nd) ≤ 64 → length (own t nd m l .out) ≤ 3104
   unfolding bytes
   own-short true (nVar v) l c = leaf-short (nat 0) (nat v) (length-nat 0) (length-nat v)
   own-short true (nInt x) l c = leaf-short (nat 1) (Rattle.alpha.specs.Field.num x) (length-nat 1) (length-num x)
@@ -86,19 +85,10 @@ module _ (m : Sheet.Map) (few : m .cols ≤ 4) (high : length (m .rows) ≤ 4) (
         arith,
         constraints-long (m .cols) (map (constraintAfter m) cs) (constraints-after-wide m cs wide),
         length-map cs (constraintAfter m),
-        mul-le-mul-right (16 + 8 * m .cols) (c d cs refl),
+        mul-le-mul-right (16 + 8 * m .cols) c,
         ap (λ n. n * (16 + 8 * m .cols)) (length-map cs (constraintAfter m)),
       )
   own-short false (nDep f) l c = omega arith
-
-restr-given : (cs : List Constraint) (e : ℕ) → length cs ≤ e → (d : ℕ) (ds : List Constraint) (i : ℕ) → nRestr i cs ≡ nRestr d ds → length ds ≤ e
-restr-given cs e h d ds i same = subst (λ x. length x ≤ e) (ap givenOf same) h
-  where
-    givenOf : Node → List Constraint
-    givenOf nd = Rattle.normal.specs.Part.givenBy nd
-
-no-restr : (nd : Node) → Rattle.laws.specs.At.codeOf nd < 7 → (d : ℕ) (cs : List Constraint) → nd ≡ nRestr d cs → length cs ≤ 64
-no-restr nd h d cs e = absurd (omega (arith, ap Rattle.laws.specs.At.codeOf e))
 
 two-short : (p q : Part) (a b : ℕ) → length (p .out) ≤ a → length (q .out) ≤ b → length (beside p q .out) ≤ a + b
 two-short p q a b h g = omega (arith, length-append (p .out) (q .out))
@@ -110,14 +100,14 @@ module _ (vars : ℕ) where
     pub part-short : (t : Bool) (e : Expr) (m : Sheet.Map) (l b : ℕ) → Writable e vars → m .cols ≤ 4 → length (m .rows) ≤ 4 →
         RowsWide (m .cols) (m .rows) →
         length (partOf t e m l b .out) ≤ 3104 * nodeCount e
-    part-short t (var v) m l b w f h r = omega (arith, own-short m f h r t (nVar v) l (no-restr (nVar v) (omega arith)))
-    part-short t (int c) m l b w f h r = omega (arith, own-short m f h r t (nInt c) l (no-restr (nInt c) (omega arith)))
-    part-short t (boo c) m l b w f h r = omega (arith, own-short m f h r t (nBool c) l (no-restr (nBool c) (omega arith)))
+    part-short t (var v) m l b w f h r = omega (arith, own-short m f h r t (nVar v) l (omega arith))
+    part-short t (int c) m l b w f h r = omega (arith, own-short m f h r t (nInt c) l (omega arith))
+    part-short t (boo c) m l b w f h r = omega (arith, own-short m f h r t (nBool c) l (omega arith))
     part-short t (un o a) m l b w f h r =
         omega (
           arith,
           two-short (own t (nUnary o) m l) (partOf t a m (l + 1) b) 3104 (3104 * nodeCount a)
-              (own-short m f h r t (nUnary o) l (no-restr (nUnary o) (omega arith)))
+              (own-short m f h r t (nUnary o) l (omega arith))
               (part-short t a m (l + 1) b w f h r),
         )
     part-short t (bin o x y) m l b w f h r =
@@ -126,7 +116,7 @@ module _ (vars : ℕ) where
         omega (
           arith,
           two-short (own t (nBinary o) m l) (beside (partOf t x m (l + 1) i) (partOf t y m (l + 1) j)) 3104 (3104 * nodeCount x + 3104 * nodeCount y)
-              (own-short m f h r t (nBinary o) l (no-restr (nBinary o) (omega arith)))
+              (own-short m f h r t (nBinary o) l (omega arith))
               (two-short (partOf t x m (l + 1) i) (partOf t y m (l + 1) j) (3104 * nodeCount x) (3104 * nodeCount y)
               (part-short t x m (l + 1) i (w .0) f h r) (part-short t y m (l + 1) j (w .1) f h r)),
         )
@@ -138,7 +128,7 @@ module _ (vars : ℕ) where
         omega (
           arith,
           two-short (own t nIf m l) (beside (partOf t x m (l + 1) i) (beside (partOf t y m (l + 1) j) (partOf t z m (l + 1) k))) 3104
-              (3104 * nodeCount x + (3104 * nodeCount y + 3104 * nodeCount z)) (own-short m f h r t nIf l (no-restr nIf (omega arith)))
+              (3104 * nodeCount x + (3104 * nodeCount y + 3104 * nodeCount z)) (own-short m f h r t nIf l (omega arith))
               (two-short (partOf t x m (l + 1) i) (beside (partOf t y m (l + 1) j) (partOf t z m (l + 1) k)) (3104 * nodeCount x)
               (3104 * nodeCount y + 3104 * nodeCount z)
               (part-short t x m (l + 1) i (w .0) f h r)
@@ -151,7 +141,7 @@ module _ (vars : ℕ) where
         omega (
           arith,
           two-short (own t (nRestr i cs) m l) (partOf t a m l b) 3104 (3104 * nodeCount a)
-              (own-short m f h r t (nRestr i cs) l (λ j ds e. restr-given cs 64 (w .1) j ds i e)) (part-short t a m l b (w .3) f h r),
+              (own-short m f h r t (nRestr i cs) l (w .1)) (part-short t a m l b (w .3) f h r),
         )
     part-short t (dep g a) m l b w f h r =
         omega (
@@ -249,75 +239,91 @@ written-long n x =
 
 -- ---- where it starts
 
-module _ (bs : List ℕ) (p n many : ℕ) (h : BodyAt bs p n many) where
+-- the pen at a place, with nothing written
+abbrev starting : ℕ → Pen
+starting to = record { to = to; things = 0; deep = 0 }
+
+module _ (bs : List ℕ) (p left n many : ℕ) (h : BodyAt bs p left n many) where
   pub is-body : IsBody bs p n many (h .tree)
   is-body = record { end = h .end; at = h .at; fitting = h .fitting; count = h .count }
 
-  -- what is stored leaves the length
-  pub stored-long : (b to : ℕ) (l d : List ℕ) (r : ℕ) → StoresBranch bs p n many b to l d r → length d ≡ length l
-  stored-long b to l d r stored = ap length (stored (h .tree) is-body .0) ∙ length-sets l to (bytes (written n (branchIn bs (h .tree) b)))
+  pub tree-standing : Standing (varsOf bs) bs p left
+  tree-standing = record { tree = h .tree; end = h .end; at = h .at; few = h .few; most = h .left-low }
 
-  pub room-there : (b : ℕ) → b < many → (l : List ℕ) (to : ℕ) → RoomFor bs p n many b to (min (2 ^ 40) (length l)) →
+module _ (bs : List ℕ) (p left n many b : ℕ) (h : BranchAt bs p left n many b) where
+  body-is : IsBody bs p n many (h .body .tree)
+  body-is = is-body bs p left n many (h .body)
+
+  -- what is stored leaves the length
+  pub stored-long : (to : ℕ) (l d : List ℕ) (r : ℕ) → StoresBranch bs p n many b to l d r → length d ≡ length l
+  stored-long to l d r stored = ap length (stored (h .body .tree) body-is .0) ∙ length-sets l to (bytes (written n (branchIn bs (h .body .tree) b)))
+
+  pub room-there : (l : List ℕ) (to : ℕ) → RoomFor bs p n many b to (min (2 ^ 40) (length l)) →
       (to + 24 ≤ 2 ^ 40) × (to + 24 ≤ length l)
-  room-there b lt l to room = (
-    omega (arith, room (h .tree) is-body, written-long n (branchIn bs (h .tree) b)),
-    omega (arith, room (h .tree) is-body, written-long n (branchIn bs (h .tree) b)),
+  room-there l to room = (
+    omega (arith, room (h .body .tree) body-is, written-long n (branchIn bs (h .body .tree) b)),
+    omega (arith, room (h .body .tree) body-is, written-long n (branchIn bs (h .body .tree) b)),
   )
 
-  module _ (m : Map) (is : mapOf m ≡ identity n) (neat : Neat m) (high : m .height ≡ n) (b : ℕ) (lt : b < many) where
-    pub start-route : (t : Bool) (to room : ℕ) → to + length (partOf t (h .tree) (identity n) 0 b .out) ≤ room → Route bs p 2048 m b many t 0 to room
+  module _ (m : Map) (is : mapOf m ≡ identity n) (neat : Neat m) (high : m .height ≡ n) where
+    start-route : (t : Bool) (to room : ℕ) → to + length (partOf t (h .body .tree) (identity n) 0 b .out) ≤ room →
+        Route bs p left m b many t 0 (starting to) room
     start-route t to room fits-in = record {
-      tree = h .tree;
-      end = h .end;
+      tree = h .body .tree;
+      end = h .body .end;
       bound = topReach;
-      at = h .at;
-      few = h .few;
-      fitting = rw high (h .fitting);
-      reaches = h .reaches;
+      at = h .body .at;
+      few = h .body .few;
+      left-low = h .body .left-low;
+      level-low = omega (arith, h .body .left-low);
+      fitting = rw high (h .body .fitting);
+      reaches = h .body .reaches;
       carried = record {
         neat = neat;
         within = subst (λ f. mapReach topReach (f .rows) ≤ topReach) (sym is) (identity-reach topReach n (omega arith));
         high = omega arith;
       };
-      branches = h .count;
-      low = h .low;
-      some = lt;
-      fits-room = subst (λ f. to + length (partOf t (h .tree) f 0 b .out) ≤ room) (sym is) fits-in;
+      branches = h .body .count;
+      low = h .body .low;
+      some = h .some;
+      things-low = omega arith;
+      fits-room = subst (λ f. to + length (partOf t (h .body .tree) f 0 b .out) ≤ room) (sym is) fits-in;
     }
 
-    short : (t : Bool) → length (partOf t (h .tree) (identity n) 0 b .out) ≤ 3104 * 2048
+    short : (t : Bool) → length (partOf t (h .body .tree) (identity n) 0 b .out) ≤ 3104 * 2048
     short t =
         omega (
           arith,
-          part-short (varsOf bs) t (h .tree) (identity n) 0 b (at-writable (varsOf bs) bs (h .tree) p (h .end) (h .at)) (h .narrow)
-              (omega (arith, h .narrow, rows-long-are bs p n many (h .tree) is-body b lt)) (idRows-wide n),
-          mul-le-mul-left 3104 (h .few),
+          part-short (varsOf bs) t (h .body .tree) (identity n) 0 b (at-writable (varsOf bs) bs (h .body .tree) p (h .body .end) (h .body .at)) (h .body .narrow)
+              (omega (arith, h .body .narrow, rows-long-are bs p n many (h .body .tree) body-is b (h .some))) (idRows-wide n),
+          mul-le-mul-left 3104 (h .body .few),
+          h .body .left-low,
         )
 
     -- measured, there is always room
-    pub measure-route : (t : Bool) → Route bs p 2048 m b many t 0 0 (2 ^ 40)
+    pub measure-route : (t : Bool) → Route bs p left m b many t 0 (starting 0) (2 ^ 40)
     measure-route t = start-route t 0 (2 ^ 40) (omega (arith, short t))
 
     -- ---- a branch measured
 
     module _ (none none′ none″ : List ℕ) (given term : Pen)
-        (first : Follows bs p m b many false 0 true (record { to = 0; things = 0; deep = 0 }) none none′ given)
-        (second : Follows bs p m b many true 0 true (record { to = 0; things = 0; deep = 0 }) none′ none″ term) where
-      given-pen : (e : Expr) → IsBody bs p n many e → given ≡ advance (record { to = 0; things = 0; deep = 0 }) (givenPart (branchIn bs e b .given))
+        (first : Follows bs p m b many false 0 true (starting 0) none none′ given)
+        (second : Follows bs p m b many true 0 true (starting 0) none′ none″ term) where
+      given-pen : (e : Expr) → IsBody bs p n many e → given ≡ advance (starting 0) (givenPart (branchIn bs e b .given))
       given-pen e i =
           first e (i .end) (i .at) (i .count) .pen-is
-          ∙ ap (advance (record { to = 0; things = 0; deep = 0 })) (ap (λ f. partOf false e f 0 b) is ∙ given-part bs p n many e i b lt)
+          ∙ ap (advance (starting 0)) (ap (λ f. partOf false e f 0 b) is ∙ given-part bs p n many e i b (h .some))
 
-      term-pen : (e : Expr) → IsBody bs p n many e → term ≡ advance (record { to = 0; things = 0; deep = 0 }) (treePart (branchIn bs e b .term) 0)
+      term-pen : (e : Expr) → IsBody bs p n many e → term ≡ advance (starting 0) (treePart (branchIn bs e b .term) 0)
       term-pen e i =
           second e (i .end) (i .at) (i .count) .pen-is
-          ∙ ap (advance (record { to = 0; things = 0; deep = 0 })) (ap (λ f. partOf true e f 0 b) is ∙ tree-part bs p n many e i b lt)
+          ∙ ap (advance (starting 0)) (ap (λ f. partOf true e f 0 b) is ∙ tree-part bs p n many e i b (h .some))
 
       pub measured-low : (given .to ≤ 3104 * 2048) × (term .to ≤ 3104 * 2048) × (term .things ≤ term .to)
       measured-low =
-          let e = h .tree in
-          let g = first e (h .end) (h .at) (h .count) .pen-is in
-          let t = second e (h .end) (h .at) (h .count) .pen-is in
+          let e = h .body .tree in
+          let g = first e (h .body .end) (h .body .at) (h .body .count) .pen-is in
+          let t = second e (h .body .end) (h .body .at) (h .body .count) .pen-is in
           let gs = ap (λ f. length (partOf false e f 0 b .out)) is in
           let ts = ap (λ f. length (partOf true e f 0 b .out)) is in
           let gto = ap (λ z. z .to) g in
@@ -347,35 +353,35 @@ module _ (bs : List ℕ) (p n many : ℕ) (h : BodyAt bs p n many) where
     -- ---- a branch stored
 
     module _ (l : List ℕ) (to : ℕ) (room : RoomFor bs p n many b to (min (2 ^ 40) (length l))) where
-      tree-room : to + 24 + length (partOf false (h .tree) (identity n) 0 b .out) + length (partOf true (h .tree) (identity n) 0 b .out)
+      tree-room : to + 24 + length (partOf false (h .body .tree) (identity n) 0 b .out) + length (partOf true (h .body .tree) (identity n) 0 b .out)
           ≤ min (2 ^ 40) (length l)
       tree-room =
-          let x = branchIn bs (h .tree) b in
+          let x = branchIn bs (h .body .tree) b in
           omega (
             arith,
-            room (h .tree) is-body,
+            room (h .body .tree) body-is,
             written-long n x,
-            ap (λ y. length (y .out)) (given-part bs p n many (h .tree) is-body b lt),
-            ap (λ y. length (y .out)) (tree-part bs p n many (h .tree) is-body b lt),
+            ap (λ y. length (y .out)) (given-part bs p n many (h .body .tree) body-is b (h .some)),
+            ap (λ y. length (y .out)) (tree-part bs p n many (h .body .tree) body-is b (h .some)),
           )
 
       module _ (a : List ℕ) (same : length a ≡ length l) where
-        pub given-route : Route bs p 2048 m b many false 0 (to + 24) (roomOf false a)
+        pub given-route : Route bs p left m b many false 0 (starting (to + 24)) (roomOf false a)
         given-route = start-route false (to + 24) (roomOf false a) (omega (arith, tree-room))
 
-        module _ (c : List ℕ) (given : Pen) (first : Follows bs p m b many false 0 false (record { to = to + 24; things = 0; deep = 0 }) a c given) where
-          given-wrote : Wrote false (record { to = to + 24; things = 0; deep = 0 }) a c given (partOf false (h .tree) (mapOf m) 0 b)
-          given-wrote = first (h .tree) (h .end) (h .at) (h .count)
+        module _ (c : List ℕ) (given : Pen) (first : Follows bs p m b many false 0 false (starting (to + 24)) a c given) where
+          given-wrote : Wrote false (starting (to + 24)) a c given (partOf false (h .body .tree) (mapOf m) 0 b)
+          given-wrote = first (h .body .tree) (h .body .end) (h .body .at) (h .body .count)
 
-          pub term-route : (d : List ℕ) → length d ≡ length c → Route bs p 2048 m b many true 0 (given .to) (roomOf false d)
+          pub term-route : (d : List ℕ) → length d ≡ length c → Route bs p left m b many true 0 (starting (given .to)) (roomOf false d)
           term-route d kept =
               let to-is = ap (λ z. z .to) (given-wrote .pen-is) in
-              let as-is = ap (λ f. length (partOf false (h .tree) f 0 b .out)) is in
-              let long = ap length (given-wrote .out-is) ∙ length-sets a (to + 24) (partOf false (h .tree) (mapOf m) 0 b .out) in
+              let as-is = ap (λ f. length (partOf false (h .body .tree) f 0 b .out)) is in
+              let long = ap length (given-wrote .out-is) ∙ length-sets a (to + 24) (partOf false (h .body .tree) (mapOf m) 0 b .out) in
               start-route true (given .to) (roomOf false d) (omega (arith, tree-room))
 
           pub branch-stored : (d u : List ℕ) (term : Pen) → a ≡ sets l to (nat 7 ++ nat n) → d ≡ sets c (to + 16) (nat (given .things)) →
-              Follows bs p m b many true 0 false (record { to = given .to; things = 0; deep = 0 }) d u term → StoresBranch bs p n many b to l u (term .to)
+              Follows bs p m b many true 0 false (starting (given .to)) d u term → StoresBranch bs p n many b to l u (term .to)
           unfolding bytes
           branch-stored d u term head third second e i =
               let x = branchIn bs e b in
@@ -384,8 +390,8 @@ module _ (bs : List ℕ) (p n many : ℕ) (h : BodyAt bs p n many) where
               let front = nat 7 ++ nat n ++ k in
               let g = first e (i .end) (i .at) (i .count) in
               let t = second e (i .end) (i .at) (i .count) in
-              let gp = ap (λ f. partOf false e f 0 b) is ∙ given-part bs p n many e i b lt in
-              let tp = ap (λ f. partOf true e f 0 b) is ∙ tree-part bs p n many e i b lt in
+              let gp = ap (λ f. partOf false e f 0 b) is ∙ given-part bs p n many e i b (h .some) in
+              let tp = ap (λ f. partOf true e f 0 b) is ∙ tree-part bs p n many e i b (h .some) in
               let limits : given .things ≡ length (x .given) =
               ap (λ z. z .things) (g .pen-is) ∙ ap (λ y. 0 + y .things) gp ∙ zero-add (length (x .given)) in
               let gto : given .to ≡ to + 24 + length cs = ap (λ z. z .to) (g .pen-is) ∙ ap (λ y. to + 24 + length (y .out)) gp in
@@ -459,11 +465,11 @@ module _ (bs : List ℕ) (p n many b : ℕ) where
       pub first-room : (room : ℕ) → RoomFrom bs p n many b to room → RoomFor bs p n many b to room
       first-room room h e i = omega (arith, h e i, long e i)
 
-      module _ (next : ℕ) (a : List ℕ) (stored : StoresBranch bs p n many b to l a next) (any : Expr) (body : IsBody bs p n many any) where
-        pub rest-room : RoomFrom bs p n many b to (min (2 ^ 40) (length l)) → RoomFrom bs p n many (b + 1) next (min (2 ^ 40) (length a))
-        rest-room h e i =
-            let same = ap length (stored e i .0) ∙ length-sets l to (bytes (written n (branchIn bs e b))) in
-            omega (arith, h e i, long e i, stored e i .1)
+      pub rest-room : (next : ℕ) (a : List ℕ) → StoresBranch bs p n many b to l a next → RoomFrom bs p n many b to (min (2 ^ 40) (length l)) →
+          RoomFrom bs p n many (b + 1) next (min (2 ^ 40) (length a))
+      rest-room next a stored h e i =
+          let same = ap length (stored e i .0) ∙ length-sets l to (bytes (written n (branchIn bs e b))) in
+          omega (arith, h e i, long e i, stored e i .1)
 
       pub store-more : (next r : ℕ) (a d : List ℕ) → StoresBranch bs p n many b to l a next → StoresFrom bs p n many (b + 1) next a d r →
           StoresFrom bs p n many b to l d r

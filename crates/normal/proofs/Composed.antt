@@ -7,7 +7,6 @@ use lib.ListN.{length}
 use lib.IntN.{natAbs}
 use lib.Seq.{sets}
 use Rattle.alpha.specs.Field.{field, nat}
-use Rattle.alpha.specs.Sheet as Sheet
 use Rattle.alpha.specs.Affine.{rowAfter, constraintAfter}
 use Rattle.alpha.specs.Read.{relationOf}
 use Rattle.alpha.specs.Reach.{limit, topReach, rowReach, mapReach}
@@ -23,7 +22,7 @@ use Rattle.affine.proofs.Several.{length-several}
 use Rattle.affine.proofs.Bounds.{after-fits}
 use Rattle.domain.specs.Constraints.{constraintFields, constraintsFields}
 use Rattle.normal.specs.Part.{mapBytes}
-use Rattle.normal.specs.Rows.{Composable, AllComposable}
+use Rattle.normal.specs.Rows.{limitBytes, Composable, AllComposable}
 use Rattle.normal.proofs.Laying.{sets-after, two-long, three-long, length-nat, constraint-long}
 
 -- ---- a map
@@ -81,10 +80,6 @@ module _ (bs : List ℕ) (p n : ℕ) (m : Map) (h : Composable bs p n m) (neat :
       sets-after l to 8 (nat k) (rowBytes (rowOf (m .width) r)) (length-nat k) first second ∙ ap (sets l to) (constraint-bytes k r is after)
 
 -- ---- so many of them
-
--- the bytes of k constraints of n coefficients from p on, after m
-abbrev pub limitBytes : Map → ℕ → ℕ → List ℕ → ℕ → List ℕ
-limitBytes m k n bs p = flat (map constraintBytes (map (constraintAfter (mapOf m)) (constraintsFields k n bs p)))
 
 module _ (bs : List ℕ) (p n : ℕ) (m : Map) where
   pub limit-long : length (constraintBytes (constraintAfter (mapOf m) (constraintFields n bs p))) ≡ 16 + 8 * m .width

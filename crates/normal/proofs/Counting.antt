@@ -7,55 +7,41 @@ use native.Mathlib.Omega.{arith}
 use mathlib.Core.Bool.{Bool, true, false}
 use mathlib.Core.List.{List}
 use mathlib.Core.Logic.{⊎-elim}
-use lib.IntN.{natAbs}
-use lib.Dec.{eqb}
-use borrow.Author.Tests.{lt-ltb, le-ltb, ne-eqb}
+use borrow.Author.Tests.{lt-ltb, le-ltb}
 use Rattle.alpha.specs.Pick.{ifb}
-use Rattle.alpha.specs.Field.{field}
-use Rattle.alpha.specs.Sheet.{Node, Expr, Exprs}
-use Rattle.alpha.specs.Sheet.{Expr.var, Expr.int, Expr.boo, Expr.un, Expr.bin, Expr.ite, Expr.kase, Expr.restr, Expr.dep, Exprs.none, Exprs.more}
-use Rattle.alpha.specs.Read.{got, node}
+use Rattle.alpha.specs.Sheet.{Expr, Expr.kase, Exprs, Exprs.none, Exprs.more}
 use Rattle.alpha.specs.Written.{branchCount, nodeCount, nodeCounts}
-use Rattle.laws.specs.At.{codeNumber, nodeLen, At, AllAt}
+use Rattle.laws.specs.At.{nodeOf, nodeRead, nodeEnd, At, AllAt}
 use Rattle.laws.specs.Children.{childrenOf, arity}
 use Rattle.laws.specs.Sheets.{varsOf}
 use Rattle.laws.proofs.Shapes.{allAt-none, MoreAt}
-use Rattle.laws.proofs.Children.{at-children}
 use Rattle.affine.proofs.Several.{lt-or-le}
+use Rattle.tree.specs.declared.Class.the-variants.{Leaf, Operator, Case, Restriction, Dependence}
+use Rattle.tree.specs.Classes.{classOf, classAt}
 use Rattle.tree.specs.Standing.{Standing, StandingAll}
-use Rattle.tree.proofs.Standings.{children-at, children-counted, one-more}
-use Rattle.domain.proofs.Walks.{tree-code}
+use Rattle.tree.proofs.Classes.{leaf-tree, operator-tree, leaf-at, operator-at, case-at, restriction-at, dependence-at}
+use Rattle.tree.proofs.Standings.{standing-children, first-standing, children-at, children-counted, one-more}
 use Rattle.normal.specs.declared.Chosen.{Chosen}
-use Rattle.normal.specs.Count.{countOf, sumOf, productOf, alone, joined, countsOf, capped, Picked, pick}
+use Rattle.normal.specs.Count.{countOf, sumOf, productOf, joined, countsOf, capped, Picked, pick}
 use Rattle.tree.specs.Ends.{EndsAt}
 use Rattle.normal.specs.Counted.{Counts, CountsAll, ChildrenAt, PicksOf, Picks, OperandAt, SplitsOf, Splits}
 use Rattle.normal.proofs.Numbered.{positive}
 
--- ---- by the children
+-- ---- by the class
 
-pub count-children : (e : Expr) → countOf e ≡ countsOf (eqb (codeNumber e) 6) (childrenOf e)
+leaf-count : (e : Expr) → classOf (nodeOf e) ≡ Leaf → countOf e ≡ 1
+unfolding countOf
+leaf-count = leaf-tree (λ e. countOf e ≡ 1) (λ v. refl) (λ c. refl) (λ b. refl)
+
+pub operator-count : (e : Expr) → classOf (nodeOf e) ≡ Operator → countOf e ≡ productOf (childrenOf e)
 unfolding countOf productOf
-count-children (var v) = refl
-count-children (int c) = refl
-count-children (boo b) = refl
-count-children (un o a) = sym (mul-one (countOf a))
-count-children (bin o a b) = ap (λ n. countOf a * n) (sym (mul-one (countOf b)))
-count-children (ite a b c) = ap (λ n. countOf a * (countOf b * n)) (sym (mul-one (countOf c)))
-count-children (kase es) = refl
-count-children (restr d cs a) = sym (mul-one (countOf a))
-count-children (dep f a) = sym (mul-one (countOf a))
+operator-count =
+    operator-tree (λ e. countOf e ≡ productOf (childrenOf e)) (λ o a. sym (mul-one (countOf a)))
+    (λ o a b. ap (λ n. countOf a * n) (sym (mul-one (countOf b)))) (λ a b c. ap (λ n. countOf a * (countOf b * n)) (sym (mul-one (countOf c))))
 
--- a leaf has none
-leaf-none : (e : Expr) → codeNumber e < 3 → childrenOf e ≡ none
-leaf-none (var v) h = refl
-leaf-none (int c) h = refl
-leaf-none (boo b) h = refl
-leaf-none (un o a) h = absurd (omega arith)
-leaf-none (bin o a b) h = absurd (omega arith)
-leaf-none (ite a b c) h = absurd (omega arith)
-leaf-none (kase es) h = absurd (omega arith)
-leaf-none (restr d cs a) h = absurd (omega arith)
-leaf-none (dep f a) h = absurd (omega arith)
+pub case-count : (e : Expr) (es : Exprs) → e ≡ kase es → countOf e ≡ sumOf es
+unfolding countOf
+case-count e es is = ap countOf is
 
 -- ---- up to 65
 
@@ -76,24 +62,16 @@ cap-joined : (t : Bool) (s x y : ℕ) → capped (joined t (capped (joined t s (
 cap-joined true s x y = omega arith
 cap-joined false s x y = ap (λ n. capped (n * y)) (cap-right s x) ∙ cap-left (s * x) y ∙ ap capped (mul-assoc s x y)
 
-pub alone-low : (t : Bool) (n : ℕ) → n ≡ alone t → n ≤ 65
-alone-low true n e = omega arith
-alone-low false n e = omega arith
-
-alone-joined : (t : Bool) (x : ℕ) → joined t (alone t) x ≡ x
-alone-joined true x = omega arith
-alone-joined false x = one-mul x
-
-joined-alone : (t : Bool) (x : ℕ) → joined t x (alone t) ≡ x
-joined-alone true x = omega arith
-joined-alone false x = mul-one x
-
 -- ---- the ways through the count
 
-counts-none : (t : Bool) → countsOf t none ≡ alone t
+joined-none : (t : Bool) (x : ℕ) → joined t x (countsOf t none) ≡ x
 unfolding countOf productOf
-counts-none true = refl
-counts-none false = refl
+joined-none true x = omega arith
+joined-none false x = mul-one x
+
+product-none : productOf none ≡ 1
+unfolding productOf
+product-none = refl
 
 counts-more : (t : Bool) (e : Expr) (es : Exprs) → countsOf t (more e es) ≡ joined t (countOf e) (countsOf t es)
 unfolding countOf productOf
@@ -101,30 +79,71 @@ counts-more true e es = refl
 counts-more false e es = refl
 
 module _ (bs : List ℕ) (p : ℕ) where
-  pub node-way : (k n code sofar r : ℕ) → k ≡ nodeLen bs p → ((nd : Node) (q : ℕ) → node (varsOf bs) bs p ≡ got nd q → n ≡ arity nd) →
-      code ≡ natAbs (field bs p) → sofar ≡ alone (eqb code 6) → CountsAll bs (p + k) n (eqb code 6) sofar r → Counts bs p r
-  node-way k n code sofar r long many is start h = (
-    h .0,
-    λ e q at.
-        let c = is ∙ tree-code bs p e q at in
-        h .1 (childrenOf e) q (children-at (varsOf bs) bs p k n long many e q at) (children-counted (varsOf bs) bs p k n long many e q at)
-        ∙ ap (λ x. capped (joined (eqb code 6) x (countsOf (eqb code 6) (childrenOf e)))) start
-        ∙ ap capped (alone-joined (eqb code 6) (countsOf (eqb code 6) (childrenOf e)))
-        ∙ ap (λ x. capped (countsOf (eqb x 6) (childrenOf e))) c
-        ∙ ap capped (sym (count-children e)),
-  )
+  pub leaf-way : classAt bs p ≡ Leaf → Counts bs p 1
+  leaf-way class-is = (omega arith, λ e q at. omega (arith, leaf-count e (leaf-at bs e p q at class-is .class-is)))
 
-  pub leaf-way : (code : ℕ) → code ≡ natAbs (field bs p) → code < 3 → Counts bs p 1
-  leaf-way code is low = (
-    omega arith,
-    λ e q at.
-        let c = is ∙ tree-code bs p e q at in
-        let no-case : codeNumber e ≡ 6 → ⊥ = λ i. omega arith in
-        let none-are = leaf-none e (omega arith) in
-        let one = count-children e ∙ ap (λ t. countsOf t (childrenOf e)) (ne-eqb (codeNumber e) 6 no-case) ∙ ap (countsOf false) none-are
-        ∙ counts-none false in
-        omega (arith, one),
-  )
+  -- the next place is k
+  module _ (k : ℕ) (next : k ≡ nodeEnd (varsOf bs) bs p) where
+    pub leaf-ends : classAt bs p ≡ Leaf → EndsAt (varsOf bs) bs p k
+    leaf-ends class-is e q at = next ∙ leaf-at bs e p q at class-is .end
+
+    -- so many children stand there
+    module _ (n r : ℕ) (many : n ≡ arity (nodeRead (varsOf bs) bs p)) where
+      pub operator-way : classAt bs p ≡ Operator → CountsAll bs k n false 1 r → Counts bs p r
+      operator-way class-is h = (
+        h .0,
+        λ e q at.
+            let all = h .1 (childrenOf e) q (children-at (varsOf bs) bs p k n next many e q at) (children-counted (varsOf bs) bs p k n next many e q at) in
+            all ∙ ap capped (one-mul (productOf (childrenOf e)) ∙ sym (operator-count e (operator-at bs e p q at class-is .class-is))),
+      )
+
+      pub case-way : classAt bs p ≡ Case → CountsAll bs k n true 0 r → Counts bs p r
+      case-way class-is h = (
+        h .0,
+        λ e q at.
+            let x = case-at bs e p q at class-is in
+            let count : branchCount (x .branches) ≡ n =
+            ap (λ f. branchCount (childrenOf f)) (sym (x .is)) ∙ children-counted (varsOf bs) bs p k n next many e q at in
+            omega (arith, h .1 (x .branches) q (rw next (x .below)) count, case-count e (x .branches) (x .is)),
+      )
+
+    -- or one child, with as many branches
+    pub record Below (e : Expr) (q : ℕ) : Type 0 where
+      pub child : Expr
+      pub at : At child (varsOf bs) bs k q
+      pub count : countOf e ≡ countOf child
+
+    abbrev pub OneBelow : Type 0
+    OneBelow = (e : Expr) (q : ℕ) → At e (varsOf bs) bs p q → Below e q
+
+    pub restriction-below : classAt bs p ≡ Restriction → OneBelow
+    unfolding countOf
+    restriction-below class-is e q at =
+        let x = restriction-at bs e p q at class-is in
+        record { child = x .child; at = rw next (x .below); count = ap countOf (x .is) }
+
+    pub dependence-below : classAt bs p ≡ Dependence → OneBelow
+    unfolding countOf
+    dependence-below class-is e q at =
+        let x = dependence-at bs e p q at class-is in
+        record { child = x .child; at = rw next (x .below); count = ap countOf (x .is) }
+
+    pub below-standing : (left : ℕ) → Standing (varsOf bs) bs p left → 1 ≡ arity (nodeRead (varsOf bs) bs p) → Standing (varsOf bs) bs k (left - 1)
+    below-standing left h one = first-standing (varsOf bs) bs k (left - 1) 1 (omega arith) (standing-children (varsOf bs) bs p left h k 1 next one)
+
+    module _ (below : OneBelow) where
+      pub below-way : (r : ℕ) → Counts bs k r → Counts bs p r
+      below-way r h = (
+        h .0,
+        λ e q at.
+            let x = below e q at in
+            h .1 (x .child) q (x .at) ∙ ap capped (sym (x .count)),
+      )
+
+      pub below-ends : (r : ℕ) → EndsAt (varsOf bs) bs k r → EndsAt (varsOf bs) bs p r
+      below-ends r h e q at =
+          let x = below e q at in
+          h (x .child) q (x .at)
 
   pub none-way : (many : ℕ) (t : Bool) (sofar : ℕ) → many < 1 → sofar ≤ 65 → CountsAll bs p many t sofar sofar
   none-way many t sofar l low = (
@@ -132,7 +151,7 @@ module _ (bs : List ℕ) (p : ℕ) where
     λ es q h m.
         let x = allAt-none (varsOf bs) bs es p q h (omega arith) in
         let cap : sofar ≡ capped sofar = omega arith in
-        cap ∙ ap capped (sym (joined-alone t sofar) ∙ ap (joined t sofar) (sym (counts-none t) ∙ ap (countsOf t) (sym (x .is)))),
+        cap ∙ ap capped (sym (joined-none t sofar) ∙ ap (λ l. joined t sofar (countsOf t l)) (sym (x .is))),
   )
 
   pub more-way : (many : ℕ) (t : Bool) (sofar first next both r : ℕ) → 1 ≤ many → Counts bs p first →
@@ -149,25 +168,6 @@ module _ (bs : List ℕ) (p : ℕ) where
         ∙ ap (λ n. capped (joined t sofar n)) (sym (counts-more t (x .first) (x .rest)))
         ∙ ap (λ l. capped (joined t sofar (countsOf t l))) (sym (x .is)),
   )
-
-  -- one tree is one operand
-  pub one-way : (r : ℕ) → CountsAll bs p 1 false 1 r → Counts bs p r
-  unfolding At
-  one-way r h = (
-    h .0,
-    λ e q at.
-        h .1 (more e none) q (record { middle = q; before = at; after = refl }) refl
-        ∙ ap capped (alone-joined false (countsOf false (more e none)))
-        ∙ ap capped (counts-more false e none ∙ ap (joined false (countOf e)) (counts-none false) ∙ joined-alone false (countOf e)),
-  )
-
-  -- ---- where they end
-
-  pub leaf-ends : (code k : ℕ) → code ≡ natAbs (field bs p) → code < 3 → k ≡ nodeLen bs p → EndsAt (varsOf bs) bs p (p + k)
-  leaf-ends code k is low long e q at =
-      let c = is ∙ tree-code bs p e q at in
-      let few = ap branchCount (leaf-none e (omega arith)) in
-      omega (arith, allAt-none (varsOf bs) bs (childrenOf e) (p + nodeLen bs p) q (at-children (varsOf bs) bs e p q at) few .end)
 
 -- ---- the ways through the choice
 
@@ -197,7 +197,7 @@ module _ (bs : List ℕ) (p left many b of : ℕ) (h : ChildrenAt bs p left many
       go (more f fs) s e = omega arith
 
   pub children-standing : StandingAll (varsOf bs) bs p left many
-  children-standing = record { trees = h .trees; end = h .end; at = h .at; few = h .few; many = h .count }
+  children-standing = record { trees = h .trees; end = h .end; at = h .at; few = h .few; most = h .left-low; many = h .count }
 
   -- a branch of the first child
   picks-first : (es : Exprs) (q k : ℕ) (x : MoreAt es (varsOf bs) bs p q (many - 1)) → countOf (x .first) ≡ k → b < k →
@@ -249,6 +249,7 @@ module _ (bs : List ℕ) (p left many b of : ℕ) (h : ChildrenAt bs p left many
             end = h .end;
             at = rw (ends (split .first) (split .middle) (split .before)) (split .after);
             few = omega (arith, nodes, h .few);
+            left-low = h .left-low;
             count = split .many;
             sum = omega (arith, sum, h .sum, exact (split .first) (split .middle) (split .before));
             low = omega (arith, h .low);
@@ -294,7 +295,7 @@ factors x y z e some =
 pub only-split : (e : Expr) (others : Exprs) (q b of : ℕ) → others ≡ none → countOf e * productOf others ≡ of →
     SplitsOf e others q b (record { b = b; of = of; next = q; rest = 0; among = 1 })
 only-split e others q b of none-are product =
-    let one = ap productOf none-are ∙ counts-none false in
+    let one = ap productOf none-are ∙ product-none in
     record {
       ends = refl;
       first-count = sym (mul-one (countOf e)) ∙ ap (λ n. countOf e * n) (sym one) ∙ product;
@@ -305,7 +306,7 @@ only-split e others q b of none-are product =
 
 module _ (bs : List ℕ) (p left b of : ℕ) (h : OperandAt bs p left b of) where
   pub operand-standing : Standing (varsOf bs) bs p left
-  operand-standing = record { tree = h .tree; end = h .end; at = h .at; few = h .few }
+  operand-standing = record { tree = h .tree; end = h .end; at = h .at; few = h .few; most = h .left-low }
 
   some : 0 < of
   some = omega (arith, h .some)

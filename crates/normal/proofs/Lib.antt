@@ -5,7 +5,6 @@ pub mod Numbered
 pub mod Branched
 pub mod Laying
 pub mod Composed
-pub mod Packing
 pub mod Spots
 pub mod Parts
 pub mod Routes

@@ -9,25 +9,26 @@ use mathlib.Core.List.{List, [], _++_, append-nil}
 use lib.ListN.{length, length-append}
 use lib.Seq.{sets, length-sets}
 use lib.Dec.{ltb}
-use borrow.Author.Tests.{lt-ltb, le-ltb, ne-eqb}
+use borrow.Author.Tests.{lt-ltb, le-ltb}
 use Rattle.alpha.specs.Pick.{ifb}
-use Rattle.alpha.specs.Sheet.{Head, Map, Node, Expr, Exprs}
-use Rattle.alpha.specs.Sheet.{Node.nVar, Node.nInt, Node.nBool, Node.nUnary, Node.nBinary, Node.nIf, Node.nCase, Node.nRestr, Node.nDep}
+use Rattle.alpha.specs.Sheet.{Head, Map, Expr, Exprs, Node.nUnary, Node.nBinary, Node.nIf}
 use Rattle.alpha.specs.Sheet.{Expr.var, Expr.int, Expr.boo, Expr.un, Expr.bin, Expr.ite, Expr.kase, Expr.restr, Expr.dep, Exprs.none, Exprs.more}
 use Rattle.alpha.specs.Affine.{mapAfter}
 use Rattle.alpha.specs.Shape.{fits, allFit}
 use Rattle.alpha.specs.Reach.{reach, reachAll}
 use Rattle.alpha.specs.Written.{nodeCount, nodeCounts}
-use Rattle.laws.specs.At.{nodeOf, codeOf, codeNumber}
+use Rattle.laws.specs.At.{nodeOf}
 use Rattle.laws.specs.Children.{childrenOf}
 use Rattle.laws.proofs.Tests.{&&-left, &&-right}
 use Rattle.laws.proofs.Written.{sets-append}
 use Rattle.affine.proofs.Several.{lt-or-le}
+use Rattle.tree.specs.declared.Class.the-variants.{Leaf, Operator}
+use Rattle.tree.specs.Classes.{classOf}
+use Rattle.tree.proofs.Classes.{leaf-tree, operator-tree}
 use Rattle.normal.specs.declared.Pen.{Pen}
-use Rattle.normal.specs.Count.{countOf, sumOf, productOf, countsOf, Picked, pick}
-use Rattle.normal.specs.Part.{Part, nothing, beside, own, levelBelow, partOf, chosenOf, partsOf}
+use Rattle.normal.specs.Count.{countOf, sumOf, productOf, Picked, pick}
+use Rattle.normal.specs.Part.{Part, nothing, beside, own, partOf, chosenOf, partsOf}
 use Rattle.normal.specs.Followed.{advance, laid, roomOf, Wrote}
-use Rattle.normal.proofs.Counting.{count-children}
 use Rattle.normal.proofs.Branched.{part-same}
 use Rattle.normal.proofs.Spots.{own-things}
 
@@ -58,22 +59,19 @@ three-parts t x y z m l b =
     ap (beside (partOf t x m l (b / n))) (two-parts t y z m l (b % n))
     ∙ ap (λ k. beside (partOf t x m l (b / (countOf y * k))) (partsOf t (more y (more z none)) m l (b % (countOf y * k)))) (sym (mul-one (countOf z)))
 
--- a node that is no case and no dependence: its own part, and then its children's
-pub part-children : (t : Bool) (e : Expr) (m : Map) (l b : ℕ) → (codeNumber e ≡ 6 → ⊥) → (codeNumber e ≡ 8 → ⊥) →
-    partOf t e m l b ≡ beside (own t (nodeOf e) m l) (partsOf t (childrenOf e) m (levelBelow (nodeOf e) l) b)
-unfolding partOf partsOf
-part-children t (var v) m l b h g = beside-nothing (own t (nodeOf (var v)) m l)
-part-children t (int c) m l b h g = beside-nothing (own t (nodeOf (int c)) m l)
-part-children t (boo c) m l b h g = beside-nothing (own t (nodeOf (boo c)) m l)
-part-children t (un o a) m l b h g = ap (beside (own t (nodeOf (un o a)) m l)) (one-part t a m (l + 1) b)
-part-children t (bin o x y) m l b h g = ap (beside (own t (nodeOf (bin o x y)) m l)) (two-parts t x y m (l + 1) b)
-part-children t (ite x y z) m l b h g = ap (beside (own t (nodeOf (ite x y z)) m l)) (three-parts t x y z m (l + 1) b)
-part-children t (kase es) m l b h g = absurd (h refl)
-part-children t (restr d cs a) m l b h g = ap (beside (own t (nodeOf (restr d cs a)) m l)) (one-part t a m l b)
-part-children t (dep f a) m l b h g = absurd (g refl)
+-- a leaf: its own part; an operator: its own part, and then its operands'
+pub leaf-part : (t : Bool) (m : Map) (l b : ℕ) (e : Expr) → classOf (nodeOf e) ≡ Leaf → partOf t e m l b ≡ own t (nodeOf e) m l
+unfolding partOf
+leaf-part t m l b = leaf-tree (λ e. partOf t e m l b ≡ own t (nodeOf e) m l) (λ v. refl) (λ c. refl) (λ c. refl)
 
-pub count-operands : (e : Expr) → (codeNumber e ≡ 6 → ⊥) → countOf e ≡ productOf (childrenOf e)
-count-operands e h = count-children e ∙ ap (λ t. countsOf t (childrenOf e)) (ne-eqb (codeNumber e) 6 h)
+pub operator-part : (t : Bool) (m : Map) (l b : ℕ) (e : Expr) → classOf (nodeOf e) ≡ Operator →
+    partOf t e m l b ≡ beside (own t (nodeOf e) m l) (partsOf t (childrenOf e) m (l + 1) b)
+unfolding partOf
+operator-part t m l b =
+    operator-tree (λ e. partOf t e m l b ≡ beside (own t (nodeOf e) m l) (partsOf t (childrenOf e) m (l + 1) b))
+    (λ o a. ap (beside (own t (nUnary o) m l)) (one-part t a m (l + 1) b))
+    (λ o x y. ap (beside (own t (nBinary o) m l)) (two-parts t x y m (l + 1) b))
+    (λ x y z. ap (beside (own t nIf m l)) (three-parts t x y z m (l + 1) b))
 
 -- ---- the child that a case picks
 
@@ -219,38 +217,3 @@ things-low dry pen out {y = y} p h low few =
     let to-is = ap (λ z. z .to) (h .pen-is) in
     let things-are = ap (λ z. z .things) (h .pen-is) in
     omega (arith)
-
--- ---- the level below a node
-
-pub level-leaf : (nd : Node) (l : ℕ) → codeOf nd < 3 → l ≡ levelBelow nd l
-level-leaf (nVar v) l h = refl
-level-leaf (nInt c) l h = refl
-level-leaf (nBool b) l h = refl
-level-leaf (nUnary o) l h = absurd (omega arith)
-level-leaf (nBinary o) l h = absurd (omega arith)
-level-leaf nIf l h = absurd (omega arith)
-level-leaf (nCase n) l h = refl
-level-leaf (nRestr d cs) l h = refl
-level-leaf (nDep f) l h = refl
-
-pub level-other : (nd : Node) (l : ℕ) → 5 < codeOf nd → l ≡ levelBelow nd l
-level-other (nVar v) l h = refl
-level-other (nInt c) l h = refl
-level-other (nBool b) l h = refl
-level-other (nUnary o) l h = absurd (omega arith)
-level-other (nBinary o) l h = absurd (omega arith)
-level-other nIf l h = absurd (omega arith)
-level-other (nCase n) l h = refl
-level-other (nRestr d cs) l h = refl
-level-other (nDep f) l h = refl
-
-pub level-operator : (nd : Node) (l : ℕ) → 3 ≤ codeOf nd → codeOf nd ≤ 5 → l + 1 ≡ levelBelow nd l
-level-operator (nVar v) l h u = absurd (omega arith)
-level-operator (nInt c) l h u = absurd (omega arith)
-level-operator (nBool b) l h u = absurd (omega arith)
-level-operator (nUnary o) l h u = refl
-level-operator (nBinary o) l h u = refl
-level-operator nIf l h u = refl
-level-operator (nCase n) l h u = absurd (omega arith)
-level-operator (nRestr d cs) l h u = absurd (omega arith)
-level-operator (nDep f) l h u = absurd (omega arith)

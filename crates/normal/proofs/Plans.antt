@@ -136,6 +136,7 @@ module _ (bs tab : List ℕ) (f : Formed bs tab) where
         end = variable (sheetOf bs) v .end;
         at = rw start-is (stands .at);
         few = stands .few;
+        most = omega arith;
       }
 
       pub branches-are : branchesIn bs (variable (sheetOf bs) v .body) ≡ branchesOf (sheetOf bs) (variable (sheetOf bs) v)
@@ -147,12 +148,13 @@ module _ (bs tab : List ℕ) (f : Formed bs tab) where
             counted .1 (variable (sheetOf bs) v .body) (variable (sheetOf bs) v .end) (rw start-is (stands .at))
             ∙ ap capped (count-is (dimension (headsOf bs)) (variable (sheetOf bs) v .body) ∙ ap length branches-are)
 
-        pub body-at : many ≤ 64 → n ≤ 4 → BodyAt bs at n many
+        pub body-at : many ≤ 64 → n ≤ 4 → BodyAt bs at 2048 n many
         body-at low few = record {
           tree = variable (sheetOf bs) v .body;
           end = variable (sheetOf bs) v .end;
           at = rw start-is (stands .at);
           few = stands .few;
+          left-low = omega arith;
           fitting = rw dim-is (stands .fitting);
           reaches = f .body-reach v lt body;
           narrow = few;

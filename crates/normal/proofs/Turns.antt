@@ -6,26 +6,27 @@ use native.Mathlib.Omega.{arith}
 use mathlib.Core.Bool.{true, _&&_}
 use mathlib.Core.List.{List, [], _∷_, _++_, append-assoc}
 use lib.ListN.{length, length-append}
-use lib.IntN.{natAbs}
 use lib.Seq.{sets, length-sets}
-use Rattle.alpha.specs.Field.{field}
-use Rattle.alpha.specs.Sheet.{Node, Node.nCase, Expr, Expr.kase, Expr.restr, Exprs, Exprs.none, Exprs.more}
-use Rattle.alpha.specs.Read.{got, node, dimension}
+use Rattle.alpha.specs.Sheet.{Node.nCase, Expr, Expr.kase, Expr.restr, Exprs, Exprs.none, Exprs.more}
+use Rattle.alpha.specs.Read.{got, dimension}
 use Rattle.alpha.specs.Shape.{fits, allFit}
 use Rattle.alpha.specs.Reach.{topReach, reach, reachAll}
 use Rattle.alpha.specs.Written.{bytes, allBytes, branchCount, nodeCount, nodeCounts}
 use Rattle.alpha.specs.Normal.{Branch, norm, norms, asExprs}
-use Rattle.laws.specs.At.{nodeOf, nodeLen, At, AllAt}
+use Rattle.laws.specs.At.{nodeOf, nodeRead, nodeEnd, At, AllAt}
 use Rattle.laws.specs.Children.{childrenOf, arity}
 use Rattle.laws.specs.Sheets.{headsOf, varsOf}
 use Rattle.laws.proofs.Tests.{&&-left, &&-right}
 use Rattle.laws.proofs.Trees.{at-unique}
-use Rattle.laws.proofs.Shapes.{at-got, at-kase, MoreAt, allAt-none}
-use Rattle.domain.proofs.Walks.{code-field}
+use Rattle.laws.proofs.Shapes.{at-got, MoreAt, allAt-none}
+use Rattle.tree.specs.declared.Class.the-variants.{Case}
+use Rattle.tree.specs.Classes.{classAt}
+use Rattle.tree.proofs.Classes.{case-at}
 use Rattle.tree.proofs.Standings.{children-at, children-counted, one-more}
 use Rattle.normal.specs.declared.Taken.{Taken}
 use Rattle.normal.specs.Count.{countOf, sumOf}
 use Rattle.tree.specs.Ends.{EndsAt}
+use Rattle.tree.specs.Standing.{StandingAll}
 use Rattle.normal.specs.Counted.{Counts}
 use Rattle.normal.specs.Body.{takenBy, both, total, branchesIn, allBranchesIn, BodyAt, IsBody, BodiesAt, AreBodies}
 use Rattle.normal.specs.Body.{TakesFrom, TakesAll, RoomFrom, RoomAll, StoresFrom, StoresAll}
@@ -48,29 +49,29 @@ bytes-append n (x ∷ xs) ys =
 
 -- ---- a case, of k bytes and so many children
 
-module _ (bs : List ℕ) (p n of k many : ℕ) (six : natAbs (field bs p) ≡ 6) (long : k ≡ nodeLen bs p)
-    (arity-is : (nd : Node) (q : ℕ) → node (varsOf bs) bs p ≡ got nd q → many ≡ arity nd) where
+module _ (bs : List ℕ) (p n of k many : ℕ) (class-is : classAt bs p ≡ Case) (next : k ≡ nodeEnd (varsOf bs) bs p)
+    (arity-is : many ≡ arity (nodeRead (varsOf bs) bs p)) where
   opened : (e : Expr) → IsBody bs p n of e → Exprs
-  opened e i = at-kase (varsOf bs) bs e p (i .end) (i .at) (code-field bs p e (i .end) 6 (i .at) six) .branches
+  opened e i = case-at bs e p (i .end) (i .at) class-is .branches
 
   opened-is : (e : Expr) (i : IsBody bs p n of e) → e ≡ kase (opened e i)
   unfolding opened
-  opened-is e i = at-kase (varsOf bs) bs e p (i .end) (i .at) (code-field bs p e (i .end) 6 (i .at) six) .is
+  opened-is e i = case-at bs e p (i .end) (i .at) class-is .is
 
   opened-some : (e : Expr) (i : IsBody bs p n of e) → 1 ≤ branchCount (opened e i)
   unfolding opened
-  opened-some e i = at-kase (varsOf bs) bs e p (i .end) (i .at) (code-field bs p e (i .end) 6 (i .at) six) .many .low
+  opened-some e i = case-at bs e p (i .end) (i .at) class-is .many .low
 
   opened-count : (e : Expr) (i : IsBody bs p n of e) → branchCount (opened e i) ≡ many
   opened-count e i =
-      ap (λ f. branchCount (childrenOf f)) (sym (opened-is e i)) ∙ children-counted (varsOf bs) bs p k many long arity-is e (i .end) (i .at)
+      ap (λ f. branchCount (childrenOf f)) (sym (opened-is e i)) ∙ children-counted (varsOf bs) bs p k many next arity-is e (i .end) (i .at)
 
-  children-are : (e : Expr) (i : IsBody bs p n of e) → AreBodies bs (p + k) n many of (opened e i)
+  children-are : (e : Expr) (i : IsBody bs p n of e) → AreBodies bs k n many of (opened e i)
   unfolding fits countOf
   children-are e i = record {
     end = i .end;
-    at = subst (λ f. AllAt (childrenOf f) (varsOf bs) bs (p + k) (i .end)) (opened-is e i)
-        (children-at (varsOf bs) bs p k many long arity-is e (i .end) (i .at));
+    at = subst (λ f. AllAt (childrenOf f) (varsOf bs) bs k (i .end)) (opened-is e i)
+        (children-at (varsOf bs) bs p k many next arity-is e (i .end) (i .at));
     fitting = subst (λ f. fits f (headsOf bs) n ≡ true) (opened-is e i) (i .fitting);
     count = opened-count e i;
     sum = ap countOf (sym (opened-is e i)) ∙ i .count;
@@ -80,57 +81,61 @@ module _ (bs : List ℕ) (p n of k many : ℕ) (six : natAbs (field bs p) ≡ 6)
   unfolding norm
   branches-are e i = ap (λ f. norm f (dimension (headsOf bs))) (opened-is e i)
 
-  pub case-takes : (sofar r : Taken) → TakesAll bs (p + k) n many of sofar r → TakesFrom bs p n of 0 sofar r
+  pub case-takes : (sofar r : Taken) → TakesAll bs k n many of sofar r → TakesFrom bs p n of 0 sofar r
   case-takes sofar r took = record {
     few = (omega (arith, took .few), omega (arith, took .few));
     is = λ e i. took .is (opened e i) (children-are e i) ∙ ap (λ l. both sofar (total n l)) (sym (branches-are e i));
   }
 
-  pub case-stores : (to : ℕ) (l d : List ℕ) (r : ℕ) → StoresAll bs (p + k) n many of to l d r → StoresFrom bs p n of 0 to l d r
+  pub case-stores : (to : ℕ) (l d : List ℕ) (r : ℕ) → StoresAll bs k n many of to l d r → StoresFrom bs p n of 0 to l d r
   case-stores to l d r stored e i =
       let here = stored (opened e i) (children-are e i) in
       let same = sym (branches-are e i) in
       (here .0 ∙ ap (λ x. sets l to (allBytes (asExprs n x))) same, here .1 ∙ ap (λ x. to + length (allBytes (asExprs n x))) same)
 
-  module _ (h : BodyAt bs p n of) where
-    pub case-some : 1 ≤ many
+  module _ (left : ℕ) (h : BodyAt bs p left n of) where
+    case-some : 1 ≤ many
     case-some =
-        let tree = is-body bs p n of h in
+        let tree = is-body bs p left n of h in
         omega (arith, opened-some (h .tree) tree, opened-count (h .tree) tree)
 
-    pub case-bodies : BodiesAt bs (p + k) n many of
+    pub case-bodies : BodiesAt bs k (left - 1) n many of
     unfolding nodeCount reach
     case-bodies =
-        let is = opened-is (h .tree) (is-body bs p n of h) in
-        let nodes : nodeCount (h .tree) ≡ suc (nodeCounts (opened (h .tree) (is-body bs p n of h))) = ap nodeCount is in
+        let is = opened-is (h .tree) (is-body bs p left n of h) in
+        let nodes : nodeCount (h .tree) ≡ suc (nodeCounts (opened (h .tree) (is-body bs p left n of h))) = ap nodeCount is in
         record {
-          trees = opened (h .tree) (is-body bs p n of h);
-          are = children-are (h .tree) (is-body bs p n of h);
+          trees = opened (h .tree) (is-body bs p left n of h);
+          are = children-are (h .tree) (is-body bs p left n of h);
+          some = case-some;
           few = omega (arith, h .few, nodes);
+          left-low = omega (arith, h .left-low);
           reaches = subst (λ f. reach f topReach ≡ true) is (h .reaches);
           narrow = h .narrow;
           low = h .low;
         }
 
     -- a case of any such children stands there
-    kase-there : (es : Exprs) → AreBodies bs (p + k) n many of es → IsBody bs p n of (kase es)
+    kase-there : (es : Exprs) → AreBodies bs k n many of es → IsBody bs p n of (kase es)
     unfolding At fits countOf
     kase-there es i =
-        let tree = is-body bs p n of h in
+        let tree = is-body bs p left n of h in
         let read = at-got (varsOf bs) bs (h .tree) p (h .end) (h .at) in
         let counts = opened-count (h .tree) tree ∙ sym (i .count) in
         record {
           end = i .end;
           at = record {
-            next = p + nodeLen bs p;
-            here = read ∙ ap (λ f. got (nodeOf f) (p + nodeLen bs p)) (opened-is (h .tree) tree) ∙ ap (λ c. got (nCase c) (p + nodeLen bs p)) counts;
-            below = subst (λ j. AllAt es (varsOf bs) bs (p + j) (i .end)) long (i .at);
+            next = nodeEnd (varsOf bs) bs p;
+            here =
+                read ∙ ap (λ f. got (nodeOf f) (nodeEnd (varsOf bs) bs p)) (opened-is (h .tree) tree)
+                ∙ ap (λ c. got (nCase c) (nodeEnd (varsOf bs) bs p)) counts;
+            below = rw (← next) (i .at);
           };
           fitting = i .fitting;
           count = i .sum;
         }
 
-    pub case-room : (to room : ℕ) → RoomFrom bs p n of 0 to room → RoomAll bs (p + k) n many of to room
+    pub case-room : (to room : ℕ) → RoomFrom bs p n of 0 to room → RoomAll bs k n many of to room
     unfolding norm
     case-room to room there es i = there (kase es) (kase-there es i)
 
@@ -155,9 +160,12 @@ module _ (bs : List ℕ) (p n many of : ℕ) (few : many < 1) where
 
 -- ---- trees one after another
 
-module _ (bs : List ℕ) (p n many of : ℕ) (some : 1 ≤ many) (h : BodiesAt bs p n many of) where
+module _ (bs : List ℕ) (p left n many of : ℕ) (h : BodiesAt bs p left n many of) where
+  pub trees-standing : StandingAll (varsOf bs) bs p left many
+  trees-standing = record { trees = h .trees; end = h .are .end; at = h .are .at; few = h .few; most = h .left-low; many = h .are .count }
+
   split : MoreAt (h .trees) (varsOf bs) bs p (h .are .end) (many - 1)
-  split = one-more (varsOf bs) bs (h .trees) p (h .are .end) many some (h .are .at) (h .are .count)
+  split = one-more (varsOf bs) bs (h .trees) p (h .are .end) many (h .some) (h .are .at) (h .are .count)
 
   sums : countOf (split .first) + sumOf (split .rest) ≡ of
   sums = sym (sum-more (h .trees) (split .first) (split .rest) (split .is)) ∙ h .are .sum
@@ -183,7 +191,7 @@ module _ (bs : List ℕ) (p n many of : ℕ) (some : 1 ≤ many) (h : BodiesAt b
     in-turns : (es : Exprs) → AreBodies bs p n many of es → InTurn es
     unfolding allFit norm
     in-turns es i =
-        let x = one-more (varsOf bs) bs es p (i .end) many some (i .at) (i .count) in
+        let x = one-more (varsOf bs) bs es p (i .end) many (h .some) (i .at) (i .count) in
         let fit = subst (λ f. allFit f (headsOf bs) n ≡ true) (x .is) (i .fitting) in
         let count = exact (x .first) (x .middle) (x .before) in
         record {
@@ -228,12 +236,13 @@ module _ (bs : List ℕ) (p n many of : ℕ) (some : 1 ≤ many) (h : BodiesAt b
     unfolding reachAll
     all-reach = subst (λ f. reachAll f topReach ≡ true) (whole .is) (h .reaches)
 
-    pub first-body : BodyAt bs p n k
+    pub first-body : BodyAt bs p left n k
     first-body = record {
       tree = whole .first;
       end = whole .is-first .end;
       at = whole .is-first .at;
       few = omega (arith, h .few, nodes);
+      left-low = h .left-low;
       fitting = whole .is-first .fitting;
       reaches = &&-left (reach (whole .first) topReach) (reachAll (whole .others) topReach) all-reach;
       narrow = h .narrow;
@@ -241,11 +250,13 @@ module _ (bs : List ℕ) (p n many of : ℕ) (some : 1 ≤ many) (h : BodiesAt b
       low = omega (arith, first-low, h .low);
     }
 
-    pub rest-bodies : BodiesAt bs next n (many - 1) (of - k)
-    rest-bodies = record {
+    pub rest-bodies : 1 < many → BodiesAt bs next left n (many - 1) (of - k)
+    rest-bodies others = record {
       trees = whole .others;
       are = whole .are-others;
+      some = omega arith;
       few = omega (arith, h .few, nodes);
+      left-low = h .left-low;
       reaches = &&-right (reach (whole .first) topReach) (reachAll (whole .others) topReach) all-reach;
       narrow = h .narrow;
       low = omega (arith, h .low);
@@ -317,7 +328,7 @@ module _ (bs : List ℕ) (p n many of : ℕ) (some : 1 ≤ many) (h : BodiesAt b
     last-ends : EndsAt (varsOf bs) bs p (split .middle)
     last-ends e q at = at-unique (varsOf bs) bs p (split .first) e (split .middle) q (split .before) at .end-is
 
-    pub last-body : BodyAt bs p n of
+    pub last-body : BodyAt bs p left n of
     last-body = first-body of (split .middle) last-exact last-ends
 
     pub last-takes : (sofar r : Taken) → TakesFrom bs p n of 0 sofar r → TakesAll bs p n many of sofar r

@@ -1,7 +1,7 @@
 -- What the branches of a body take in the normal form: nodes, bytes, constraints and depth, of one branch and of all of them; and the body,
 -- or the children of a case, that stand at a place. Assumes nothing.
 use mathlib.Core.Path.{_≡_}
-use Prim.Native.Nat.{ℕ, _+_, _*_, _-_, _^_, _≤_, max}
+use Prim.Native.Nat.{ℕ, _+_, _*_, _-_, _^_, _≤_, _<_, max}
 use mathlib.Core.Bool.{true}
 use mathlib.Core.List.{List, [], _∷_}
 use lib.ListN.{length, getD, drop}
@@ -47,17 +47,28 @@ branchesIn bs e = norm e (dimension (headsOf bs))
 abbrev pub branchIn : List ℕ → Expr → ℕ → Branch
 branchIn bs e b = getD (branchesIn bs e) b (record { given = []; term = kase none })
 
--- a body of dimension n stands at p, and has so many branches
-pub record BodyAt (bs : List ℕ) (p n many : ℕ) : Type 0 where
+-- a body of dimension n and at most `left` nodes stands at p, and has so many branches
+pub record BodyAt (bs : List ℕ) (p left n many : ℕ) : Type 0 where
   pub tree : Expr
   pub end : ℕ
   pub at : At tree (varsOf bs) bs p end
-  pub few : nodeCount tree ≤ 2048
+  pub few : nodeCount tree ≤ left
+  pub left-low : left ≤ 2048
   pub fitting : fits tree (headsOf bs) n ≡ true
   pub reaches : reach tree topReach ≡ true
   pub narrow : n ≤ 4
   pub count : countOf tree ≡ many
   pub low : many ≤ 64
+
+-- b is the number of a branch of it
+pub record BranchAt (bs : List ℕ) (p left n many b : ℕ) : Type 0 where
+  pub body : BodyAt bs p left n many
+  pub some : b < many
+
+-- the branches of it from number b on, or none where b is how many there are
+pub record BranchesAt (bs : List ℕ) (p left n many b : ℕ) : Type 0 where
+  pub body : BodyAt bs p left n many
+  pub start : b ≤ many
 
 -- any tree at p is such a body
 pub record IsBody (bs : List ℕ) (p n many : ℕ) (e : Expr) : Type 0 where
@@ -122,11 +133,13 @@ pub record AreBodies (bs : List ℕ) (p n many of : ℕ) (es : Exprs) : Type 0 w
   pub count : branchCount es ≡ many
   pub sum : sumOf es ≡ of
 
--- such trees stand from p on
-pub record BodiesAt (bs : List ℕ) (p n many of : ℕ) : Type 0 where
+-- such trees stand from p on, at least one, of at most `left` nodes in all
+pub record BodiesAt (bs : List ℕ) (p left n many of : ℕ) : Type 0 where
   pub trees : Exprs
   pub are : AreBodies bs p n many of trees
-  pub few : nodeCounts trees ≤ 2048
+  pub some : 1 ≤ many
+  pub few : nodeCounts trees ≤ left
+  pub left-low : left ≤ 2048
   pub reaches : reachAll trees topReach ≡ true
   pub narrow : n ≤ 4
   pub low : of ≤ 64

@@ -31,10 +31,6 @@ productOf (more e es) = countOf e * productOf es
 
 -- ---- as the code counts: children of a case (true) or operands (false), one after another, and nothing above 65
 
-abbrev pub alone : Bool → ℕ
-alone true = 0
-alone false = 1
-
 abbrev pub joined : Bool → ℕ → ℕ → ℕ
 joined true a b = a + b
 joined false a b = a * b

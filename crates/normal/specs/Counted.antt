@@ -29,6 +29,7 @@ pub record ChildrenAt (bs : List ℕ) (p left many b of : ℕ) : Type 0 where
   pub end : ℕ
   pub at : AllAt trees (varsOf bs) bs p end
   pub few : nodeCounts trees ≤ left
+  pub left-low : left ≤ 2048
   pub count : branchCount trees ≡ many
   pub sum : sumOf trees ≡ of
   pub low : of ≤ 64
@@ -53,6 +54,7 @@ pub record OperandAt (bs : List ℕ) (p left b of : ℕ) : Type 0 where
   pub end : ℕ
   pub at : At tree (varsOf bs) bs p end
   pub few : nodeCount tree ≤ left
+  pub left-low : left ≤ 2048
   pub product : countOf tree * productOf others ≡ of
   pub low : of ≤ 64
   pub some : b < of

@@ -6,13 +6,12 @@ use mathlib.Core.Bool.{Bool, true, false}
 use mathlib.Core.List.{List}
 use lib.ListN.{length}
 use lib.Seq.{sets}
-use Rattle.alpha.specs.Sheet.{Node, Expr, Exprs}
+use Rattle.alpha.specs.Sheet.{Expr, Exprs}
 use Rattle.alpha.specs.Affine.{mapAfter}
-use Rattle.alpha.specs.Read.{got, node}
 use Rattle.alpha.specs.Shape.{fits, allFit}
 use Rattle.alpha.specs.Reach.{limit, topReach, mapReach, reach, reachAll}
 use Rattle.alpha.specs.Written.{branchCount, nodeCount, nodeCounts}
-use Rattle.laws.specs.At.{At, AllAt}
+use Rattle.laws.specs.At.{nodeRead, At, AllAt}
 use Rattle.laws.specs.Sheets.{headsOf, varsOf}
 use Rattle.affine.specs.declared.Map.{Map}
 use Rattle.affine.specs.Value.{line, mapOf, Neat}
@@ -64,35 +63,42 @@ pub record Lowers (bs : List ℕ) (p : ℕ) (m r : Map) : Type 0 where
 -- ---- what is required
 
 -- a tree of at most `left` nodes stands at p and has `of` branches, at most 64; the part of branch b keeps within the room; t says which part
-pub record Route (bs : List ℕ) (p left : ℕ) (m : Map) (b of : ℕ) (t : Bool) (level to room : ℕ) : Type 0 where
+pub record Route (bs : List ℕ) (p left : ℕ) (m : Map) (b of : ℕ) (t : Bool) (level : ℕ) (pen : Pen) (room : ℕ) : Type 0 where
   pub tree : Expr
   pub end : ℕ
   pub bound : ℕ
   pub at : At tree (varsOf bs) bs p end
   pub few : nodeCount tree ≤ left
+  pub left-low : left ≤ 2048
+  pub level-low : level + left ≤ 4096
   pub fitting : fits tree (headsOf bs) (m .height) ≡ true
   pub reaches : reach tree bound ≡ true
   pub carried : Carried m bound
   pub branches : countOf tree ≡ of
   pub low : of ≤ 64
   pub some : b < of
-  pub fits-room : to + length (partOf t tree (mapOf m) level b .out) ≤ room
+  pub things-low : pen .things ≤ pen .to
+  pub fits-room : pen .to + length (partOf t tree (mapOf m) level b .out) ≤ room
 
 -- so many operands, which have `of` combinations
-pub record RouteAll (bs : List ℕ) (p left many : ℕ) (m : Map) (b of : ℕ) (t : Bool) (level to room : ℕ) : Type 0 where
+pub record RouteAll (bs : List ℕ) (p left many : ℕ) (m : Map) (b of : ℕ) (t : Bool) (level : ℕ) (pen : Pen) (room : ℕ) : Type 0 where
   pub trees : Exprs
   pub end : ℕ
   pub bound : ℕ
   pub at : AllAt trees (varsOf bs) bs p end
   pub few : nodeCounts trees ≤ left
+  pub left-low : left ≤ 2048
+  pub level-low : level + left ≤ 4096
   pub count : branchCount trees ≡ many
+  pub many-low : many ≤ 64
   pub fitting : allFit trees (headsOf bs) (m .height) ≡ true
   pub reaches : reachAll trees bound ≡ true
   pub carried : Carried m bound
   pub combinations : productOf trees ≡ of
   pub low : of ≤ 64
   pub some : b < of
-  pub fits-room : to + length (partsOf t trees (mapOf m) level b .out) ≤ room
+  pub things-low : pen .things ≤ pen .to
+  pub fits-room : pen .to + length (partsOf t trees (mapOf m) level b .out) ≤ room
 
 -- ---- what is answered
 
@@ -103,8 +109,7 @@ pub record Wrote (dry : Bool) (pen : Pen) (out out′ : List ℕ) (r : Pen) (par
 
 -- of the node at p alone
 abbrev pub Visits : List ℕ → ℕ → Map → Bool → ℕ → Bool → Pen → List ℕ → List ℕ → Pen → Type 0
-Visits bs p m t level dry pen out out′ r =
-    (nd : Node) (q : ℕ) → node (varsOf bs) bs p ≡ got nd q → Wrote dry pen out out′ r (own t nd (mapOf m) level)
+Visits bs p m t level dry pen out out′ r = Wrote dry pen out out′ r (own t (nodeRead (varsOf bs) bs p) (mapOf m) level)
 
 -- of branch b of the tree at p, which has `of`
 abbrev pub Follows : List ℕ → ℕ → Map → ℕ → ℕ → Bool → ℕ → Bool → Pen → List ℕ → List ℕ → Pen → Type 0

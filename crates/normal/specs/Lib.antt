@@ -2,7 +2,6 @@
 pub mod Count
 pub mod Counted
 pub mod Part
-pub mod Packed
 pub mod Followed
 pub mod Rows
 pub mod Spot

@@ -74,18 +74,6 @@ abbrev pub own : Bool → Node → Map → ℕ → Part
 own true nd m l = ofTree nd m l
 own false nd m l = ofGiven (givenBy nd) m
 
--- how many nodes of the tree stand above its children
-abbrev pub levelBelow : Node → ℕ → ℕ
-levelBelow (nVar v) l = l
-levelBelow (nInt c) l = l
-levelBelow (nBool b) l = l
-levelBelow (nUnary o) l = l + 1
-levelBelow (nBinary o) l = l + 1
-levelBelow nIf l = l + 1
-levelBelow (nCase n) l = l
-levelBelow (nRestr d cs) l = l
-levelBelow (nDep f) l = l
-
 -- ---- branch b of an expression: its node, then its operands' branches, the leftmost changing slowest; a case's own node is not written,
 -- and a dependence's map is composed with those above it
 unfoldable mutual

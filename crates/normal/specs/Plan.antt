@@ -1,15 +1,17 @@
 -- The totals of the normal form over the variables, as the code keeps them: nodes and bytes so far, or WIDE at a variable. Assumes nothing.
 use mathlib.Core.Path.{_≡_}
-use Prim.Native.Nat.{ℕ, _+_, _≤_}
+use Prim.Native.Nat.{ℕ, _+_, _≤_, _<_}
+use mathlib.Core.Bool.{false}
 use mathlib.Core.List.{List}
 use lib.ListN.{length, drop}
 use Rattle.alpha.specs.Pick.{ifb}
 use Rattle.alpha.specs.Answer.{Answer, accepted, refused, WIDE}
 use Rattle.alpha.specs.Sheet.{Variable, Sheet}
-use Rattle.alpha.specs.Holds.{variable}
+use Rattle.alpha.specs.Holds.{variable, isInput}
 use Rattle.alpha.specs.Written.{bytes, nodeCount}
 use Rattle.alpha.specs.Normalise.{branchesOf, normalBody, keepsLimits, Body, writeBodies}
-use Rattle.laws.specs.Sheets.{rawOf, sheetOf}
+use Rattle.laws.specs.Sheets.{rawOf, varsOf, sheetOf}
+use Rattle.tree.specs.Formed.{Formed}
 use Rattle.normal.specs.declared.Plan.{Plan}
 use Rattle.normal.specs.declared.Plan.the-variants.{Total, WideAt}
 
@@ -36,6 +38,21 @@ grown s x v nodes size =
     let n = nodes + nodeCount (normalBody s x) in
     let b = size + length (bytes (normalBody s x)) in
     ifb (keepsLimits (branchesOf s x) (normalBody s x) n b) (λ _. accepted (record { nodes = n; bytes = b })) (λ _. refused WIDE v)
+
+-- variable v has a body, and the totals so far keep their limits
+pub record GrowsBy (bs tab : List ℕ) (v nodes size : ℕ) : Type 0 where
+  pub formed : Formed bs tab
+  pub known : v < varsOf bs
+  pub body : isInput (variable (sheetOf bs) v) ≡ false
+  pub nodes-low : nodes ≤ 2048
+  pub size-low : size ≤ 65536
+
+-- v is a variable, or how many there are
+pub record GrowsFrom (bs tab : List ℕ) (v nodes size : ℕ) : Type 0 where
+  pub formed : Formed bs tab
+  pub known : v ≤ varsOf bs
+  pub nodes-low : nodes ≤ 2048
+  pub size-low : size ≤ 65536
 
 -- small enough to go on with
 abbrev pub Small : Plan → Type 0

@@ -3,13 +3,12 @@ use super::Chosen;
 use super::Split;
 use super::count::count_tree;
 use tree::skip::skip;
-ghost use Prim.Native.Nat.{_≤_};
 ghost use Rattle.normal.specs.Counted.{ChildrenAt, Picks, OperandAt, Splits};
 
 // Branch b of a case whose `many` children stand from `at` on and have `of` branches: the branches of the first child come first. The last
 // child has those that are left.
 pub fn choose(s: &[u8], at: usize, left: usize, many: usize, b: usize, of: usize) -> Chosen
-    requires { ⌜ ChildrenAt (now s) at left many b of × (left ≤ 2048) ⌝ }
+    requires { ⌜ ChildrenAt (now s) at left many b of ⌝ }
     ensures { λ r. ⌜ Picks (now (s .entry)) at many b of r ⌝ }
 {
     let mut p = at;
@@ -37,7 +36,7 @@ pub fn choose(s: &[u8], at: usize, left: usize, many: usize, b: usize, of: usize
 // Combination b of operands that have `of`, the first of them at `at`: the first one's branch changes slowest. Where they have one, each
 // operand has one branch, and nothing is counted.
 pub fn split(s: &[u8], at: usize, left: usize, b: usize, of: usize) -> Split
-    requires { ⌜ OperandAt (now s) at left b of × (left ≤ 2048) ⌝ }
+    requires { ⌜ OperandAt (now s) at left b of ⌝ }
     ensures { λ r. ⌜ Splits (now (s .entry)) at b of r ⌝ }
 {
     if of < 2 {

@@ -1,9 +1,10 @@
 // How many branches a tree has in normal form, counted up to 65: more than 64 anywhere are refused, and no rule lessens their number.
 // Assumes nothing.
 use super::Branches;
+use tree::Class;
 use tree::node::children;
-use tree::node::natural;
-use tree::node::node_len;
+use tree::node::class_of;
+use tree::node::node_end;
 ghost use mathlib.Core.Path.{_≡_};
 ghost use Prim.Native.Nat.{_≤_};
 ghost use Rattle.laws.specs.Sheets.{varsOf};
@@ -32,32 +33,21 @@ fn joined(branches: bool, a: usize, b: usize) -> usize
     }
 }
 
-// No children, or no operands.
-fn alone(branches: bool) -> usize
-    ensures { λ r. ⌜ r ≡ Count.alone branches ⌝ }
-{
-    if branches { 0 } else { 1 }
-}
-
-// The tree at `at`, of at most `left` nodes, and where it ends. A leaf has one branch.
+// The tree at `at`, of at most `left` nodes, and where it ends. A leaf has one branch, an operator the combinations of its operands', a case
+// those of all its children, a restriction and a dependence those of their child.
 pub fn count_tree(s: &[u8], at: usize, left: usize) -> Branches
-    requires { ⌜ Standing (varsOf (now s)) (now s) at left × (left ≤ 2048) ⌝ }
+    requires { ⌜ Standing (varsOf (now s)) (now s) at left ⌝ }
     ensures { λ r. ⌜ Counts (now (s .entry)) at (r .many) × EndsAt (varsOf (now (s .entry))) (now (s .entry)) at (r .next) ⌝ }
 {
-    let code = natural(s, at);
-    let next = at + node_len(s, at);
-    if code < 3 {
-        return Branches { many: 1, next };
+    let class = class_of(s, at);
+    let next = node_end(s, at);
+    match class {
+        Class::Leaf => Branches { many: 1, next },
+        Class::Operator => count_trees(s, next, left - 1, children(s, at), false, 1),
+        Class::Case => count_trees(s, next, left - 1, children(s, at), true, 0),
+        Class::Restriction => count_tree(s, next, left - 1),
+        Class::Dependence => count_tree(s, next, left - 1),
     }
-    let branches = code == 6;
-    count_trees(
-        s,
-        next,
-        left - 1,
-        children(s, at),
-        branches,
-        alone(branches),
-    )
 }
 
 // `many` trees one after another, children of a case or operands, after others of which there are `sofar`; and where they end.
@@ -69,7 +59,7 @@ fn count_trees(
     branches: bool,
     sofar: usize,
 ) -> Branches
-    requires { ⌜ StandingAll (varsOf (now s)) (now s) at left many × (left ≤ 2048) × (many ≤ 64) × (sofar ≤ 65) ⌝ }
+    requires { ⌜ StandingAll (varsOf (now s)) (now s) at left many × (sofar ≤ 65) ⌝ }
     ensures { λ r. ⌜ CountsAll (now (s .entry)) at many branches sofar (r .many) × AllEnd (varsOf (now (s .entry))) (now (s .entry)) at many (r .next) ⌝ }
 {
     let mut sum = sofar;
@@ -83,14 +73,4 @@ fn count_trees(
         more -= 1;
     }
     Branches { many: sum, next }
-}
-
-// How many branches the tree at `at` has: it is one operand. So `count_trees` is called from two places, and the compiler puts `count_tree`,
-// which answers for a leaf by itself, into its loop.
-pub fn count(s: &[u8], at: usize, left: usize) -> usize
-    requires { ⌜ Standing (varsOf (now s)) (now s) at left × (left ≤ 2048) ⌝ }
-    ensures { λ r. ⌜ Counts (now (s .entry)) at r ⌝ }
-{
-    let c = count_trees(s, at, left, 1, false, 1);
-    c.many
 }

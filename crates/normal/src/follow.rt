@@ -4,53 +4,24 @@ use super::Pen;
 use super::choose::choose;
 use super::choose::split;
 use super::node::visit;
-use super::packed::map_in;
-use super::packed::packed;
+use affine::Map;
 use affine::compose;
 use affine::rows_read;
+use tree::Class;
 use tree::node::children;
+use tree::node::class_of;
 use tree::node::natural;
-use tree::node::node_len;
-ghost use mathlib.Core.Path.{_≡_};
-ghost use Prim.Native.Nat.{_+_, _≤_};
-ghost use Rattle.alpha.specs.Sheet.{Node};
-ghost use Rattle.laws.specs.At.{codeOf};
-ghost use Rattle.normal.specs.Packed.{mapIn};
-ghost use Rattle.normal.specs.Part.{levelBelow};
+use tree::node::node_end;
 ghost use Rattle.normal.specs.Followed.{roomOf, Composes, Lowers, Route, RouteAll, Follows, FollowsAll};
 
-// How many nodes of the tree stand above the children of a node with such a code.
-fn level_below(code: usize, level: usize) -> usize
-    requires { ⌜ level ≤ 4096 ⌝ }
-    ensures { λ r. ⌜ ((nd : Node) → codeOf nd ≡ code → r ≡ levelBelow nd level) × (r ≤ level + 1) ⌝ }
-{
-    if code < 3 {
-        return level;
-    }
-    if 5 < code {
-        return level;
-    }
-    level + 1
-}
-
-// A pen handed on by its parts, which the compiler keeps in registers.
-fn handed(pen: Pen) -> Pen
-    ensures { λ r. ⌜ r ≡ pen ⌝ }
-{
-    let to = pen.to;
-    let things = pen.things;
-    let deep = pen.deep;
-    Pen { to, things, deep }
-}
-
 // The map of the dependence whose fields stand at p, after the map so far.
-fn map_below(s: &[u8], p: usize, m: &[i64; 22]) -> [i64; 22]
-    requires { ⌜ Composes (now s) p (mapIn (now m)) ⌝ }
-    ensures { λ r. ⌜ Lowers (now (s .entry)) p (mapIn (now (m .entry))) (mapIn r) ⌝ }
+fn map_below(s: &[u8], p: usize, m: Map) -> Map
+    requires { ⌜ Composes (now s) p m ⌝ }
+    ensures { λ r. ⌜ Lowers (now (s .entry)) p m r ⌝ }
 {
     let n = natural(s, p);
     let k = natural(s, p + 8);
-    packed(compose(rows_read(s, p + 16, k, n), map_in(m)))
+    compose(rows_read(s, p + 16, k, n), m)
 }
 
 // Branch b of the tree at `at`, which has `of` branches and at most `left` nodes, below `level` nodes of the branch's own tree.
@@ -60,37 +31,51 @@ pub fn follow(
     left: usize,
     b: usize,
     of: usize,
-    m: &[i64; 22],
+    m: Map,
     tree: bool,
     dry: bool,
     level: usize,
     out: &mut [u8],
     pen: Pen,
 ) -> Pen
-    requires { ⌜ Route (now s) at left (mapIn (now m)) b of tree level (pen .to) (roomOf dry (now out)) × (left ≤ 2048) × (level + left ≤ 4096) × (pen .things ≤ pen .to) ⌝ }
-    ensures { λ r. ⌜ Follows (now (s .entry)) at (mapIn (now (m .entry))) b of tree level dry pen (now (out .entry)) (now (out .exit)) r ⌝ }
+    requires { ⌜ Route (now s) at left m b of tree level pen (roomOf dry (now out)) ⌝ }
+    ensures { λ r. ⌜ Follows (now (s .entry)) at m b of tree level dry pen (now (out .entry)) (now (out .exit)) r ⌝ }
 {
-    let code = natural(s, at);
-    let next = at + node_len(s, at);
-    let many = children(s, at);
-    if code == 6 {
-        let c = choose(s, next, left - 1, many, b, of);
-        let child = c.at;
-        let i = c.b;
-        let n = c.of;
-        let now = handed(pen);
-        let end = follow(s, child, left - 1, i, n, m, tree, dry, level, out, now);
-        return handed(end);
+    let class = class_of(s, at);
+    let next = node_end(s, at);
+    match class {
+        Class::Leaf => visit(s, at, m, tree, dry, level, out, pen),
+        Class::Operator => {
+            let now = visit(s, at, m, tree, dry, level, out, pen);
+            let many = children(s, at);
+            follow_all(
+                s,
+                next,
+                left - 1,
+                many,
+                b,
+                of,
+                m,
+                tree,
+                dry,
+                level + 1,
+                out,
+                now,
+            )
+        }
+        Class::Case => {
+            let c = choose(s, next, left - 1, children(s, at), b, of);
+            follow(s, c.at, left - 1, c.b, c.of, m, tree, dry, level, out, pen)
+        }
+        Class::Restriction => {
+            let now = visit(s, at, m, tree, dry, level, out, pen);
+            follow(s, next, left - 1, b, of, m, tree, dry, level, out, now)
+        }
+        Class::Dependence => {
+            let w = map_below(s, at + 8, m);
+            follow(s, next, left - 1, b, of, w, tree, dry, level, out, pen)
+        }
     }
-    if code == 8 {
-        let w = map_below(s, at + 8, m);
-        let now = handed(pen);
-        let end = follow(s, next, left - 1, b, of, &w, tree, dry, level, out, now);
-        return handed(end);
-    }
-    let now = visit(s, at, m, tree, dry, level, out, pen);
-    let down = level_below(code, level);
-    follow_all(s, next, left - 1, many, b, of, m, tree, dry, down, out, now)
 }
 
 // Combination b of `many` operands one after another, which have `of`, the leftmost operand's branch changing slowest. The last operand has
@@ -102,15 +87,15 @@ fn follow_all(
     many: usize,
     b: usize,
     of: usize,
-    m: &[i64; 22],
+    m: Map,
     tree: bool,
     dry: bool,
     level: usize,
     out: &mut [u8],
     pen: Pen,
 ) -> Pen
-    requires { ⌜ RouteAll (now s) at left many (mapIn (now m)) b of tree level (pen .to) (roomOf dry (now out)) × (left ≤ 2048) × (level + left ≤ 4096) × (many ≤ 64) × (pen .things ≤ pen .to) ⌝ }
-    ensures { λ r. ⌜ FollowsAll (now (s .entry)) at many (mapIn (now (m .entry))) b of tree level dry pen (now (out .entry)) (now (out .exit)) r ⌝ }
+    requires { ⌜ RouteAll (now s) at left many m b of tree level pen (roomOf dry (now out)) ⌝ }
+    ensures { λ r. ⌜ FollowsAll (now (s .entry)) at many m b of tree level dry pen (now (out .entry)) (now (out .exit)) r ⌝ }
 {
     let mut sofar = pen;
     let mut p = at;
@@ -119,10 +104,7 @@ fn follow_all(
     let mut n = of;
     while more > 1 {
         let c = split(s, p, left, i, n);
-        let j = c.b;
-        let k = c.of;
-        let now = handed(sofar);
-        sofar = handed(follow(s, p, left, j, k, m, tree, dry, level, out, now));
+        sofar = follow(s, p, left, c.b, c.of, m, tree, dry, level, out, sofar);
         p = c.next;
         i = c.rest;
         n = c.among;
@@ -131,6 +113,5 @@ fn follow_all(
     if more < 1 {
         return sofar;
     }
-    let now = handed(sofar);
-    handed(follow(s, p, left, i, n, m, tree, dry, level, out, now))
+    follow(s, p, left, i, n, m, tree, dry, level, out, sofar)
 }

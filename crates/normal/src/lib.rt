@@ -15,7 +15,6 @@ mod choose;
 mod count;
 mod follow;
 mod node;
-mod packed;
 mod rows;
 mod totals;
 mod turn;

@@ -1,105 +1,103 @@
 // What one node gives to a branch: to its tree, or to its constraints. Assumes nothing.
 use super::Pen;
-use super::packed::high_in;
-use super::packed::map_in;
-use super::packed::wide_in;
 use super::rows::put_constraints;
 use super::rows::put_map;
+use affine::Map;
 use integer::number_at;
 use integer::put;
 use integer::put_nat;
+use tree::Class;
+use tree::OperatorKind;
+use tree::node::class_of;
 use tree::node::natural;
+use tree::node::node_end;
+use tree::node::operator_of;
 ghost use mathlib.Core.Path.{_≡_};
 ghost use mathlib.Core.Bool.{true, false};
 ghost use Prim.Native.Nat.{_+_, _^_, _≤_, max};
 ghost use lib.ListN.{length};
 ghost use lib.Seq.{sets};
-ghost use Rattle.alpha.specs.Sheet.{Node};
-ghost use Rattle.laws.specs.At.{codeOf};
 ghost use Rattle.laws.specs.Sheets.{varsOf};
-ghost use Rattle.affine.specs.Value.{mapOf, Neat};
+ghost use Rattle.affine.specs.Value.{Neat};
+ghost use Rattle.tree.specs.declared.Class.the-variants.{Leaf, Operator};
+ghost use Rattle.tree.specs.Classes.{classAt};
 ghost use Rattle.tree.specs.Standing.{Noded};
-ghost use Rattle.normal.specs.Packed.{mapIn};
-ghost use Rattle.normal.specs.Part.{ofTree};
 ghost use Rattle.normal.specs.Followed.{roomOf, Visits};
-ghost use Rattle.normal.specs.Spot.{headBytes, Spot, Stores, moves, Sizes};
+ghost use Rattle.normal.specs.Spot.{twoFields, Spot, Stop, Sized, Stores, Sizes};
 
 // ---- stored
 
-// The own fields of a leaf or an operator: its code, and but for an if one field more.
-fn put_head(s: &[u8], at: usize, out: &mut [u8], to: usize)
-    requires { ⌜ Noded (varsOf (now s)) (now s) at × (to + length (headBytes (now s) at) ≤ length (now out)) ⌝ }
-    ensures { λ _. ⌜ now (out .exit) ≡ sets (now (out .entry)) to (headBytes (now (s .entry)) at) ⌝ }
+// The code and the field after it, as they stand at `at`.
+fn put_two(s: &[u8], at: usize, out: &mut [u8], to: usize)
+    requires { ⌜ (at + 16 ≤ length (now s)) × (to + 16 ≤ length (now out)) ⌝ }
+    ensures { λ _. ⌜ now (out .exit) ≡ sets (now (out .entry)) to (twoFields (now (s .entry)) at) ⌝ }
 {
-    let code = natural(s, at);
-    if code == 5 {
-        put_nat(out, to, code);
-        return;
-    }
-    put_nat(out, to, code);
+    put_nat(out, to, natural(s, at));
     put(out, to + 8, number_at(s, at + 8));
 }
 
-// In the tree: a leaf below one dependence, an operator as it is, and nothing of any other node.
-fn put_node(s: &[u8], at: usize, m: &[i64; 22], out: &mut [u8], to: usize)
-    requires { ⌜ Spot (now s) at (mapIn (now m)) true to (length (now out)) ⌝ }
-    ensures { λ _. ⌜ Stores (now (s .entry)) at (mapIn (now (m .entry))) true to (now (out .entry)) (now (out .exit)) ⌝ }
+// A leaf, below one dependence.
+fn put_leaf(s: &[u8], at: usize, m: Map, out: &mut [u8], to: usize)
+    requires { ⌜ Spot (now s) at m true to (length (now out)) × (classAt (now s) at ≡ Leaf) ⌝ }
+    ensures { λ _. ⌜ Stores (now (s .entry)) at m true to (now (out .entry)) (now (out .exit)) ⌝ }
 {
-    let code = natural(s, at);
-    if 5 < code {
-        return;
+    put_map(out, to, m);
+    put_two(s, at, out, to + (24 + m.height * (8 * m.width + 8)));
+}
+
+// An operator as it is: its code, and but for an if one field more.
+fn put_operator(s: &[u8], at: usize, m: Map, out: &mut [u8], to: usize)
+    requires { ⌜ Spot (now s) at m true to (length (now out)) × (classAt (now s) at ≡ Operator) ⌝ }
+    ensures { λ _. ⌜ Stores (now (s .entry)) at m true to (now (out .entry)) (now (out .exit)) ⌝ }
+{
+    let kind = operator_of(s, at);
+    match kind {
+        OperatorKind::Unary => put_two(s, at, out, to),
+        OperatorKind::Binary => put_two(s, at, out, to),
+        OperatorKind::If => put_nat(out, to, 5),
     }
-    if code < 3 {
-        let w = map_in(m);
-        put_map(out, to, w);
-        put_head(s, at, out, to + (24 + w.height * (8 * w.width + 8)));
-        return;
+}
+
+// In the tree: a leaf, an operator, and nothing of any other node.
+fn put_node(s: &[u8], at: usize, m: Map, out: &mut [u8], to: usize)
+    requires { ⌜ Spot (now s) at m true to (length (now out)) ⌝ }
+    ensures { λ _. ⌜ Stores (now (s .entry)) at m true to (now (out .entry)) (now (out .exit)) ⌝ }
+{
+    let class = class_of(s, at);
+    match class {
+        Class::Leaf => put_leaf(s, at, m, out, to),
+        Class::Operator => put_operator(s, at, m, out, to),
+        Class::Case => {}
+        Class::Restriction => {}
+        Class::Dependence => {}
     }
-    put_head(s, at, out, to);
 }
 
 // In the constraints: those of a restriction, after the map.
-fn put_limits(s: &[u8], at: usize, m: &[i64; 22], out: &mut [u8], to: usize)
-    requires { ⌜ Spot (now s) at (mapIn (now m)) false to (length (now out)) ⌝ }
-    ensures { λ _. ⌜ Stores (now (s .entry)) at (mapIn (now (m .entry))) false to (now (out .entry)) (now (out .exit)) ⌝ }
+fn put_limits(s: &[u8], at: usize, m: Map, out: &mut [u8], to: usize)
+    requires { ⌜ Spot (now s) at m false to (length (now out)) ⌝ }
+    ensures { λ _. ⌜ Stores (now (s .entry)) at m false to (now (out .entry)) (now (out .exit)) ⌝ }
 {
-    let code = natural(s, at);
-    if code != 7 {
-        return;
+    let class = class_of(s, at);
+    match class {
+        Class::Leaf => {}
+        Class::Operator => {}
+        Class::Case => {}
+        Class::Restriction => {
+            let n = natural(s, at + 8);
+            let count = natural(s, at + 16);
+            put_constraints(s, at + 24, count, n, m, out, to);
+        }
+        Class::Dependence => {}
     }
-    let n = natural(s, at + 8);
-    let count = natural(s, at + 16);
-    put_constraints(s, at + 24, count, n, map_in(m), out, to);
 }
 
 // ---- measured
 
-// In the tree, below `level` nodes.
-fn node_size(code: usize, m: &[i64; 22], level: usize) -> Pen
-    requires { ⌜ Neat (mapIn (now m)) × (level ≤ 4096) ⌝ }
-    ensures { λ r. ⌜ ((nd : Node) → codeOf nd ≡ code → r ≡ moves (ofTree nd (mapOf (mapIn (now (m .entry)))) level)) ⌝ }
+// Of a node that gives nothing.
+fn nothing() -> Pen
+    ensures { λ r. ⌜ r ≡ record { to = 0; things = 0; deep = 0 } ⌝ }
 {
-    if code < 3 {
-        return Pen {
-            to: 40 + high_in(m) * (8 * wide_in(m) + 8),
-            things: 2,
-            deep: level + 2,
-        };
-    }
-    if code < 5 {
-        return Pen {
-            to: 16,
-            things: 1,
-            deep: 0,
-        };
-    }
-    if code < 6 {
-        return Pen {
-            to: 8,
-            things: 1,
-            deep: 0,
-        };
-    }
     Pen {
         to: 0,
         things: 0,
@@ -107,32 +105,56 @@ fn node_size(code: usize, m: &[i64; 22], level: usize) -> Pen
     }
 }
 
-// In the constraints.
-fn limits_size(s: &[u8], at: usize, m: &[i64; 22]) -> Pen
-    requires { ⌜ Noded (varsOf (now s)) (now s) at × Neat (mapIn (now m)) ⌝ }
-    ensures { λ r. ⌜ Sizes (now (s .entry)) at (mapIn (now (m .entry))) false 0 r ⌝ }
+// In the tree, below `level` nodes.
+fn node_size(s: &[u8], at: usize, m: Map, level: usize) -> Pen
+    requires { ⌜ Sized (now s) at m level ⌝ }
+    ensures { λ r. ⌜ Sizes (now (s .entry)) at m true level r ⌝ }
 {
-    let code = natural(s, at);
-    if code != 7 {
-        return Pen {
-            to: 0,
-            things: 0,
+    let class = class_of(s, at);
+    match class {
+        Class::Leaf => Pen {
+            to: 40 + m.height * (8 * m.width + 8),
+            things: 2,
+            deep: level + 2,
+        },
+        Class::Operator => Pen {
+            to: node_end(s, at) - at,
+            things: 1,
             deep: 0,
-        };
+        },
+        Class::Case => nothing(),
+        Class::Restriction => nothing(),
+        Class::Dependence => nothing(),
     }
-    let count = natural(s, at + 16);
-    Pen {
-        to: count * (16 + 8 * wide_in(m)),
-        things: count,
-        deep: 0,
+}
+
+// In the constraints.
+fn limits_size(s: &[u8], at: usize, m: Map) -> Pen
+    requires { ⌜ Noded (varsOf (now s)) (now s) at × Neat m ⌝ }
+    ensures { λ r. ⌜ Sizes (now (s .entry)) at m false 0 r ⌝ }
+{
+    let class = class_of(s, at);
+    match class {
+        Class::Leaf => nothing(),
+        Class::Operator => nothing(),
+        Class::Case => nothing(),
+        Class::Restriction => {
+            let count = natural(s, at + 16);
+            Pen {
+                to: count * (16 + 8 * m.width),
+                things: count,
+                deep: 0,
+            }
+        }
+        Class::Dependence => nothing(),
     }
 }
 
 // ---- both
 
-fn put_own(s: &[u8], at: usize, m: &[i64; 22], tree: bool, out: &mut [u8], to: usize)
-    requires { ⌜ Spot (now s) at (mapIn (now m)) tree to (length (now out)) ⌝ }
-    ensures { λ _. ⌜ Stores (now (s .entry)) at (mapIn (now (m .entry))) tree to (now (out .entry)) (now (out .exit)) ⌝ }
+fn put_own(s: &[u8], at: usize, m: Map, tree: bool, out: &mut [u8], to: usize)
+    requires { ⌜ Spot (now s) at m tree to (length (now out)) ⌝ }
+    ensures { λ _. ⌜ Stores (now (s .entry)) at m tree to (now (out .entry)) (now (out .exit)) ⌝ }
 {
     if tree {
         put_node(s, at, m, out, to);
@@ -141,12 +163,12 @@ fn put_own(s: &[u8], at: usize, m: &[i64; 22], tree: bool, out: &mut [u8], to: u
     put_limits(s, at, m, out, to);
 }
 
-fn size_of(s: &[u8], at: usize, m: &[i64; 22], tree: bool, level: usize) -> Pen
-    requires { ⌜ Noded (varsOf (now s)) (now s) at × Neat (mapIn (now m)) × (level ≤ 4096) ⌝ }
-    ensures { λ r. ⌜ Sizes (now (s .entry)) at (mapIn (now (m .entry))) tree level r ⌝ }
+fn size_of(s: &[u8], at: usize, m: Map, tree: bool, level: usize) -> Pen
+    requires { ⌜ Sized (now s) at m level ⌝ }
+    ensures { λ r. ⌜ Sizes (now (s .entry)) at m tree level r ⌝ }
 {
     if tree {
-        node_size(natural(s, at), m, level)
+        node_size(s, at, m, level)
     } else {
         limits_size(s, at, m)
     }
@@ -175,15 +197,15 @@ fn moved(pen: Pen, size: Pen) -> Pen
 pub fn visit(
     s: &[u8],
     at: usize,
-    m: &[i64; 22],
+    m: Map,
     tree: bool,
     dry: bool,
     level: usize,
     out: &mut [u8],
     pen: Pen,
 ) -> Pen
-    requires { ⌜ Spot (now s) at (mapIn (now m)) tree (pen .to) (roomOf dry (now out)) × (level ≤ 4096) × (pen .things ≤ pen .to) ⌝ }
-    ensures { λ r. ⌜ Visits (now (s .entry)) at (mapIn (now (m .entry))) tree level dry pen (now (out .entry)) (now (out .exit)) r ⌝ }
+    requires { ⌜ Stop (now s) at m tree level pen (roomOf dry (now out)) ⌝ }
+    ensures { λ r. ⌜ Visits (now (s .entry)) at m tree level dry pen (now (out .entry)) (now (out .exit)) r ⌝ }
 {
     let size = size_of(s, at, m, tree, level);
     if dry {

@@ -14,9 +14,9 @@ ghost use lib.Seq.{sets};
 ghost use Rattle.alpha.specs.Affine.{constraintAfter};
 ghost use Rattle.alpha.specs.Written.{flat, rowBytes, constraintBytes};
 ghost use Rattle.affine.specs.Value.{rowOf, mapOf, Neat};
-ghost use Rattle.domain.specs.Constraints.{constraintFields, constraintsFields};
+ghost use Rattle.domain.specs.Constraints.{constraintFields};
 ghost use Rattle.normal.specs.Part.{mapBytes};
-ghost use Rattle.normal.specs.Rows.{Composable, AllComposable};
+ghost use Rattle.normal.specs.Rows.{limitBytes, PutsConstraint, PutsConstraints};
 
 // The row's n coefficients, then its constant.
 fn put_row(out: &mut [u8], to: usize, r: Row, n: usize)
@@ -66,7 +66,7 @@ pub fn put_map(out: &mut [u8], to: usize, m: Map)
 
 // The constraint of n coefficients at `at`, after the map.
 fn put_constraint(s: &[u8], at: usize, n: usize, m: Map, out: &mut [u8], to: usize)
-    requires { ⌜ Neat m × (n ≡ m .height) × Composable (now s) at n m × (to + (16 + 8 * m .width) ≤ length (now out)) ⌝ }
+    requires { ⌜ PutsConstraint (now s) at n m to (now out) ⌝ }
     ensures { λ _. ⌜ now (out .exit) ≡ sets (now (out .entry)) to (constraintBytes (constraintAfter (mapOf m) (constraintFields n (now (s .entry)) at))) ⌝ }
 {
     let relation = natural(s, at);
@@ -86,8 +86,8 @@ pub fn put_constraints(
     out: &mut [u8],
     to: usize,
 )
-    requires { ⌜ Neat m × (n ≡ m .height) × AllComposable count (now s) at n m × (to + count * (16 + 8 * m .width) ≤ length (now out)) ⌝ }
-    ensures { λ _. ⌜ now (out .exit) ≡ sets (now (out .entry)) to (flat (map constraintBytes (map (constraintAfter (mapOf m)) (constraintsFields count n (now (s .entry)) at)))) ⌝ }
+    requires { ⌜ PutsConstraints (now s) at count n m to (now out) ⌝ }
+    ensures { λ _. ⌜ now (out .exit) ≡ sets (now (out .entry)) to (limitBytes m count n (now (s .entry)) at) ⌝ }
 {
     let step = 16 + 8 * m.width;
     let mut from = at;

@@ -1,27 +1,22 @@
 // The totals of the normal form, variable by variable, against the limits of document 01. Assumes nothing.
 use super::Plan;
 use super::Taken;
-use super::count::count;
+use super::count::count_tree;
 use super::turn::measure_tree;
 use sheet::table::body_place;
 use sheet::table::variable_count;
 use tree::variable::dimension_of;
 use tree::variable::kind_of;
-ghost use mathlib.Core.Path.{_≡_};
-ghost use mathlib.Core.Bool.{false};
-ghost use Prim.Native.Nat.{_≤_, _<_};
-ghost use Rattle.alpha.specs.Holds.{variable, isInput};
-ghost use Rattle.laws.specs.Sheets.{varsOf, sheetOf};
-ghost use Rattle.tree.specs.Formed.{Formed};
-ghost use Rattle.normal.specs.Plan.{Grows, PlansFrom};
+ghost use Rattle.normal.specs.Plan.{GrowsBy, Grows, GrowsFrom, PlansFrom};
 
 // The totals with the body of variable v, or WIDE at it.
 fn grow(s: &[u8], tab: &[usize; 102], v: usize, nodes: usize, size: usize) -> Plan
-    requires { ⌜ Formed (now s) (now tab) × (v < varsOf (now s)) × (isInput (variable (sheetOf (now s)) v) ≡ false) × (nodes ≤ 2048) × (size ≤ 65536) ⌝ }
+    requires { ⌜ GrowsBy (now s) (now tab) v nodes size ⌝ }
     ensures { λ r. ⌜ Grows (now (s .entry)) v nodes size r ⌝ }
 {
     let at = body_place(tab, v);
-    let many = count(s, at, 2048);
+    let counted = count_tree(s, at, 2048);
+    let many = counted.many;
     if 64 < many {
         return Plan::WideAt(v);
     }
@@ -55,7 +50,7 @@ fn grow(s: &[u8], tab: &[usize; 102], v: usize, nodes: usize, size: usize) -> Pl
 
 // The totals with the bodies of the variables from number v on, or WIDE at the first that breaks a limit.
 pub fn plan_from(s: &[u8], tab: &[usize; 102], v: usize, nodes: usize, size: usize) -> Plan
-    requires { ⌜ Formed (now s) (now tab) × (v ≤ varsOf (now s)) × (nodes ≤ 2048) × (size ≤ 65536) ⌝ }
+    requires { ⌜ GrowsFrom (now s) (now tab) v nodes size ⌝ }
     ensures { λ r. ⌜ PlansFrom (now (s .entry)) v nodes size r ⌝ }
 {
     if variable_count(tab) <= v {

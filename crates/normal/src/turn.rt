@@ -4,28 +4,32 @@ use super::Taken;
 use super::body::measure_from;
 use super::body::put_from;
 use super::count::count_tree;
+use tree::Class;
 use tree::node::children;
-use tree::node::natural;
-use tree::node::node_len;
-ghost use Prim.Native.Nat.{_^_, _≤_, min};
+use tree::node::class_of;
+use tree::node::node_end;
+ghost use Prim.Native.Nat.{_^_, min};
 ghost use lib.ListN.{length};
-ghost use Rattle.laws.specs.Sheets.{varsOf};
-ghost use Rattle.tree.specs.Standing.{Standing, StandingAll};
 ghost use Rattle.normal.specs.Body as Body;
 
 // ---- measured
 
 // What the `of` branches of the tree at `at`, of at most `left` nodes, take, with those so far.
 pub fn measure_tree(s: &[u8], at: usize, left: usize, n: usize, of: usize, sofar: Taken) -> Taken
-    requires { ⌜ Standing (varsOf (now s)) (now s) at left × (left ≤ 2048) × Body.BodyAt (now s) at n of × Body.Spare of sofar ⌝ }
+    requires { ⌜ Body.BodyAt (now s) at left n of × Body.Spare of sofar ⌝ }
     ensures { λ r. ⌜ Body.TakesFrom (now (s .entry)) at n of 0 sofar r ⌝ }
 {
-    if natural(s, at) == 6 {
-        let next = at + node_len(s, at);
-        let many = children(s, at);
-        return measure_children(s, next, left - 1, many, n, of, sofar);
+    let class = class_of(s, at);
+    match class {
+        Class::Leaf | Class::Operator | Class::Restriction | Class::Dependence => {
+            measure_from(s, at, left, n, of, 0, sofar)
+        }
+        Class::Case => {
+            let next = node_end(s, at);
+            let many = children(s, at);
+            measure_children(s, next, left - 1, many, n, of, sofar)
+        }
     }
-    measure_from(s, at, n, of, 0, sofar)
 }
 
 // What those of `many` children of a case take. The last child has the branches that are left.
@@ -38,7 +42,7 @@ fn measure_children(
     of: usize,
     sofar: Taken,
 ) -> Taken
-    requires { ⌜ StandingAll (varsOf (now s)) (now s) at left many × (left ≤ 2048) × (1 ≤ many) × Body.BodiesAt (now s) at n many of × Body.Spare of sofar ⌝ }
+    requires { ⌜ Body.BodiesAt (now s) at left n many of × Body.Spare of sofar ⌝ }
     ensures { λ r. ⌜ Body.TakesAll (now (s .entry)) at n many of sofar r ⌝ }
 {
     let mut sum = sofar;
@@ -68,15 +72,20 @@ pub fn put_tree(
     out: &mut [u8],
     to: usize,
 ) -> usize
-    requires { ⌜ Standing (varsOf (now s)) (now s) at left × (left ≤ 2048) × Body.BodyAt (now s) at n of × Body.RoomFrom (now s) at n of 0 to (min (2 ^ 40) (length (now out))) ⌝ }
+    requires { ⌜ Body.BodyAt (now s) at left n of × Body.RoomFrom (now s) at n of 0 to (min (2 ^ 40) (length (now out))) ⌝ }
     ensures { λ r. ⌜ Body.StoresFrom (now (s .entry)) at n of 0 to (now (out .entry)) (now (out .exit)) r ⌝ }
 {
-    if natural(s, at) == 6 {
-        let next = at + node_len(s, at);
-        let many = children(s, at);
-        return put_children(s, next, left - 1, many, n, of, out, to);
+    let class = class_of(s, at);
+    match class {
+        Class::Leaf | Class::Operator | Class::Restriction | Class::Dependence => {
+            put_from(s, at, left, n, of, 0, out, to)
+        }
+        Class::Case => {
+            let next = node_end(s, at);
+            let many = children(s, at);
+            put_children(s, next, left - 1, many, n, of, out, to)
+        }
     }
-    put_from(s, at, n, of, 0, out, to)
 }
 
 // Those of `many` children of a case. The last child has the branches that are left.
@@ -90,7 +99,7 @@ fn put_children(
     out: &mut [u8],
     to: usize,
 ) -> usize
-    requires { ⌜ StandingAll (varsOf (now s)) (now s) at left many × (left ≤ 2048) × (1 ≤ many) × Body.BodiesAt (now s) at n many of × Body.RoomAll (now s) at n many of to (min (2 ^ 40) (length (now out))) ⌝ }
+    requires { ⌜ Body.BodiesAt (now s) at left n many of × Body.RoomAll (now s) at n many of to (min (2 ^ 40) (length (now out))) ⌝ }
     ensures { λ r. ⌜ Body.StoresAll (now (s .entry)) at n many of to (now (out .entry)) (now (out .exit)) r ⌝ }
 {
     let mut p = to;

@@ -1,5 +1,5 @@
 // The bodies of the normal form, stored one after another. Assumes nothing.
-use super::count::count;
+use super::count::count_tree;
 use super::turn::put_tree;
 use alpha::Refusal;
 use alpha::Verdict;
@@ -23,7 +23,8 @@ fn put_body(s: &[u8], tab: &[usize; 102], v: usize, out: &mut [u8], to: usize) -
     ensures { λ r. ⌜ Stored (bodyOf (now (s .entry)) v) to (now (out .entry)) (now (out .exit)) r ⌝ }
 {
     let at = body_place(tab, v);
-    let many = count(s, at, 2048);
+    let counted = count_tree(s, at, 2048);
+    let many = counted.many;
     let n = dimension_of(s, tab, v);
     put_nat(out, to, 6);
     put_nat(out, to + 8, many);

@@ -1,16 +1,40 @@
--- The lines of a report, with each outcome as the two tables of the run give it: by its code and its value. Assumes nothing.
-use Prim.Native.Nat.{ℕ, suc, _+_}
+-- What writing lines requires; and the lines of a report, with each outcome as the two tables of the run give it: by its code and its value. Assumes nothing.
+use mathlib.Core.Path.{_≡_}
+use Prim.Native.Nat.{ℕ, suc, _+_, _*_, _≤_, _<_}
 use mathlib.Core.List.{List, [], _∷_, _++_}
-use lib.ListN.{getD}
+use lib.ListN.{length, getD}
 use lib.IntN.{ℤ, pos}
 use Rattle.alpha.specs.Sheet.{Sheet}
-use Rattle.alpha.specs.Box.{pointAt}
+use Rattle.alpha.specs.Box.{pointAt, size}
 use Rattle.alpha.specs.Holds.{variable}
 use Rattle.alpha.specs.Check.{Element, elements, total}
 use Rattle.alpha.specs.Ask.{before}
 use Rattle.alpha.specs.Outcome.{Outcome}
 use Rattle.alpha.specs.Program.{acceptedWord, natText, trimmed, spaced, outcomeText, newline}
 use Rattle.laws.specs.Coded.{decoded}
+use Rattle.laws.specs.Sheets.{varsOf, sheetOf}
+use Rattle.tree.specs.Formed.{Formed}
+use Rattle.domain.specs.Element.{PointOf}
+
+-- ---- what is required
+
+-- element i of variable v is to be told in n bytes from `at` on
+pub record LineAt (n : ℕ) (bs tab : List ℕ) (v i : ℕ) (out : List ℕ) (at : ℕ) : Type 0 where
+  pub formed : Formed bs tab
+  pub element : PointOf bs v i
+  pub room : at + n ≤ length out
+
+-- all elements of variable v, 51 bytes each at most
+pub record LinesAt (bs tab : List ℕ) (v : ℕ) (out : List ℕ) (at : ℕ) : Type 0 where
+  pub formed : Formed bs tab
+  pub known : v < varsOf bs
+  pub room : at + 51 * size (variable (sheetOf bs) v .head .box) ≤ length out
+
+-- a sheet of so many elements
+pub record ReportAt (bs tab : List ℕ) (many : ℕ) (out : List ℕ) (at : ℕ) : Type 0 where
+  pub formed : Formed bs tab
+  pub many-is : many ≡ total (sheetOf bs)
+  pub room : at + 208910 ≤ length out
 
 -- ---- one element
 

@@ -15,10 +15,8 @@ ghost use Rattle.alpha.specs.Field.{eight};
 ghost use Rattle.alpha.specs.Program.{trimmed, spaced};
 ghost use Rattle.laws.specs.Sheets.{sheetOf};
 ghost use Rattle.affine.specs.Value.{pointOf};
-ghost use Rattle.tree.specs.Formed.{Formed};
 ghost use Rattle.text.specs.Wrote.{Wrote};
-ghost use Rattle.domain.specs.Element.{PointOf};
-ghost use Rattle.text.specs.Lines.{elementOf, elementText, lineIn};
+ghost use Rattle.text.specs.Lines.{LineAt, elementOf, elementText, lineIn};
 
 // The name at `place` without the zero bytes at its end.
 pub fn name(s: &[u8], place: usize, out: &mut [u8], at: usize) -> usize
@@ -54,7 +52,7 @@ pub fn coordinates(z: [Int; 4], n: usize, out: &mut [u8], at: usize) -> usize
 
 // The name of variable v, and the coordinates of the i-th point of its box: at most 8 bytes and 4 times 7.
 fn element(s: &[u8], tab: &[usize; 102], v: usize, i: usize, out: &mut [u8], at: usize) -> usize
-    requires { ⌜ Formed (now s) (now tab) × PointOf (now s) v i × (at + 36 ≤ length (now out)) ⌝ }
+    requires { ⌜ LineAt 36 (now s) (now tab) v i (now out) at ⌝ }
     ensures { λ r. ⌜ Wrote (now (out .entry)) (now (out .exit)) at r (elementText (sheetOf (now (s .entry))) (elementOf (sheetOf (now (s .entry))) v i)) × (r ≤ at + 36) ⌝ }
 {
     let place = record_place(tab, v);
@@ -75,7 +73,7 @@ pub fn line(
     out: &mut [u8],
     at: usize,
 ) -> usize
-    requires { ⌜ Formed (now s) (now tab) × PointOf (now s) v i × (at + 51 ≤ length (now out)) ⌝ }
+    requires { ⌜ LineAt 51 (now s) (now tab) v i (now out) at ⌝ }
     ensures { λ r. ⌜ Wrote (now (out .entry)) (now (out .exit)) at r (lineIn (sheetOf (now (s .entry))) (now (codes .entry)) (now (values .entry)) v i) × (r ≤ at + 51) ⌝ }
 {
     let n = first_element(tab, v) + i;

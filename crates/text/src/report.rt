@@ -23,7 +23,7 @@ ghost use Rattle.laws.specs.Sheets.{varsOf, sheetOf};
 ghost use Rattle.tree.specs.Formed.{Formed};
 ghost use Rattle.domain.specs.Element.{elementsOf};
 ghost use Rattle.text.specs.Wrote.{Wrote};
-ghost use Rattle.text.specs.Lines.{linesFrom, reportIn};
+ghost use Rattle.text.specs.Lines.{LinesAt, ReportAt, linesFrom, reportIn};
 
 // The lines of the elements of variable v, each of at most 51 bytes.
 fn variable_lines(
@@ -35,7 +35,7 @@ fn variable_lines(
     out: &mut [u8],
     at: usize,
 ) -> usize
-    requires { ⌜ Formed (now s) (now tab) × (v < varsOf (now s)) × (at + 51 * size (variable (sheetOf (now s)) v .head .box) ≤ length (now out)) ⌝ }
+    requires { ⌜ LinesAt (now s) (now tab) v (now out) at ⌝ }
     ensures { λ r. ⌜ Wrote (now (out .entry)) (now (out .exit)) at r (linesFrom (sheetOf (now (s .entry))) (now (codes .entry)) (now (values .entry)) (before (sheetOf (now (s .entry))) v) (elementsOf (sheetOf (now (s .entry))) v)) × (r ≤ at + 51 * size (variable (sheetOf (now (s .entry))) v .head .box)) ⌝ }
 {
     let first = first_element(tab, v);
@@ -81,7 +81,7 @@ pub fn report(
     out: &mut [u8],
     at: usize,
 ) -> usize
-    requires { ⌜ Formed (now s) (now tab) × (total ≡ Check.total (sheetOf (now s))) × (at + 208910 ≤ length (now out)) ⌝ }
+    requires { ⌜ ReportAt (now s) (now tab) total (now out) at ⌝ }
     ensures { λ r. ⌜ Wrote (now (out .entry)) (now (out .exit)) at r (reportIn (sheetOf (now (s .entry))) (now (codes .entry)) (now (values .entry))) × (r ≤ at + 208910) ⌝ }
 {
     let opened = word(out, at, &ACCEPTED);

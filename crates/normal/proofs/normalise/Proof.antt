@@ -52,12 +52,14 @@ plan-from-requires c κs =
     let after-enum-told = c .before .before .before in
     let after-judge = after-enum-told .before .before in
     let admitted = after-judge .judge .ensures .admits .admitted _ (after-enum-told .enum-told .given .1) in
-    let third = c .third-place .ensures ∙ admitted .formed .placed .prepared .table .third in (
-      admitted .formed,
-      omega arith,
-      omega arith,
-      omega (arith, third, front-there _ _ (admitted .formed) (admitted .sheet-is), prepared-read _ _ (admitted .formed .placed .prepared) .short),
-    )
+    let third = c .third-place .ensures ∙ admitted .formed .placed .prepared .table .third in
+    record {
+      formed = admitted .formed;
+      known = omega arith;
+      nodes-low = omega arith;
+      size-low =
+          omega (arith, third, front-there _ _ (admitted .formed) (admitted .sheet-is), prepared-read _ _ (admitted .formed .placed .prepared) .short);
+    }
 
 enum-known-plan : tie.Need-enum-known-plan
 enum-known-plan c = search needs

@@ -55,12 +55,31 @@ stand-all-below t =
     and 3 stand-all-kinds.ps (falls 3 stand-all-kinds.ps _<_ μ-stand-all t) stand-all.Pre
 
 abbrev stand-uses : ℕ → stand-lts.Claims
-stand-uses t = (class-of-reads.Asked, class-of-reads.Learnt, node-end-reads.Asked, node-end-reads.Learnt, leaf-stands-reads.Asked, leaf-stands-reads.Learnt, children-reads.Asked, children-reads.Learnt, stand-all-below t, stand-all.Post, restriction-meets-reads.Asked, restriction-meets-reads.Learnt, stand-below t, stand.Post, skip-reads.Asked, skip-reads.Learnt, image-at-reads.Asked, image-at-reads.Learnt)
+stand-uses t = (
+  class-of-reads.Asked,
+  class-of-reads.Learnt,
+  node-end-reads.Asked,
+  node-end-reads.Learnt,
+  leaf-stands-reads.Asked,
+  leaf-stands-reads.Learnt,
+  children-reads.Asked,
+  children-reads.Learnt,
+  stand-all-below t,
+  stand-all.Post,
+  restriction-meets-reads.Asked,
+  restriction-meets-reads.Learnt,
+  stand-below t,
+  stand.Post,
+  skip-reads.Asked,
+  skip-reads.Learnt,
+  image-at-reads.Asked,
+  image-at-reads.Learnt,
+)
 
 abbrev stand-all-uses : ℕ → stand-all-lts.Claims
 stand-all-uses t = (alone-reads.Asked, alone-reads.Learnt, stand-below t, stand.Post, joined-reads.Asked, joined-reads.Learnt)
 
--- ---- a tree
+-- ---- a tree: its node
 
 noded : (t : ℕ) (c : stand-lts.Start (stand-uses t) (stand-at t) stand.Post) → Noded (varsOf (c .args .s .now)) (c .args .s .now) (c .args .at)
 noded t c = standing-noded _ _ _ _ (walk-standing _ _ _ _ (c .pre .1 .1))
@@ -86,6 +105,8 @@ module _ (t : ℕ) (c : stand-lts.After-node-end (stand-uses t) (stand-at t) sta
   some : 1 ≤ from .args .left
   some = standing-some _ _ _ _ (walk-standing _ _ _ _ walk)
 
+-- ---- a leaf
+
 stand-enum-told : (t : ℕ) → stand-lts.Need-enum-told (stand-uses t) (stand-at t) stand.Post
 stand-enum-told t c = search needs
 
@@ -93,6 +114,11 @@ stand-leaf-stands-requires : (t : ℕ) → stand-lts.Need-leaf-stands-requires (
 stand-leaf-stands-requires t c κs =
     let here = c .before .before in
     (from t here .pre .1 .0, record { noded = noded t (from t here); class-is = is-class t here _ (c .enum-told .given .1) })
+
+stand-returns-2 : (t : ℕ) → stand-lts.Need-returns-2 (stand-uses t) (stand-at t) stand.Post
+stand-returns-2 t c = rw (c .before .before .before .node-end .ensures) (c .leaf-stands .ensures)
+
+-- ---- an operator
 
 stand-enum-told-2 : (t : ℕ) → stand-lts.Need-enum-told-2 (stand-uses t) (stand-at t) stand.Post
 stand-enum-told-2 t c = search needs
@@ -111,6 +137,14 @@ stand-stand-all-requires t c κs =
     let operator = is-class t here _ (c .before .enum-told2 .given .1) in
     (omega arith, (from t here .pre .1 .0, walk-children _ _ _ _ (walk t here) _ _ (here .node-end .ensures) (c .children .ensures) (rw operator tt)))
 
+stand-returns-3 : (t : ℕ) → stand-lts.Need-returns-3 (stand-uses t) (stand-at t) stand.Post
+stand-returns-3 t c =
+    let here = c .before .before .before .before in
+    let operator = is-class t here _ (c .before .before .enum-told2 .given .1) in
+    operands-way _ _ _ (from t here .args .z) (here .node-end .ensures) _ (c .before .children .ensures) operator _ (c .stand-all .ensures)
+
+-- ---- a case
+
 stand-enum-told-3 : (t : ℕ) → stand-lts.Need-enum-told-3 (stand-uses t) (stand-at t) stand.Post
 stand-enum-told-3 t c = search needs
 
@@ -128,6 +162,14 @@ stand-stand-all-requires-2 t c κs =
     let case = is-class t here _ (c .before .enum-told3 .given .1) in
     (omega arith, (from t here .pre .1 .0, walk-children _ _ _ _ (walk t here) _ _ (here .node-end .ensures) (c .children2 .ensures) (rw case tt)))
 
+stand-returns-4 : (t : ℕ) → stand-lts.Need-returns-4 (stand-uses t) (stand-at t) stand.Post
+stand-returns-4 t c =
+    let here = c .before .before .before .before in
+    let case = is-class t here _ (c .before .before .enum-told3 .given .1) in
+    branches-way _ _ _ (from t here .args .z) (here .node-end .ensures) _ (c .before .children2 .ensures) case _ (c .stand-all2 .ensures)
+
+-- ---- a restriction
+
 stand-enum-told-4 : (t : ℕ) → stand-lts.Need-enum-told-4 (stand-uses t) (stand-at t) stand.Post
 stand-enum-told-4 t c = search needs
 
@@ -139,7 +181,7 @@ module _ (t : ℕ) (c : stand-lts.After-enum-told4 (stand-uses t) (stand-at t) s
   restriction = is-class t at-restriction _ (c .enum-told4 .given .1)
 
   -- its child may be walked
-  child-walk : Walk (from t at-restriction .args .s .now) (at-restriction .node-end .result) (from t at-restriction .args .left - 1) (from t at-restriction .args .z)
+  child-walk : let s = from t at-restriction in Walk (s .args .s .now) (at-restriction .node-end .result) (s .args .left - 1) (s .args .z)
   child-walk = restriction-walk _ _ _ _ (walk t at-restriction) restriction _ (at-restriction .node-end .ensures)
 
 stand-restriction-meets-requires : (t : ℕ) → stand-lts.Need-restriction-meets-requires (stand-uses t) (stand-at t) stand.Post
@@ -166,6 +208,14 @@ stand-sub-skip t c = omega (arith, some t (c .before .before .before .before))
 
 stand-skip-requires : (t : ℕ) → stand-lts.Need-skip-requires (stand-uses t) (stand-at t) stand.Post
 stand-skip-requires t c κs = walk-standing _ _ _ _ (child-walk t (c .before .before))
+
+stand-returns-5 : (t : ℕ) → stand-lts.Need-returns-5 (stand-uses t) (stand-at t) stand.Post
+stand-returns-5 t c =
+    let here = c .before .before .before .before .before in
+    restriction-off-way _ _ _ (from t here .args .z) (here .node-end .ensures) (restriction t (c .before .before .before)) _
+    (c .before .before .restriction-meets .ensures) _ (c .before .if1 .left) (c .skip .ensures)
+
+-- ---- a dependence
 
 stand-enum-told-5 : (t : ℕ) → stand-lts.Need-enum-told-5 (stand-uses t) (stand-at t) stand.Post
 stand-enum-told-5 t c = search needs
@@ -195,27 +245,6 @@ stand-stand-requires-2 t c κs =
     let dep = dependence t (c .before) in
     (omega arith, (from t here .pre .1 .0, walk-image _ _ _ _ (walk t here) dep _ (y .read) _ (here .node-end .ensures) _ (y .is) (y .rest)))
 
-stand-returns-2 : (t : ℕ) → stand-lts.Need-returns-2 (stand-uses t) (stand-at t) stand.Post
-stand-returns-2 t c = rw (c .before .before .before .node-end .ensures) (c .leaf-stands .ensures)
-
-stand-returns-3 : (t : ℕ) → stand-lts.Need-returns-3 (stand-uses t) (stand-at t) stand.Post
-stand-returns-3 t c =
-    let here = c .before .before .before .before in
-    let operator = is-class t here _ (c .before .before .enum-told2 .given .1) in
-    operands-way _ _ _ (from t here .args .z) (here .node-end .ensures) _ (c .before .children .ensures) operator _ (c .stand-all .ensures)
-
-stand-returns-4 : (t : ℕ) → stand-lts.Need-returns-4 (stand-uses t) (stand-at t) stand.Post
-stand-returns-4 t c =
-    let here = c .before .before .before .before in
-    let case = is-class t here _ (c .before .before .enum-told3 .given .1) in
-    branches-way _ _ _ (from t here .args .z) (here .node-end .ensures) _ (c .before .children2 .ensures) case _ (c .stand-all2 .ensures)
-
-stand-returns-5 : (t : ℕ) → stand-lts.Need-returns-5 (stand-uses t) (stand-at t) stand.Post
-stand-returns-5 t c =
-    let here = c .before .before .before .before .before in
-    restriction-off-way _ _ _ (from t here .args .z) (here .node-end .ensures) (restriction t (c .before .before .before)) _
-    (c .before .before .restriction-meets .ensures) _ (c .before .if1 .left) (c .skip .ensures)
-
 stand-returns-6 : (t : ℕ) → stand-lts.Need-returns-6 (stand-uses t) (stand-at t) stand.Post
 stand-returns-6 t c =
     let here = c .before .before .before .before in
@@ -223,13 +252,15 @@ stand-returns-6 t c =
     image-way _ _ _ (from t here .args .z) (here .node-end .ensures) _ (y .result) _ (dependence t (c .before .before))
     (y .ensures .read) (y .ensures .is) (c .stand2 .ensures)
 
+-- ---- several trees
+
+-- those from here on are left, and those before come to `how`
 abbrev stand-all-Inv-loop : stand-all-lts.InvT-loop
-stand-all-Inv-loop s tab inside at left z count branches how₀ next₀ more₀ how next more = WalkAll s next left more z × SoFar s z branches at count how next more
+stand-all-Inv-loop s tab inside at left z count branches how₀ next₀ more₀ how next more =
+    WalkAll s next left more z × SoFar s z branches at count how next more
 
 abbrev stand-all-μ-loop : stand-all-lts.MeasureT-loop
 stand-all-μ-loop s tab inside at left z count branches how₀ next₀ more₀ how next more = more
-
--- ---- several trees
 
 stand-all-alone-requires : (t : ℕ) → stand-all-lts.Need-alone-requires (stand-all-uses t) (stand-all-at t) stand-all.Post stand-all-Inv-loop stand-all-μ-loop
 stand-all-alone-requires t c κs = search needs

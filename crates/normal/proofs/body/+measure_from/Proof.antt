@@ -14,7 +14,7 @@ use native.Mathlib.Omega.{arith}
 use Rattle.normal.proofs.Bodies.{measure-none, measure-more}
 
 abbrev μ-measure-from : Measures 1 measure-from-kinds.ps ℕ
-μ-measure-from κs a = a .1 .1 .1 .0 - a .1 .1 .1 .1 .0
+μ-measure-from κs a = a .1 .1 .1 .1 .0 - a .1 .1 .1 .1 .1 .0
 
 abbrev measure-from-at : ℕ → In 1 measure-from-kinds.ps
 measure-from-at t =
@@ -37,20 +37,20 @@ measure-from-returns t c =
     measure-none _ _ _ _ _ (s .args .sofar) (c .if1 .taken)
 
 measure-from-measure-requires : (t : ℕ) → measure-from-lts.Need-measure-requires (measure-from-uses t) (measure-from-at t) measure-from.Post
-measure-from-measure-requires t c κs = (c .before .before .pre .1 .0, c .if1 .left)
+measure-from-measure-requires t c κs = record { body = c .before .before .pre .1 .0 .body; some = c .if1 .left }
 
 measure-from-add-measure-from : (t : ℕ) → measure-from-lts.Need-add-measure-from (measure-from-uses t) (measure-from-at t) measure-from.Post
 measure-from-add-measure-from t c =
     let s = c .before .before .before in
-    omega (arith, s .pre .1 .0 .low, c .before .if1 .left)
+    omega (arith, s .pre .1 .0 .body .low, c .before .if1 .left)
 
 measure-from-both-requires : (t : ℕ) → measure-from-lts.Need-both-requires (measure-from-uses t) (measure-from-at t) measure-from.Post
 measure-from-both-requires t c κs =
     let s = c .before .before .before in
     let took = c .measure .ensures in
-    let low = s .pre .1 .0 .low in
+    let low = s .pre .1 .0 .body .low in
     let more = c .before .if1 .left in
-    (omega (arith, took .few-nodes, s .pre .1 .2), omega (arith, took .few-bytes, s .pre .1 .2))
+    (omega (arith, took .few-nodes, s .pre .1 .1), omega (arith, took .few-bytes, s .pre .1 .1))
 
 measure-from-measure-from-requires : (t : ℕ) → measure-from-lts.Need-measure-from-requires (measure-from-uses t) (measure-from-at t) measure-from.Post
 measure-from-measure-from-requires t c κs =
@@ -59,8 +59,13 @@ measure-from-measure-from-requires t c κs =
     let more = c .before .before .if1 .left in
     let bytes-are = ap (λ z. z .bytes) (c .both .ensures) in
     let nodes-are = ap (λ z. z .nodes) (c .both .ensures) in
-    let is = s .pre .0 in
-    (omega arith, (s .pre .1 .0, omega arith, (omega (arith, took .few-bytes, s .pre .1 .2), omega (arith, took .few-nodes, s .pre .1 .2))))
+    let is = s .pre .0 in (
+      omega arith,
+      (
+        record { body = s .pre .1 .0 .body; start = omega arith },
+        (omega (arith, took .few-bytes, s .pre .1 .1), omega (arith, took .few-nodes, s .pre .1 .1)),
+      ),
+    )
 
 measure-from-returns-2 : (t : ℕ) → measure-from-lts.Need-returns-2 (measure-from-uses t) (measure-from-at t) measure-from.Post
 measure-from-returns-2 t c =

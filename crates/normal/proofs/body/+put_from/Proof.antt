@@ -10,10 +10,10 @@ use Rattle.normal.proofs.body.+put_from.Tie.{close}
 use Prim.Native.Nat.{ℕ, _-_, _<_}
 use native.Mathlib.Omega.{arith}
 use borrow.Author.Needs.{needs}
-use Rattle.normal.proofs.Bodies.{is-body, store-none, first-room, rest-room, store-more}
+use Rattle.normal.proofs.Bodies.{store-none, first-room, rest-room, store-more}
 
 abbrev μ-put-from : Measures 2 put-from-kinds.ps ℕ
-μ-put-from κs a = a .1 .1 .1 .0 - a .1 .1 .1 .1 .0
+μ-put-from κs a = a .1 .1 .1 .1 .0 - a .1 .1 .1 .1 .1 .0
 
 abbrev put-from-at : ℕ → In 2 put-from-kinds.ps
 put-from-at t = and 2 put-from-kinds.ps (is 2 put-from-kinds.ps μ-put-from t) put-from.Pre
@@ -33,13 +33,14 @@ put-from-returns t c =
 put-from-put-branch-requires : (t : ℕ) → put-from-lts.Need-put-branch-requires (put-from-uses t) (put-from-at t) put-from.Post
 put-from-put-branch-requires t c κs =
     let s = c .before .before .before .before in
-    (s .pre .1 .0, c .before .if1 .left, first-room _ _ _ _ _ (s .args .out .now) _ (c .before .if1 .left) _ (s .pre .1 .2))
+    let more = c .before .if1 .left in
+    (record { body = s .pre .1 .0 .body; some = more }, first-room _ _ _ _ _ (s .args .out .now) _ more _ (s .pre .1 .1))
 
 put-from-add-put-from : (t : ℕ) → put-from-lts.Need-add-put-from (put-from-uses t) (put-from-at t) put-from.Post
 put-from-add-put-from t c =
     let else1 = c .before .before .before .before in
     let s = else1 .before .before .before in
-    omega (arith, s .pre .1 .0 .low, else1 .if1 .left)
+    omega (arith, s .pre .1 .0 .body .low, else1 .if1 .left)
 
 put-from-put-from-requires : (t : ℕ) → put-from-lts.Need-put-from-requires (put-from-uses t) (put-from-at t) put-from.Post
 put-from-put-from-requires t c κs =
@@ -50,9 +51,8 @@ put-from-put-from-requires t c κs =
     let is = s .pre .0 in (
       omega arith,
       (
-        s .pre .1 .0,
-        omega arith,
-        rest-room _ _ _ _ _ (s .args .out .now) _ more _ _ (after-put-branch .put-branch .ensures) _ (is-body _ _ _ _ (s .pre .1 .0)) (s .pre .1 .2),
+        record { body = s .pre .1 .0 .body; start = omega arith },
+        rest-room _ _ _ _ _ (s .args .out .now) _ more _ _ (after-put-branch .put-branch .ensures) (s .pre .1 .1),
       ),
     )
 

@@ -16,13 +16,12 @@ abbrev μ-loop : tie.MeasureT-loop
 μ-loop s at left many b of p₀ more₀ i₀ rest₀ p more i rest = more
 
 loop-holds : tie.Need-loop-holds Inv-loop μ-loop
-loop-holds c = (c .before .pre .0, λ r h. h)
+loop-holds c = (c .before .pre, λ r h. h)
 
 count-tree-requires : tie.Need-count-tree-requires Inv-loop μ-loop
 count-tree-requires c κs =
-    let at-loop = c .before in
-    let h = at-loop .loop .inv .0 in
-    (first-standing _ _ _ _ _ (children-some _ _ _ _ _ _ h) (children-standing _ _ _ _ _ _ h), at-loop .before .before .pre .1)
+    let h = c .before .loop .inv .0 in
+    first-standing _ _ _ _ _ (children-some _ _ _ _ _ _ h) (children-standing _ _ _ _ _ _ h)
 
 returns : tie.Need-returns Inv-loop μ-loop
 returns c =

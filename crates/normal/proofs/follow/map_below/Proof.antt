@@ -1,5 +1,4 @@
 -- `normal::map_below` meets its contract: the dependence's rows are read, and their map is composed with the one above. Assumes nothing.
-use mathlib.Core.Path.{_∙_}
 use Rattle.affine.specs.Reading.{MapRead}
 use Rattle.affine.proofs.Fetched.{rows-there, rows-map}
 use borrow.Author.Needs.{needs}
@@ -29,31 +28,21 @@ read : (c : tie.After-rows-read) →
     MapRead (c .before .before .before .before .args .s .now) (c .before .before .before .before .args .p) (c .rows-read .result)
 read c = rows-map _ _ _ _ (c .before .before .natural .ensures) (c .before .natural2 .ensures) _ (c .rows-read .ensures)
 
-map-in-requires : tie.Need-map-in-requires
-map-in-requires c κs = search needs
-
 compose-requires : tie.Need-compose-requires
 compose-requires c κs =
-    let after-rows = c .before in
-    let s = after-rows .before .before .before .before in
-    let g = read after-rows in
-    rw (c .map-in .ensures) (g .neat, s .pre .neat, s .pre .dims _ g, s .pre .fit _ g)
-
-packed-requires : tie.Need-packed-requires
-packed-requires c κs = search needs
+    let s = c .before .before .before .before in
+    let g = read c in
+    (g .neat, s .pre .neat, s .pre .dims _ g, s .pre .fit _ g)
 
 returns : tie.Need-returns
 returns c =
-    let after-compose = c .before in
-    let after-map-in = after-compose .before in
-    let after-rows = after-map-in .before in
-    let composed = rw (after-map-in .map-in .ensures) at (after-compose .compose .ensures .0) in
+    let composed = c .compose .ensures in
     record {
-      by = after-rows .rows-read .result;
-      read = read after-rows;
-      is = c .packed .ensures .0 ∙ composed;
-      neat = c .packed .ensures .1;
-      high = c .packed .ensures .2 ∙ after-compose .compose .ensures .2;
+      by = c .before .rows-read .result;
+      read = read (c .before);
+      is = composed .0;
+      neat = composed .1;
+      high = composed .2;
     }
 
 pub map-below-spec : {M : Type 1} → statement M
@@ -65,7 +54,5 @@ map-below-spec =
     natural-requires-2
     add-rows-read
     rows-read-requires
-    map-in-requires
     compose-requires
-    packed-requires
     returns)

@@ -1,149 +1,88 @@
--- `normal::put_node` meets its contract: a leaf below the map's dependence, an operator as it is, nothing of any other node. Assumes nothing.
-use mathlib.Core.Path.{ap, _∙_}
-use Prim.Native.Nat.{_+_, _*_}
-use native.Mathlib.Nat.{mul-le-mul-right}
-use native.Mathlib.Omega.{arith}
-use lib.ListN.{length}
-use lib.Seq.{length-sets}
-use Rattle.affine.specs.Value.{mapOf}
-use Rattle.tree.proofs.Noding.{code-there}
-use Rattle.normal.specs.Part.{mapBytes}
-use Rattle.normal.specs.Packed.{mapIn}
-use Rattle.normal.proofs.Spots.{noded, other-stores, leaf-stores, operator-stores, leaf-room, operator-room}
+-- `normal::put_node` meets its contract: a leaf, an operator, and nothing of any other class. Assumes nothing.
+use mathlib.Core.Path.{_≡_, sym, _∙_}
+use mathlib.Core.Bool.{true}
+use Rattle.tree.specs.declared.Class.{Class}
+use Rattle.tree.specs.Classes.{classAt}
+use Rattle.normal.proofs.Spots.{nothing-stored, case-silent, restriction-bare, dependence-silent}
 use borrow.Author.Needs.{needs}
 use Rattle.normal.proofs.node.put_node.Statement.{statement}
 use Rattle.normal.proofs.node.put_node.Tie as tie
 
-natural-requires : tie.Need-natural-requires
-natural-requires c κs = code-there _ _ _ (noded _ _ (mapIn (c .before .before .args .m .now)) _ _ _ (c .before .before .pre))
+class-of-requires : tie.Need-class-of-requires
+class-of-requires c κs = c .before .before .pre .noded
 
-returns : tie.Need-returns
-returns c =
-    let s = c .before .before .before .before in
-    let m = mapIn (s .args .m .now) in
-    other-stores _ _ m (s .args .to) (s .args .out .now) (omega (arith, c .if1 .taken, c .before .natural .ensures))
+-- the class that is told in an arm is the node's
+class : (c : tie.After-class-of) {k : Class} → c .class-of .result ≡ k →
+    classAt (c .before .before .before .args .s .now) (c .before .before .before .args .at) ≡ k
+class c told = sym (c .class-of .ensures) ∙ told
 
-map-in-requires : tie.Need-map-in-requires
-map-in-requires c κs = search needs
+enum-told : tie.Need-enum-told
+enum-told c = search needs
 
-put-map-requires : tie.Need-put-map-requires
-put-map-requires c κs =
-    let then2 = c .before .before in
-    let after-natural = then2 .before .before in
-    let s = after-natural .before .before .before in
-    let m = mapIn (s .args .m .now) in
-    let code = after-natural .natural .ensures in
-    rw (c .before .map-in .ensures) (s .pre .neat, omega (arith, leaf-room _ _ m _ _ (s .pre) (omega (arith, then2 .if2 .taken))))
+put-leaf-requires : tie.Need-put-leaf-requires
+put-leaf-requires c κs = (c .before .before .before .before .before .before .pre, class (c .before .before .before) (c .before .enum-told .given .1))
 
-mul-put-head : tie.Need-mul-put-head
-mul-put-head c =
-    let after-map-in = c .before .before .before .before .before .before in
-    let s = after-map-in .before .before .before .before .before .before in
-    rw (after-map-in .map-in .ensures) (omega (arith, s .pre .neat .cols-few))
+enum-told-2 : tie.Need-enum-told-2
+enum-told-2 c = search needs
 
-add-put-head : tie.Need-add-put-head
-add-put-head c =
-    let after-map-in = c .before .before .before .before .before .before in
-    let s = after-map-in .before .before .before .before .before .before in
-    rw (after-map-in .map-in .ensures) (omega (arith, s .pre .neat .cols-few))
+put-operator-requires : tie.Need-put-operator-requires
+put-operator-requires c κs = (c .before .before .before .before .before .before .pre, class (c .before .before .before) (c .before .enum-told2 .given .1))
 
-mul-put-head-2 : tie.Need-mul-put-head-2
-mul-put-head-2 c =
-    let after-map-in = c .before .before .before .before .before .before .before in
-    let s = after-map-in .before .before .before .before .before .before in
-    let m = mapIn (s .args .m .now) in
-    rw (after-map-in .map-in .ensures)
-    (omega (arith, mul-le-mul-right (8 * m .width + 8) (s .pre .neat .rows-few), s .pre .neat .cols-few))
+enum-told-3 : tie.Need-enum-told-3
+enum-told-3 c = search needs
 
-add-put-head-2 : tie.Need-add-put-head-2
-add-put-head-2 c =
-    let after-map-in = c .before .before .before .before .before .before .before in
-    let s = after-map-in .before .before .before .before .before .before in
-    let m = mapIn (s .args .m .now) in
-    rw (after-map-in .map-in .ensures)
-    (omega (arith, mul-le-mul-right (8 * m .width + 8) (s .pre .neat .rows-few), s .pre .neat .cols-few))
+enum-told-4 : tie.Need-enum-told-4
+enum-told-4 c = search needs
 
-add-put-head-3 : tie.Need-add-put-head-3
-add-put-head-3 c =
-    let after-map-in = c .before .before .before .before .before .before .before in
-    let then2 = after-map-in .before in
-    let after-natural = then2 .before .before in
-    let s = after-natural .before .before .before in
-    let m = mapIn (s .args .m .now) in
-    let code = after-natural .natural .ensures in
-    rw (after-map-in .map-in .ensures) (omega (arith, leaf-room _ _ m _ _ (s .pre) (omega (arith, then2 .if2 .taken))))
-
-put-head-requires : tie.Need-put-head-requires
-put-head-requires c κs =
-    let after-put-map = c .before .before .before .before .before in
-    let after-map-in = after-put-map .before .before in
-    let then2 = after-map-in .before in
-    let after-natural = then2 .before .before in
-    let s = after-natural .before .before .before in
-    let m = mapIn (s .args .m .now) in
-    let code = after-natural .natural .ensures in
-    let stored = rw (after-map-in .map-in .ensures) at (after-put-map .put-map .ensures) in
-    let same = ap length stored ∙ length-sets (s .args .out .now) (s .args .to) (mapBytes (mapOf m)) in
-    rw (after-map-in .map-in .ensures)
-    (noded _ _ m _ _ _ (s .pre), omega (arith, same, leaf-room _ _ m _ _ (s .pre) (omega (arith, then2 .if2 .taken))))
+enum-told-5 : tie.Need-enum-told-5
+enum-told-5 c = search needs
 
 same-length : tie.Need-same-length
 same-length c = search needs
 
-returns-2 : tie.Need-returns-2
-returns-2 c =
-    let after-put-head = c .before .before in
-    let after-put-map = after-put-head .before .before .before .before .before .before in
-    let after-map-in = after-put-map .before .before in
-    let then2 = after-map-in .before in
-    let after-natural = then2 .before .before in
-    let s = after-natural .before .before .before in
-    let m = mapIn (s .args .m .now) in
-    let code = after-natural .natural .ensures in
-    let is = after-map-in .map-in .ensures in
-    leaf-stores _ _ m (s .args .to) (s .args .out .now) (omega (arith, then2 .if2 .taken)) (rw is at (after-put-map .put-map .ensures))
-    (rw is at (after-put-head .put-head .ensures))
-
-put-head-requires-2 : tie.Need-put-head-requires-2
-put-head-requires-2 c κs =
-    let after-natural = c .before .before .before in
-    let s = after-natural .before .before .before in
-    let m = mapIn (s .args .m .now) in
-    let code = after-natural .natural .ensures in (
-      noded _ _ m _ _ _ (s .pre),
-      operator-room _ _ m _ _ (s .pre) (omega (arith, c .before .if2 .left)) (omega (arith, c .before .before .if1 .left)),
-    )
+returns : tie.Need-returns
+returns c = c .before .before .put-leaf .ensures
 
 same-length-2 : tie.Need-same-length-2
 same-length-2 c = search needs
 
+returns-2 : tie.Need-returns-2
+returns-2 c = c .before .before .put-operator .ensures
+
 returns-3 : tie.Need-returns-3
 returns-3 c =
-    let else2 = c .before .before .before .before in
-    let else1 = else2 .before in
-    let after-natural = else1 .before in
-    let s = after-natural .before .before .before in
-    let m = mapIn (s .args .m .now) in
-    let code = after-natural .natural .ensures in
-    operator-stores _ _ m (s .args .to) (s .args .out .now) (omega (arith, else2 .if2 .left)) (omega (arith, else1 .if1 .left))
-    (c .before .before .put-head2 .ensures)
+    let a = c .before .before .before .before .before .args in
+    nothing-stored _ _ _ (case-silent (a .s .now) (a .at) (a .m) true (class (c .before .before) (c .enum-told3 .given .1)))
+    (a .to) (a .out .now)
+
+returns-4 : tie.Need-returns-4
+returns-4 c =
+    let a = c .before .before .before .before .before .args in
+    nothing-stored _ _ _ (restriction-bare (a .s .now) (a .at) (a .m) (class (c .before .before) (c .enum-told4 .given .1)))
+    (a .to) (a .out .now)
+
+returns-5 : tie.Need-returns-5
+returns-5 c =
+    let a = c .before .before .before .before .before .args in
+    nothing-stored _ _ _ (dependence-silent (a .s .now) (a .at) (a .m) true (class (c .before .before) (c .enum-told5 .given .1)))
+    (a .to) (a .out .now)
 
 pub put-node-spec : {M : Type 1} → statement M
 put-node-spec =
     tie.close
     (tie.spec
-    natural-requires
-    returns
-    map-in-requires
-    put-map-requires
-    mul-put-head
-    add-put-head
-    mul-put-head-2
-    add-put-head-2
-    add-put-head-3
-    put-head-requires
+    class-of-requires
+    enum-told
+    put-leaf-requires
+    enum-told-2
+    put-operator-requires
+    enum-told-3
+    enum-told-4
+    enum-told-5
     same-length
-    returns-2
-    put-head-requires-2
+    returns
     same-length-2
-    returns-3)
+    returns-2
+    returns-3
+    returns-4
+    returns-5)

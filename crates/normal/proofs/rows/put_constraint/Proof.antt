@@ -17,7 +17,7 @@ row-after-requires : tie.Need-row-after-requires
 row-after-requires c κs =
     let s = c .before .before .before .before in
     let read = c .row-read .ensures in
-    (s .pre .0, rw (← s .pre .1) (read .1 .rest), constraint-fits _ _ _ _ (s .pre .2) (s .pre .0) (s .pre .1) _ read)
+    (s .pre .neat, rw (← s .pre .dims) (read .1 .rest), constraint-fits _ _ _ _ (s .pre .composable) (s .pre .neat) (s .pre .dims) _ read)
 
 put-nat-requires : tie.Need-put-nat-requires
 put-nat-requires c κs = search needs
@@ -41,7 +41,7 @@ returns c =
     let read = after-row-read .row-read .ensures in
     let relation = after-natural .natural in
     let after = after-row-after .row-after in
-    constraint-laid _ _ _ (s .args .m) (s .pre .2) (s .pre .0) (s .pre .1) _ read (s .args .out .now) (s .args .to) (relation .result) (after .result)
+    constraint-laid _ _ _ (s .args .m) (s .pre .composable) (s .pre .neat) (s .pre .dims) _ read (s .args .out .now) (s .args .to) (relation .result) (after .result)
     (relation .ensures) (after .ensures .is) (after-put-nat .put-nat .ensures) (c .before .before .put-row .ensures)
 
 pub put-constraint-spec : {M : Type 1} → statement M

@@ -13,9 +13,9 @@ use Rattle.alpha.specs.Written.{constraintBytes}
 use Rattle.affine.specs.declared.Map.{Map}
 use Rattle.affine.specs.Value.{mapOf}
 use Rattle.domain.specs.Constraints.{constraintFields}
-use Rattle.normal.specs.Rows.{AllComposable}
+use Rattle.normal.specs.Rows.{limitBytes, AllComposable}
 use Rattle.normal.proofs.Laying.{one-less}
-use Rattle.normal.proofs.Composed.{limitBytes, composable-first, composable-rest, limits-again, limits-over}
+use Rattle.normal.proofs.Composed.{composable-first, composable-rest, limits-again, limits-over}
 use Rattle.normal.proofs.rows.put_constraints.Statement.{statement}
 use Rattle.normal.proofs.rows.put_constraints.Tie as tie
 
@@ -34,17 +34,17 @@ abbrev μ-loop : tie.MeasureT-loop
 mul-step : tie.Need-mul-step Inv-loop μ-loop
 mul-step c =
     let start = c .before .before .before in
-    let s = start in omega (arith, s .pre .0 .cols-few)
+    let s = start in omega (arith, s .pre .neat .cols-few)
 
 add-step : tie.Need-add-step Inv-loop μ-loop
 add-step c =
     let start = c .before .before .before in
-    let s = start in omega (arith, s .pre .0 .cols-few)
+    let s = start in omega (arith, s .pre .neat .cols-few)
 
 loop-holds : tie.Need-loop-holds Inv-loop μ-loop
 loop-holds c =
     let start = c .before .before .before in
-    let s = start in (refl, refl, s .pre .2, refl)
+    let s = start in (refl, refl, s .pre .composable, refl)
 
 put-constraint-requires : tie.Need-put-constraint-requires Inv-loop μ-loop
 put-constraint-requires c κs =
@@ -52,17 +52,17 @@ put-constraint-requires c κs =
     let l = c .before .before .loop in
     let more = c .before .loop-test .taken in
     let room = mul-le-mul-right (16 + 8 * s .args .m .width) more in
-    (s .pre .0, s .pre .1, composable-first _ _ _ _ _ more (l .inv .2), omega arith)
+    record { neat = s .pre .neat; dims = s .pre .dims; composable = composable-first _ _ _ _ _ more (l .inv .2); room = omega (arith, s .pre .room) }
 
 mul-from : tie.Need-mul-from Inv-loop μ-loop
 mul-from c =
     let start = c .before .before .before .before .before .before .before .before .before in
-    let s = start in omega (arith, s .pre .0 .rows-few, s .pre .1)
+    let s = start in omega (arith, s .pre .neat .rows-few, s .pre .dims)
 
 add-from : tie.Need-add-from Inv-loop μ-loop
 add-from c =
     let start = c .before .before .before .before .before .before .before .before .before in
-    let s = start in omega (arith, s .pre .0 .rows-few, s .pre .1)
+    let s = start in omega (arith, s .pre .neat .rows-few, s .pre .dims)
 
 add-from-2 : tie.Need-add-from-2 Inv-loop μ-loop
 add-from-2 c =

@@ -45,24 +45,25 @@ plan-from-variable-count-requires t c κs = search needs
 plan-from-returns : (t : ℕ) → plan-from-lts.Need-returns (plan-from-uses t) (plan-from-at t) plan-from.Post
 plan-from-returns t c =
     let s = c .before .before .before in
-    plan-none _ _ (s .pre .1 .0) _ _ _
-    (omega (arith, c .if1 .taken, c .before .variable-count .ensures, s .pre .1 .0 .placed .prepared .table .variables)) (s .pre .1 .2) (s .pre .1 .3)
+    plan-none _ _ (s .pre .1 .formed) _ _ _
+    (omega (arith, c .if1 .taken, c .before .variable-count .ensures, s .pre .1 .formed .placed .prepared .table .variables))
+    (s .pre .1 .nodes-low) (s .pre .1 .size-low)
 
 -- there is such a variable
 known : (t : ℕ) (c : plan-from-lts.Else1 (plan-from-uses t) (plan-from-at t) plan-from.Post) →
     c .before .before .before .args .v < varsOf (c .before .before .before .args .s .now)
 known t c =
     let s = c .before .before .before in
-    omega (arith, c .if1 .left, c .before .variable-count .ensures, s .pre .1 .0 .placed .prepared .table .variables)
+    omega (arith, c .if1 .left, c .before .variable-count .ensures, s .pre .1 .formed .placed .prepared .table .variables)
 
 -- and at most 32
 few : (t : ℕ) (c : plan-from-lts.Start (plan-from-uses t) (plan-from-at t) plan-from.Post) → varsOf (c .args .s .now) ≤ 32
-few t c = prepared-sections _ _ (c .pre .1 .0 .placed .prepared) .few
+few t c = prepared-sections _ _ (c .pre .1 .formed .placed .prepared) .few
 
 plan-from-kind-of-requires : (t : ℕ) → plan-from-lts.Need-kind-of-requires (plan-from-uses t) (plan-from-at t) plan-from.Post
 plan-from-kind-of-requires t c κs =
     let s = c .before .before .before in
-    (s .pre .1 .0 .placed .prepared, known t (c))
+    (s .pre .1 .formed .placed .prepared, known t (c))
 
 plan-from-add-plan-from : (t : ℕ) → plan-from-lts.Need-add-plan-from (plan-from-uses t) (plan-from-at t) plan-from.Post
 plan-from-add-plan-from t c =
@@ -75,22 +76,22 @@ plan-from-plan-from-requires t c κs =
     let lt = known t (c .before .before) in
     let low = few t s in
     let is = s .pre .0 in
-    (omega arith, (s .pre .1 .0, omega arith, s .pre .1 .2, s .pre .1 .3))
+    (omega arith, record { formed = s .pre .1 .formed; known = omega arith; nodes-low = s .pre .1 .nodes-low; size-low = s .pre .1 .size-low })
 
 plan-from-returns-2 : (t : ℕ) → plan-from-lts.Need-returns-2 (plan-from-uses t) (plan-from-at t) plan-from.Post
 plan-from-returns-2 t c =
     let else1 = c .before .before .before in
     let s = else1 .before .before .before in
     let lt = known t (else1) in
-    let input = is-input _ _ (s .pre .1 .0 .placed) _ lt _ (c .before .before .kind-of .ensures .0) (c .before .if2 .taken) in
-    plan-input _ _ (s .pre .1 .0) _ _ _ lt _ input (c .plan-from .ensures)
+    let input = is-input _ _ (s .pre .1 .formed .placed) _ lt _ (c .before .before .kind-of .ensures .0) (c .before .if2 .taken) in
+    plan-input _ _ (s .pre .1 .formed) _ _ _ lt _ input (c .plan-from .ensures)
 
 plan-from-grow-requires : (t : ℕ) → plan-from-lts.Need-grow-requires (plan-from-uses t) (plan-from-at t) plan-from.Post
 plan-from-grow-requires t c κs =
     let s = c .before .before .before .before .before in
     let lt = known t (c .before .before) in
-    let body = no-input _ _ (s .pre .1 .0 .placed) _ lt _ (c .before .kind-of .ensures .0) (c .before .kind-of .ensures .1) (c .if2 .left) in
-    (s .pre .1 .0, lt, body, s .pre .1 .2, s .pre .1 .3)
+    let body = no-input _ _ (s .pre .1 .formed .placed) _ lt _ (c .before .kind-of .ensures .0) (c .before .kind-of .ensures .1) (c .if2 .left) in
+    record { formed = s .pre .1 .formed; known = lt; body = body; nodes-low = s .pre .1 .nodes-low; size-low = s .pre .1 .size-low }
 
 plan-from-enum-known-p : (t : ℕ) → plan-from-lts.Need-enum-known-p (plan-from-uses t) (plan-from-at t) plan-from.Post
 plan-from-enum-known-p t c = search needs
@@ -106,8 +107,8 @@ plan-from-returns-3 t c =
     let s = else1 .before .before .before in
     let lt = known t (else1) in
     let body =
-    no-input _ _ (s .pre .1 .0 .placed) _ lt _ (after-kind-of .kind-of .ensures .0) (after-kind-of .kind-of .ensures .1) (else2 .if2 .left) in
-    plan-stops _ _ (s .pre .1 .0) _ _ _ lt body _ _ (c .enum-told .given .1) (c .before .before .grow .ensures)
+    no-input _ _ (s .pre .1 .formed .placed) _ lt _ (after-kind-of .kind-of .ensures .0) (after-kind-of .kind-of .ensures .1) (else2 .if2 .left) in
+    plan-stops _ _ (s .pre .1 .formed) _ _ _ lt body _ _ (c .enum-told .given .1) (c .before .before .grow .ensures)
 
 plan-from-add-plan-from-2 : (t : ℕ) → plan-from-lts.Need-add-plan-from-2 (plan-from-uses t) (plan-from-at t) plan-from.Post
 plan-from-add-plan-from-2 t c =
@@ -124,7 +125,7 @@ plan-from-plan-from-requires-2 t c κs =
     let low = few t s in
     let is = s .pre .0 in
     let small = small-total _ _ _ (c .before .p .given .1) (after-grow .grow .ensures .small) in
-    (omega arith, (s .pre .1 .0, omega arith, small .0, small .1))
+    (omega arith, record { formed = s .pre .1 .formed; known = omega arith; nodes-low = small .0; size-low = small .1 })
 
 plan-from-returns-4 : (t : ℕ) → plan-from-lts.Need-returns-4 (plan-from-uses t) (plan-from-at t) plan-from.Post
 plan-from-returns-4 t c =
@@ -135,8 +136,8 @@ plan-from-returns-4 t c =
     let s = else1 .before .before .before in
     let lt = known t (else1) in
     let body =
-    no-input _ _ (s .pre .1 .0 .placed) _ lt _ (after-kind-of .kind-of .ensures .0) (after-kind-of .kind-of .ensures .1) (else2 .if2 .left) in
-    plan-goes _ _ (s .pre .1 .0) _ _ _ lt body _ _ _ _ (c .before .before .p .given .1) (after-grow .grow .ensures) (c .plan-from2 .ensures)
+    no-input _ _ (s .pre .1 .formed .placed) _ lt _ (after-kind-of .kind-of .ensures .0) (after-kind-of .kind-of .ensures .1) (else2 .if2 .left) in
+    plan-goes _ _ (s .pre .1 .formed) _ _ _ lt body _ _ _ _ (c .before .before .p .given .1) (after-grow .grow .ensures) (c .plan-from2 .ensures)
 
 pub +plan-from-spec : {M : Type 1} → statement M
 +plan-from-spec = close μ-plan-from λ t. plan-from-lts.spec (plan-from-uses t) (plan-from-at t)

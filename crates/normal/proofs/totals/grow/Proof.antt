@@ -8,17 +8,17 @@ use Rattle.normal.proofs.totals.grow.Statement.{statement}
 use Rattle.normal.proofs.totals.grow.Tie as tie
 
 body-place-requires : tie.Need-body-place-requires
-body-place-requires c κs = few _ _ (c .before .pre .0 .placed) _ (c .before .pre .1)
+body-place-requires c κs = few _ _ (c .before .pre .formed .placed) _ (c .before .pre .known)
 
-count-requires : tie.Need-count-requires
-count-requires c κs =
+count-tree-requires : tie.Need-count-tree-requires
+count-tree-requires c κs =
     let s = c .before .before in
-    (body-standing _ _ (s .pre .0) _ (s .pre .1) (s .pre .2) _ _ (c .body-place .ensures) refl, omega arith)
+    body-standing _ _ (s .pre .formed) _ (s .pre .known) (s .pre .body) _ _ (c .body-place .ensures) refl
 
 returns : tie.Need-returns
 returns c =
     let s = c .before .before .before .before in
-    many-way _ _ (s .pre .0) _ (s .pre .1) (s .pre .2) _ _ (c .before .before .body-place .ensures) refl _ (c .before .count .ensures) _ _
+    many-way _ _ (s .pre .formed) _ (s .pre .known) (s .pre .body) _ _ (c .before .before .body-place .ensures) refl _ (c .before .count-tree .ensures .0) _ _
     (c .if1 .taken)
 
 dimension-of-requires : tie.Need-dimension-of-requires
@@ -30,9 +30,7 @@ measure-tree-requires c κs =
     let s = after-body-place .before .before in
     let dim = c .dimension-of .ensures in
     let low = c .before .if1 .left in (
-      body-standing _ _ (s .pre .0) _ (s .pre .1) (s .pre .2) _ _ (after-body-place .body-place .ensures) refl,
-      omega arith,
-      body-at _ _ (s .pre .0) _ (s .pre .1) (s .pre .2) _ _ (after-body-place .body-place .ensures) (dim .0) _ (c .before .before .count .ensures)
+      body-at _ _ (s .pre .formed) _ (s .pre .known) (s .pre .body) _ _ (after-body-place .body-place .ensures) (dim .0) _ (c .before .before .count-tree .ensures .0)
           low (dim .1),
       (omega arith, omega arith),
     )
@@ -41,11 +39,11 @@ returns-2 : tie.Need-returns-2
 returns-2 c =
     let after-dimension-of = c .before .before .before in
     let else1 = after-dimension-of .before in
-    let after-count = else1 .before in
-    let after-body-place = after-count .before in
+    let after-count-tree = else1 .before in
+    let after-body-place = after-count-tree .before in
     let s = after-body-place .before .before in
     let dim = after-dimension-of .dimension-of .ensures in
-    wide-way _ _ (s .pre .0) _ (s .pre .1) (s .pre .2) _ _ (after-body-place .body-place .ensures) (dim .0) _ (after-count .count .ensures)
+    wide-way _ _ (s .pre .formed) _ (s .pre .known) (s .pre .body) _ _ (after-body-place .body-place .ensures) (dim .0) _ (after-count-tree .count-tree .ensures .0)
     (s .args .nodes) (s .args .size)
     (else1 .if1 .left) (dim .1) _ (c .before .before .measure-tree .ensures) (λ k l d b. omega (arith, c .if2 .taken))
 
@@ -54,11 +52,11 @@ returns-3 c =
     let after-measure-tree = c .before .before .before .before in
     let after-dimension-of = after-measure-tree .before in
     let else1 = after-dimension-of .before in
-    let after-count = else1 .before in
-    let after-body-place = after-count .before in
+    let after-count-tree = else1 .before in
+    let after-body-place = after-count-tree .before in
     let s = after-body-place .before .before in
     let dim = after-dimension-of .dimension-of .ensures in
-    wide-way _ _ (s .pre .0) _ (s .pre .1) (s .pre .2) _ _ (after-body-place .body-place .ensures) (dim .0) _ (after-count .count .ensures)
+    wide-way _ _ (s .pre .formed) _ (s .pre .known) (s .pre .body) _ _ (after-body-place .body-place .ensures) (dim .0) _ (after-count-tree .count-tree .ensures .0)
     (s .args .nodes) (s .args .size)
     (else1 .if1 .left) (dim .1) _ (after-measure-tree .measure-tree .ensures) (λ k l d b. omega (arith, c .if3 .taken))
 
@@ -79,11 +77,11 @@ returns-4 c =
     let after-measure-tree = c .before .before .before .before .before .before .before in
     let after-dimension-of = after-measure-tree .before in
     let else1 = after-dimension-of .before in
-    let after-count = else1 .before in
-    let after-body-place = after-count .before in
+    let after-count-tree = else1 .before in
+    let after-body-place = after-count-tree .before in
     let s = after-body-place .before .before in
     let dim = after-dimension-of .dimension-of .ensures in
-    wide-way _ _ (s .pre .0) _ (s .pre .1) (s .pre .2) _ _ (after-body-place .body-place .ensures) (dim .0) _ (after-count .count .ensures)
+    wide-way _ _ (s .pre .formed) _ (s .pre .known) (s .pre .body) _ _ (after-body-place .body-place .ensures) (dim .0) _ (after-count-tree .count-tree .ensures .0)
     (s .args .nodes) (s .args .size)
     (else1 .if1 .left) (dim .1) _ (after-measure-tree .measure-tree .ensures) (λ k l d b. omega (arith, c .if4 .taken))
 
@@ -92,11 +90,11 @@ returns-5 c =
     let after-measure-tree = c .before .before .before .before .before .before .before .before in
     let after-dimension-of = after-measure-tree .before in
     let else1 = after-dimension-of .before in
-    let after-count = else1 .before in
-    let after-body-place = after-count .before in
+    let after-count-tree = else1 .before in
+    let after-body-place = after-count-tree .before in
     let s = after-body-place .before .before in
     let dim = after-dimension-of .dimension-of .ensures in
-    wide-way _ _ (s .pre .0) _ (s .pre .1) (s .pre .2) _ _ (after-body-place .body-place .ensures) (dim .0) _ (after-count .count .ensures)
+    wide-way _ _ (s .pre .formed) _ (s .pre .known) (s .pre .body) _ _ (after-body-place .body-place .ensures) (dim .0) _ (after-count-tree .count-tree .ensures .0)
     (s .args .nodes) (s .args .size)
     (else1 .if1 .left) (dim .1) _ (after-measure-tree .measure-tree .ensures) (λ k l d b. omega (arith, c .if5 .taken))
 
@@ -107,11 +105,11 @@ returns-6 c =
     let after-measure-tree = else2 .before .before in
     let after-dimension-of = after-measure-tree .before in
     let else1 = after-dimension-of .before in
-    let after-count = else1 .before in
-    let after-body-place = after-count .before in
+    let after-count-tree = else1 .before in
+    let after-body-place = after-count-tree .before in
     let s = after-body-place .before .before in
     let dim = after-dimension-of .dimension-of .ensures in
-    fits-way _ _ (s .pre .0) _ (s .pre .1) (s .pre .2) _ _ (after-body-place .body-place .ensures) (dim .0) _ (after-count .count .ensures)
+    fits-way _ _ (s .pre .formed) _ (s .pre .known) (s .pre .body) _ _ (after-body-place .body-place .ensures) (dim .0) _ (after-count-tree .count-tree .ensures .0)
     (s .args .nodes) (s .args .size)
     (else1 .if1 .left) (dim .1) _ (after-measure-tree .measure-tree .ensures) (c .before .if4 .left) (else2 .if2 .left) (else3 .if3 .left)
     (c .if5 .left)
@@ -121,7 +119,7 @@ grow-spec =
     tie.close
     (tie.spec
     body-place-requires
-    count-requires
+    count-tree-requires
     returns
     dimension-of-requires
     measure-tree-requires

@@ -12,7 +12,7 @@ report-requires c κs =
     let after-judge = c .before .before in
     let s = after-judge .before .before .before .before in
     let again = admitted-again _ _ _ _ _ (s .pre .0) (after-judge .judge .ensures .admits) in
-    (again .formed, total-is _ _ _ (again .sheet-is) (s .pre .0), s .pre .1)
+    record { formed = again .formed; many-is = total-is _ _ _ (again .sheet-is) (s .pre .0); room = s .pre .1 }
 
 same-length : tie.Need-same-length
 same-length c = search needs

@@ -24,16 +24,16 @@ point-is c =
     let after-record-place = after-point .before in
     let s = after-record-place .before .before .before in
     let at = rw (after-record-place .record-place .ensures) at (after-point .point .ensures) in
-    laid-point _ _ (s .pre .0) _ (s .pre .1 .known) (s .args .i) (s .pre .1 .low) _ _ (c .dimension-of .ensures .0) at
+    laid-point _ _ (s .pre .formed) _ (s .pre .element .known) (s .args .i) (s .pre .element .low) _ _ (c .dimension-of .ensures .0) at
 
 record-place-requires : tie.Need-record-place-requires
-record-place-requires c κs = laid _ _ (c .before .before .pre .0) _ (c .before .before .pre .1 .known) .low
+record-place-requires c κs = laid _ _ (c .before .before .pre .formed) _ (c .before .before .pre .element .known) .low
 
 point-requires : tie.Need-point-requires
 point-requires c κs =
     let s = c .before .before .before in
-    let l = laid _ _ (s .pre .0) _ (s .pre .1 .known) in
-    rw (c .record-place .ensures) (l .recorded, rw (l .box-is) (omega (arith, l .few)), rw (l .box-is) (s .pre .1 .low))
+    let l = laid _ _ (s .pre .formed) _ (s .pre .element .known) in
+    rw (c .record-place .ensures) (l .recorded, rw (l .box-is) (omega (arith, l .few)), rw (l .box-is) (s .pre .element .low))
 
 dimension-of-requires : tie.Need-dimension-of-requires
 dimension-of-requires c κs = search needs
@@ -43,9 +43,9 @@ name-requires c κs =
     let after-record-place = c .before .before .before in
     let s = after-record-place .before .before .before in
     let place = after-record-place .record-place .ensures in
-    let l = laid _ _ (s .pre .0) _ (s .pre .1 .known) in (
+    let l = laid _ _ (s .pre .formed) _ (s .pre .element .known) in (
       rw place (omega (arith, l .recorded .fields)),
-      omega (arith, name-length (s .args .s .now) (after-record-place .record-place .result), s .pre .2),
+      omega (arith, name-length (s .args .s .now) (after-record-place .record-place .result), s .pre .room),
     )
 
 coordinates-requires : tie.Need-coordinates-requires
@@ -55,9 +55,9 @@ coordinates-requires c κs =
     let after-record-place = after-dimension-of .before .before in
     let s = after-record-place .before .before .before in
     let is = ap length (point-is after-dimension-of) in
-    let few = laid-length _ _ (s .pre .0) _ (s .pre .1 .known) (s .args .i) (s .pre .1 .low) in
+    let few = laid-length _ _ (s .pre .formed) _ (s .pre .element .known) (s .args .i) (s .pre .element .low) in
     let name = name-length (s .args .s .now) (after-record-place .record-place .result) in
-    (after-dimension-of .dimension-of .ensures .1, omega (arith, is, few, name, after-name .name .ensures .ends, s .pre .2))
+    (after-dimension-of .dimension-of .ensures .1, omega (arith, is, few, name, after-name .name .ensures .ends, s .pre .room))
 
 same-length : tie.Need-same-length
 same-length c = search needs
@@ -70,10 +70,10 @@ returns c =
     let after-record-place = after-dimension-of .before .before in
     let s = after-record-place .before .before .before in
     let is = point-is after-dimension-of in
-    let few = laid-length _ _ (s .pre .0) _ (s .pre .1 .known) (s .args .i) (s .pre .1 .low) in
+    let few = laid-length _ _ (s .pre .formed) _ (s .pre .element .known) (s .args .i) (s .pre .element .low) in
     let name = name-length (s .args .s .now) (after-record-place .record-place .result) in
     let named = rw (after-record-place .record-place .ensures) at (after-name .name .ensures) in
-    let first = wrote-is (laid-name _ _ (s .pre .0) _ (s .pre .1 .known)) named in
+    let first = wrote-is (laid-name _ _ (s .pre .formed) _ (s .pre .element .known)) named in
     let rest = after-coordinates .coordinates .ensures in
     (wrote-more _ _ _ _ _ first _ _ _ (wrote-is is rest), omega (arith, ap length is, few, name, after-name .name .ensures .ends, rest .ends))
 

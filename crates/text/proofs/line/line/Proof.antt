@@ -26,7 +26,7 @@ use Rattle.text.proofs.line.line.Tie as tie
 number-low : (c : tie.After-first-element) → c .first-element .result + c .before .before .before .args .i < 4096
 number-low c =
     let s = c .before .before .before in
-    rw (c .first-element .ensures) (laid-number _ _ (s .pre .0) _ (s .pre .1 .known) (s .args .i) (s .pre .1 .low))
+    rw (c .first-element .ensures) (laid-number _ _ (s .pre .formed) _ (s .pre .element .known) (s .args .i) (s .pre .element .low))
 
 -- its number is that of the definition
 number-is : (c : tie.After-first-element) →
@@ -34,7 +34,7 @@ number-is : (c : tie.After-first-element) →
     ≡ before (sheetOf (c .before .before .before .args .s .now)) (c .before .before .before .args .v) + c .before .before .before .args .i
 number-is c =
     let s = c .before .before .before in
-    ap (λ n. n + s .args .i) (c .first-element .ensures ∙ laid _ _ (s .pre .0) _ (s .pre .1 .known) .first-is)
+    ap (λ n. n + s .args .i) (c .first-element .ensures ∙ laid _ _ (s .pre .formed) _ (s .pre .element .known) .first-is)
 
 -- its code
 abbrev code-of : (c : tie.After-first-element) → ℕ
@@ -60,13 +60,13 @@ outcome-is c =
     let after-first-element = after-of32-arg .before .before in
     let s = after-first-element .before .before .before in
     let n = after-first-element .first-element .result + s .args .i in
-    let sort = laid-sort (s .args .s .now) _ (s .pre .0) (s .args .v) (s .pre .1 .known) (c .sort-of .result) (c .sort-of .ensures .0) in
+    let sort = laid-sort (s .args .s .now) _ (s .pre .formed) (s .args .v) (s .pre .element .known) (c .sort-of .result) (c .sort-of .ensures .0) in
     let x = after-of32 .of32 in
     let value : x .result .v ≡ getD (s .args .values .now) n (pos 0) = x .ensures .0 ∙ toZ-ofZ (sfits-of (after-of32-arg .of32-arg .given)) in
     rw (value, number-is after-first-element, sort)
 
 first-element-requires : tie.Need-first-element-requires
-first-element-requires c κs = omega (arith, laid _ _ (c .before .before .pre .0) _ (c .before .before .pre .1 .known) .low)
+first-element-requires c κs = omega (arith, laid _ _ (c .before .before .pre .formed) _ (c .before .before .pre .element .known) .low)
 
 add-n : tie.Need-add-n
 add-n c = omega (arith, number-low c)
@@ -99,7 +99,7 @@ outcome-requires c κs =
     let sort = after-sort-of .sort-of in
     let x = after-of32 .of32 in
     let few = outcome-length (sortOf (sort .result)) (code-of after-first-element) (x .result .v) (x .ensures .1) in
-    (sort .ensures .1, omega (arith, few, after-element .element .ensures .1, s .pre .2))
+    (sort .ensures .1, omega (arith, few, after-element .element .ensures .1, s .pre .room))
 
 byte-requires : tie.Need-byte-requires
 byte-requires c κs =
@@ -114,7 +114,7 @@ byte-requires c κs =
     let x = after-of32 .of32 in
     let few = outcome-length (sortOf (after-sort-of .sort-of .result)) (code-of after-first-element) (x .result .v) (x .ensures .1) in
     let end = after-outcome .outcome .ensures .ends in
-    omega (arith, few, after-element .element .ensures .1, end, after-out .out .given, after-out2 .out2 .given, s .pre .2)
+    omega (arith, few, after-element .element .ensures .1, end, after-out .out .given, after-out2 .out2 .given, s .pre .room)
 
 same-length : tie.Need-same-length
 same-length c = search needs

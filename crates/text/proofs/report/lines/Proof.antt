@@ -52,7 +52,7 @@ variable-lines-requires c κs =
     let l = at-loop .loop in
     let fits = before-fits (sheetOf (s .args .s .now)) (l .v) (low-in in-loop) in
     let known : l .v < varsOf (s .args .s .now) = omega (arith, count-is after-variable-count, in-loop .loop-test .taken) in
-    (s .pre .0, known, omega (arith, l .inv .0 .sized, l .inv .1, fits, s .pre .1))
+    record { formed = s .pre .0; known = known; room = omega (arith, l .inv .0 .sized, l .inv .1, fits, s .pre .1) }
 
 add-v : tie.Need-add-v Inv-loop μ-loop
 add-v c =

@@ -14,7 +14,7 @@ use Rattle.text.proofs.report.report.Tie as tie
 
 -- the total has at most four digits
 total-short : (c : tie.Start) → length (natText (c .args .total)) ≤ 4
-total-short c = natText-length (c .args .total) 3 (omega (arith, c .pre .1, laid-total _ _ (c .pre .0 .placed)))
+total-short c = natText-length (c .args .total) 3 (omega (arith, c .pre .many-is, laid-total _ _ (c .pre .formed .placed)))
 
 slice-aggregate-word : tie.Need-slice-aggregate-word
 slice-aggregate-word c = search needs
@@ -26,14 +26,14 @@ natural-requires : tie.Need-natural-requires
 natural-requires c κs =
     let after-word = c .before .before .before in
     let s = after-word .before .before .before .before .before in
-    omega (arith, total-short s, after-word .word .ensures .ends, s .pre .2)
+    omega (arith, total-short s, after-word .word .ensures .ends, s .pre .room)
 
 byte-requires : tie.Need-byte-requires
 byte-requires c κs =
     let after-natural = c .before .before .before in
     let after-word = after-natural .before .before .before .before in
     let s = after-word .before .before .before .before .before in
-    omega (arith, total-short s, after-word .word .ensures .ends, after-natural .natural .ensures .ends, s .pre .2)
+    omega (arith, total-short s, after-word .word .ensures .ends, after-natural .natural .ensures .ends, s .pre .room)
 
 lines-requires : tie.Need-lines-requires
 lines-requires c κs =
@@ -43,8 +43,8 @@ lines-requires c κs =
     let s = after-word .before .before .before .before .before in
     let opened = after-word .word .ensures .ends in
     let counted = after-natural .natural .ensures .ends in
-    let few = laid-total _ _ (s .pre .0 .placed) in
-    (s .pre .0, omega (arith, total-short s, opened, counted, after-byte .byte .ensures .ends, few, s .pre .2))
+    let few = laid-total _ _ (s .pre .formed .placed) in
+    (s .pre .formed, omega (arith, total-short s, opened, counted, after-byte .byte .ensures .ends, few, s .pre .room))
 
 same-length : tie.Need-same-length
 same-length c = search needs
@@ -57,11 +57,11 @@ returns c =
     let after-natural = after-byte .before .before .before .before in
     let after-word = after-natural .before .before .before .before in
     let s = after-word .before .before .before .before .before in
-    let number = wrote-is (ap natText (s .pre .1)) (after-natural .natural .ensures) in
+    let number = wrote-is (ap natText (s .pre .many-is)) (after-natural .natural .ensures) in
     let counted = wrote-more _ _ _ _ _ (after-word .word .ensures) _ _ _ number in
     let first = wrote-more _ _ _ _ _ counted _ _ _ (after-byte .byte .ensures) in
     let rest = after-lines .lines .ensures in
-    let few = laid-total _ _ (s .pre .0 .placed) in
+    let few = laid-total _ _ (s .pre .formed .placed) in
     let ends = first .ends in
     (wrote-more _ _ _ _ _ first _ _ _ (rest .0), omega (arith, ends, rest .1, few, total-short s))
 

@@ -31,7 +31,7 @@ size-is : (c : tie.After-first-element2 Inv-loop μ-loop) →
     ≡ Box.size (variable (sheetOf (c .before .before .before .before .args .s .now)) (c .before .before .before .before .args .v) .head .box)
 size-is c =
     let s = c .before .before .before .before in
-    let l = laid _ _ (s .pre .0) _ (s .pre .1) in
+    let l = laid _ _ (s .pre .formed) _ (s .pre .known) in
     omega (arith, l .first-is, l .last-is, c .before .first-element .ensures, c .first-element2 .ensures)
 
 -- the point is one of them
@@ -42,22 +42,22 @@ low-in : (c : tie.In-loop Inv-loop μ-loop) →
 low-in c = omega (arith, size-is (c .before .before), c .loop-test .taken)
 
 first-element-requires : tie.Need-first-element-requires Inv-loop μ-loop
-first-element-requires c κs = omega (arith, laid _ _ (c .before .before .pre .0) _ (c .before .before .pre .1) .low)
+first-element-requires c κs = omega (arith, laid _ _ (c .before .before .pre .formed) _ (c .before .before .pre .known) .low)
 
 add-first-element : tie.Need-add-first-element Inv-loop μ-loop
 add-first-element c =
     let s = c .before .before .before in
-    omega (arith, laid _ _ (s .pre .0) _ (s .pre .1) .low)
+    omega (arith, laid _ _ (s .pre .formed) _ (s .pre .known) .low)
 
 first-element-requires-2 : tie.Need-first-element-requires-2 Inv-loop μ-loop
 first-element-requires-2 c κs =
     let s = c .before .before .before in
-    omega (arith, laid _ _ (s .pre .0) _ (s .pre .1) .low)
+    omega (arith, laid _ _ (s .pre .formed) _ (s .pre .known) .low)
 
 sub-size : tie.Need-sub-size Inv-loop μ-loop
 sub-size c =
     let s = c .before .before .before .before in
-    let l = laid _ _ (s .pre .0) _ (s .pre .1) in
+    let l = laid _ _ (s .pre .formed) _ (s .pre .known) in
     omega (arith, l .first-is, l .last-is, c .before .first-element .ensures, c .first-element2 .ensures)
 
 loop-holds : tie.Need-loop-holds Inv-loop μ-loop
@@ -74,11 +74,12 @@ line-requires c κs =
     let after-first-element2 = at-loop .before in
     let s = after-first-element2 .before .before .before .before in
     let l = at-loop .loop in
-    let many = size-is after-first-element2 in (
-      s .pre .0,
-      record { known = s .pre .1; low = low-in in-loop },
-      omega (arith, l .inv .0 .sized, l .inv .1, many, in-loop .loop-test .taken, s .pre .2),
-    )
+    let many = size-is after-first-element2 in
+    record {
+      formed = s .pre .formed;
+      element = record { known = s .pre .known; low = low-in in-loop };
+      room = omega (arith, l .inv .0 .sized, l .inv .1, many, in-loop .loop-test .taken, s .pre .room);
+    }
 
 add-i : tie.Need-add-i Inv-loop μ-loop
 add-i c =
