@@ -105,31 +105,39 @@ returns-6 c =
     values-runs _ _ _ _ _ (admits j .sheet-is) (taken (c .before .before)) _ (many j) (c .before .if2 .left) (c .if3 .taken) _ refl
 
 keep-all-requires : tie.Need-keep-all-requires
-keep-all-requires c κs = (admits (c .before .before .before .before .before .before .before .before .before) .formed .placed, no-end-kept _)
+keep-all-requires c κs =
+    let at-judged = c .before .before .before .before .before .before .before .before .before in
+    (admits at-judged .formed .placed, no-end-kept _)
 
 start-requires : tie.Need-start-requires
 start-requires c κs =
-    let a = admits (c .before .before .before .before .before .before .before .before .before .before .before .before .before) in
-    (record { formed = a .formed; inside-is = a .filled; many = inputs-length _ _ (sym (taken (c .before .before .before .before .before .before .before .before))) }, started-none _ _)
+    let at-enum-told3 = c .before .before .before .before .before .before .before .before in
+    let at-judged = at-enum-told3 .before .before .before .before .before in
+    let a = admits at-judged in
+    (record { formed = a .formed; inside-is = a .filled; many = inputs-length _ _ (sym (taken at-enum-told3)) }, started-none _ _)
 
 fill-all-requires : tie.Need-fill-all-requires
 fill-all-requires c κs =
-    let j = c .before .before .before .before .before .before .before .before .before .before .before .before .before .before .before .before .before .before .before .before in
+    let at-start = c .before .before .before .before .before .before in
+    let at-keep-all = at-start .before .before .before .before in
+    let at-else3 = at-keep-all .before .before .before in
+    let at-else2 = at-else3 .before in
+    let j = at-else2 .before .before .before .before .before .before in
     let a = admits j in
-    let S = c .before .before .before .before .before .before .start .ensures in
+    let S = at-start .start .ensures in
     let few = laid-total _ _ (a .formed .placed) in
     let n = many j in
     let covered = accepted-covered _ (a .sheet-is) in (
       record {
         formed = a .formed;
         inside-is = a .filled;
-        ends-kept = c .before .before .before .before .before .before .before .before .before .before .keep-all .ensures;
+        ends-kept = at-keep-all .keep-all .ensures;
         ready = started-ready _ _ _ few S covered;
       },
       record {
         idle = started-idle _ _ _ few S;
-        in-codes = omega (arith, n, c .before .before .before .before .before .before .before .before .before .before .before .before .before .before .if2 .left);
-        in-values = omega (arith, n, c .before .before .before .before .before .before .before .before .before .before .before .before .before .if3 .left);
+        in-codes = omega (arith, n, at-else2 .if2 .left);
+        in-values = omega (arith, n, at-else3 .if3 .left);
       },
     )
 
@@ -141,11 +149,16 @@ same-length-2 c = search needs
 
 returns-7 : tie.Need-returns-7
 returns-7 c =
-    let j = c .before .before .before .before .before .before .before .before .before .before .before .before .before .before .before .before .before .before .before .before .before .before .before .before in
+    let at-fill-all = c .before .before .before in
+    let at-start = at-fill-all .before .before .before .before .before .before .before in
+    let at-else3 = at-start .before .before .before .before .before .before .before in
+    let at-else2 = at-else3 .before in
+    let at-enum-told3 = at-else2 .before in
+    let j = at-enum-told3 .before .before .before .before .before in
     let a = admits j in
     let few = laid-total _ _ (a .formed .placed) in
-    all-runs _ _ _ _ _ (a .sheet-is) (taken (c .before .before .before .before .before .before .before .before .before .before .before .before .before .before .before .before .before .before .before)) _ (many j) (c .before .before .before .before .before .before .before .before .before .before .before .before .before .before .before .before .before .before .if2 .left) (c .before .before .before .before .before .before .before .before .before .before .before .before .before .before .before .before .before .if3 .left) _
-    (started-right _ _ _ few (c .before .before .before .before .before .before .before .before .before .before .start .ensures)) _ _ (c .before .before .before .fill-all .ensures)
+    all-runs _ _ _ _ _ (a .sheet-is) (taken at-enum-told3) _ (many j) (at-else2 .if2 .left) (at-else3 .if3 .left) _
+    (started-right _ _ _ few (at-start .start .ensures)) _ _ (at-fill-all .fill-all .ensures)
 
 pub run-spec : {M : Type 1} → statement M
 run-spec =

@@ -253,14 +253,16 @@ branch-expression-requires t c κs =
 
 branch-end-of-requires : (t : ℕ) → branch-lts.Need-end-of-requires (branch-uses t) (branch-at t) branch.Post
 branch-end-of-requires t c κs =
-    let p = c .before .before .before .before .pre .1 in
+    let s = c .before .before .before .before in
+    let p = s .pre .1 in
     (held-standing _ _ _ _ (p .1 .held), p .0 .ends-kept)
 
 branch-returns : (t : ℕ) → branch-lts.Need-returns (branch-uses t) (branch-at t) branch.Post
 branch-returns t c =
-    let s = c .before .before .before .before .before in
+    let at-holding = c .before .before .before in
+    let s = at-holding .before .before in
     let a = c .before .expression .ensures in
-    branch-way _ _ (s .args .z) _ (s .pre .1 .1 .class-is) _ (c .before .before .before .holding .ensures) _ _ _ a _ (c .end-of .ensures)
+    branch-way _ _ (s .args .z) _ (s .pre .1 .1 .class-is) _ (at-holding .holding .ensures) _ _ _ a _ (c .end-of .ensures)
 
 dependence-sub-n : (t : ℕ) → dependence-lts.Need-sub-n (dependence-uses t) (dependence-at t) dependence.Post
 dependence-sub-n t c = omega (arith, held-some _ _ _ _ (c .before .pre .1 .1 .held))
@@ -293,8 +295,9 @@ dependence-expression-requires t c κs =
 
 dependence-returns : (t : ℕ) → dependence-lts.Need-returns (dependence-uses t) (dependence-at t) dependence.Post
 dependence-returns t c =
-    let s = c .before .before .before .before .before in
-    let image = c .before .before .before .image-at in
+    let at-image-at = c .before .before .before in
+    let s = at-image-at .before .before in
+    let image = at-image-at .image-at in
     image-way _ _ (s .args .z) (s .pre .1 .1 .class-is) _ (c .before .before .node-end .ensures) (image .result) (image .ensures) _ _ _
     (c .expression .ensures)
 
@@ -311,7 +314,8 @@ element-enum-told-2 t c = search needs
 
 element-returns : (t : ℕ) → element-lts.Need-returns (element-uses t) (element-at t) element.Post
 element-returns t c =
-    let p = c .before .before .before .before .before .pre .1 in
+    let s = c .before .before .before .before .before in
+    let p = s .pre .1 in
     known-answer _ _ (p .0 .formed) _ _ _ (p .1) _ (p .0 .ready) _ (c .before .before .known .ensures) _ (c .enum-told2 .given .1)
 
 -- the memo has no outcome of the element
@@ -319,32 +323,39 @@ element-late : (t : ℕ) (c : element-lts.After-enum-told (element-uses t) (elem
     let s = c .before .before .before .before .before in
     Memo.unknown ≤ Memo.codeAt (memoOf (now (s .args .memo))) (s .args .e)
 element-late t c =
-    let p = c .before .before .before .before .before .pre .1 in
+    let s = c .before .before .before .before .before in
+    let p = s .pre .1 in
     late-code _ _ (p .0 .formed) _ _ _ (p .1) _ (p .0 .ready) _ (c .before .before .known .ensures) _ (c .enum-told .given .1)
 
 element-returns-2 : (t : ℕ) → element-lts.Need-returns-2 (element-uses t) (element-at t) element.Post
 element-returns-2 t c =
-    let p = c .before .before .before .before .before .before .pre .1 in
     let told = c .before in
-    deep-answer _ _ (p .0 .formed) _ _ _ (p .1) _ (p .0 .ready) (element-late t told) _ (c .before .before .before .known .ensures) _ (told .enum-told .given .1)
+    let at-known = told .before .before in
+    let s = at-known .before .before .before in
+    let p = s .pre .1 in
+    deep-answer _ _ (p .0 .formed) _ _ _ (p .1) _ (p .0 .ready) (element-late t told) _ (at-known .known .ensures) _ (told .enum-told .given .1)
 
 element-mark-requires : (t : ℕ) → element-lts.Need-mark-requires (element-uses t) (element-at t) element.Post
 element-mark-requires t c κs =
-    let p = c .before .before .before .before .before .before .before .pre .1 in
+    let s = c .before .before .before .before .before .before .before in
+    let p = s .pre .1 in
     omega (arith, element-low _ _ (p .0 .formed) _ _ _ (p .1), p .0 .ready .few)
 
 element-body-place-requires : (t : ℕ) → element-lts.Need-body-place-requires (element-uses t) (element-at t) element.Post
 element-body-place-requires t c κs =
-    let p = c .before .before .before .before .before .before .before .before .pre .1 in
+    let s = c .before .before .before .before .before .before .before .before in
+    let p = s .pre .1 in
     omega (arith, laid-variable _ _ (p .0 .formed .placed) _ (p .1 .known) .low)
 
 element-expression-requires : (t : ℕ) → element-lts.Need-expression-requires (element-uses t) (element-at t) element.Post
 element-expression-requires t c κs =
-    let s = c .before .before .before .before .before .before .before .before .before .before in
+    let at-else1 = c .before .before .before .before in
+    let at-enum-told = at-else1 .before in
+    let s = at-enum-told .before .before .before .before .before in
     let p = s .pre .1 in
     let is = s .pre .0 in
-    let some = c .before .before .before .before .if1 .left in
-    let late = element-late t (c .before .before .before .before .before) in
+    let some = at-else1 .if1 .left in
+    let late = element-late t at-enum-told in
     let marked = ready-marked _ _ (p .0 .formed) _ _ _ (p .1) _ (p .0 .ready) late in
     let ready = subst (Ready (sheetOf (now (s .args .s)))) (sym (c .before .before .mark .ensures)) marked in
     let held = open-held _ _ (p .0 .formed) _ _ _ (p .1) _ (p .0 .ready) late _ (c .before .body-place .ensures) in
@@ -356,26 +367,32 @@ element-body : (t : ℕ) (c : element-lts.After-expression (element-uses t) (ele
     EvaluatesAt (now (s .args .s)) (c .before .before .body-place .result) (s .args .z)
     (noted (memoOf (now (s .args .memo))) (s .args .e) busy (pos 0)) (memoOf (c .expression .last .1 .1 .1 .1 .0)) (c .expression .result)
 element-body t c =
-    let s = c .before .before .before .before .before .before .before .before .before .before .before in
+    let at-mark = c .before .before .before in
+    let s = at-mark .before .before .before .before .before .before .before .before in
     subst (λ m. EvaluatesAt (now (s .args .s)) (c .before .before .body-place .result) (s .args .z) m
     (memoOf (c .expression .last .1 .1 .1 .1 .0)) (c .expression .result))
-    (c .before .before .before .mark .ensures) (c .expression .ensures)
+    (at-mark .mark .ensures) (c .expression .ensures)
 
 element-note-requires : (t : ℕ) → element-lts.Need-note-requires (element-uses t) (element-at t) element.Post
 element-note-requires t c κs =
-    let p = c .before .before .before .before .before .before .before .before .before .before .before .before .pre .1 in
-    let late = element-late t (c .before .before .before .before .before .before .before) in
-    let place = c .before .before .before .body-place .ensures in
+    let at-body-place = c .before .before .before in
+    let at-enum-told = at-body-place .before .before .before .before in
+    let s = at-enum-told .before .before .before .before .before in
+    let p = s .pre .1 in
+    let late = element-late t at-enum-told in
+    let place = at-body-place .body-place .ensures in
     let body = body-done _ _ (p .0 .formed) _ _ _ (p .1) _ (p .0 .ready) late _ place _ _ (element-body t (c .before)) in
     (omega (arith, element-low _ _ (p .0 .formed) _ _ _ (p .1), p .0 .ready .few), body .small)
 
 element-returns-3 : (t : ℕ) → element-lts.Need-returns-3 (element-uses t) (element-at t) element.Post
 element-returns-3 t c =
-    let s = c .before .before .before .before .before .before .before .before .before .before .before .before .before in
-    let p = s .pre .1 in
-    let late = element-late t (c .before .before .before .before .before .before .before .before) in
-    let place = c .before .before .before .before .body-place .ensures in
     let at-expression = c .before .before in
+    let at-body-place = at-expression .before .before in
+    let at-enum-told = at-body-place .before .before .before .before in
+    let s = at-enum-told .before .before .before .before .before in
+    let p = s .pre .1 in
+    let late = element-late t at-enum-told in
+    let place = at-body-place .body-place .ensures in
     let worked = worked-way _ _ (p .0 .formed) _ _ _ (p .1) _ (p .0 .ready) late _ place _ _ (element-body t at-expression) in
     let sheet = sheetOf (now (s .args .s)) in
     subst (λ m. WorksOut sheet (memoOf (now (s .args .memo))) m (λ ins. Memo.element (outcomes sheet ins) (s .args .e)) (at-expression .expression .result .out))
@@ -389,9 +406,10 @@ expression-enum-told t c = search needs
 
 expression-leaf-requires : (t : ℕ) → expression-lts.Need-leaf-requires (expression-uses t) (expression-at t) expression.Post
 expression-leaf-requires t c κs =
-    let s = c .before .before .before .before .before in
+    let at-class-of = c .before .before .before in
+    let s = at-class-of .before .before in
     let is = s .pre .0 in
-    let class = sym (c .before .before .before .class-of .ensures) ∙ c .before .enum-told .given .1 in
+    let class = sym (at-class-of .class-of .ensures) ∙ c .before .enum-told .given .1 in
     (omega arith, (s .pre .1 .0, record { held = s .pre .1 .1; class-is = class }))
 
 expression-enum-told-2 : (t : ℕ) → expression-lts.Need-enum-told-2 (expression-uses t) (expression-at t) expression.Post
@@ -399,9 +417,10 @@ expression-enum-told-2 t c = search needs
 
 expression-operator-requires : (t : ℕ) → expression-lts.Need-operator-requires (expression-uses t) (expression-at t) expression.Post
 expression-operator-requires t c κs =
-    let s = c .before .before .before .before .before in
+    let at-class-of = c .before .before .before in
+    let s = at-class-of .before .before in
     let is = s .pre .0 in
-    let class = sym (c .before .before .before .class-of .ensures) ∙ c .before .enum-told2 .given .1 in
+    let class = sym (at-class-of .class-of .ensures) ∙ c .before .enum-told2 .given .1 in
     (omega arith, (s .pre .1 .0, record { held = s .pre .1 .1; class-is = class }))
 
 expression-enum-told-3 : (t : ℕ) → expression-lts.Need-enum-told-3 (expression-uses t) (expression-at t) expression.Post
@@ -409,9 +428,10 @@ expression-enum-told-3 t c = search needs
 
 expression-branch-requires : (t : ℕ) → expression-lts.Need-branch-requires (expression-uses t) (expression-at t) expression.Post
 expression-branch-requires t c κs =
-    let s = c .before .before .before .before .before in
+    let at-class-of = c .before .before .before in
+    let s = at-class-of .before .before in
     let is = s .pre .0 in
-    let class = sym (c .before .before .before .class-of .ensures) ∙ c .before .enum-told3 .given .1 in
+    let class = sym (at-class-of .class-of .ensures) ∙ c .before .enum-told3 .given .1 in
     (omega arith, (s .pre .1 .0, record { held = s .pre .1 .1; class-is = class }))
 
 expression-enum-told-4 : (t : ℕ) → expression-lts.Need-enum-told-4 (expression-uses t) (expression-at t) expression.Post
@@ -419,9 +439,10 @@ expression-enum-told-4 t c = search needs
 
 expression-restriction-requires : (t : ℕ) → expression-lts.Need-restriction-requires (expression-uses t) (expression-at t) expression.Post
 expression-restriction-requires t c κs =
-    let s = c .before .before .before .before .before in
+    let at-class-of = c .before .before .before in
+    let s = at-class-of .before .before in
     let is = s .pre .0 in
-    let class = sym (c .before .before .before .class-of .ensures) ∙ c .before .enum-told4 .given .1 in
+    let class = sym (at-class-of .class-of .ensures) ∙ c .before .enum-told4 .given .1 in
     (omega arith, (s .pre .1 .0, record { held = s .pre .1 .1; class-is = class }))
 
 expression-enum-told-5 : (t : ℕ) → expression-lts.Need-enum-told-5 (expression-uses t) (expression-at t) expression.Post
@@ -429,9 +450,10 @@ expression-enum-told-5 t c = search needs
 
 expression-dependence-requires : (t : ℕ) → expression-lts.Need-dependence-requires (expression-uses t) (expression-at t) expression.Post
 expression-dependence-requires t c κs =
-    let s = c .before .before .before .before .before in
+    let at-class-of = c .before .before .before in
+    let s = at-class-of .before .before in
     let is = s .pre .0 in
-    let class = sym (c .before .before .before .class-of .ensures) ∙ c .before .enum-told5 .given .1 in
+    let class = sym (at-class-of .class-of .ensures) ∙ c .before .enum-told5 .given .1 in
     (omega arith, (s .pre .1 .0, record { held = s .pre .1 .1; class-is = class }))
 
 expression-returns : (t : ℕ) → expression-lts.Need-returns (expression-uses t) (expression-at t) expression.Post
@@ -461,35 +483,44 @@ leaf-enum-told t c = search needs
 
 leaf-variable-requires : (t : ℕ) → leaf-lts.Need-variable-requires (leaf-uses t) (leaf-at t) leaf.Post
 leaf-variable-requires t c κs =
-    let s = c .before .before .before .before .before in
+    let at-leaf-of = c .before .before .before in
+    let s = at-leaf-of .before .before in
     let is = s .pre .0 in
-    let code = c .before .before .before .leaf-of .ensures ∙ ap leafCode (c .before .enum-told .given .1) in
+    let code = at-leaf-of .leaf-of .ensures ∙ ap leafCode (c .before .enum-told .given .1) in
     (omega arith, (s .pre .1 .0, record { leaf = s .pre .1 .1; code-is = code }))
 
 leaf-enum-told-2 : (t : ℕ) → leaf-lts.Need-enum-told-2 (leaf-uses t) (leaf-at t) leaf.Post
 leaf-enum-told-2 t c = search needs
 
 leaf-constant-requires : (t : ℕ) → leaf-lts.Need-constant-requires (leaf-uses t) (leaf-at t) leaf.Post
-leaf-constant-requires t c κs = leaf-noded t (c .before .before .before .before)
+leaf-constant-requires t c κs =
+    let s = c .before .before .before .before in
+    leaf-noded t s
 
 leaf-enum-told-3 : (t : ℕ) → leaf-lts.Need-enum-told-3 (leaf-uses t) (leaf-at t) leaf.Post
 leaf-enum-told-3 t c = search needs
 
 leaf-constant-requires-2 : (t : ℕ) → leaf-lts.Need-constant-requires-2 (leaf-uses t) (leaf-at t) leaf.Post
-leaf-constant-requires-2 t c κs = leaf-noded t (c .before .before .before .before)
+leaf-constant-requires-2 t c κs =
+    let s = c .before .before .before .before in
+    leaf-noded t s
 
 leaf-returns : (t : ℕ) → leaf-lts.Need-returns (leaf-uses t) (leaf-at t) leaf.Post
 leaf-returns t c = c .variable .ensures
 
 leaf-returns-2 : (t : ℕ) → leaf-lts.Need-returns-2 (leaf-uses t) (leaf-at t) leaf.Post
 leaf-returns-2 t c =
-    let code = c .before .before .before .leaf-of .ensures ∙ ap leafCode (c .before .enum-told2 .given .1) in
-    constant-way _ _ (c .before .before .before .before .before .args .z) (integer-at _ _ (c .before .before .before .before .before .args .z) code) _ _ (c .constant .ensures)
+    let at-leaf-of = c .before .before .before in
+    let s = at-leaf-of .before .before in
+    let code = at-leaf-of .leaf-of .ensures ∙ ap leafCode (c .before .enum-told2 .given .1) in
+    constant-way _ _ (s .args .z) (integer-at _ _ (s .args .z) code) _ _ (c .constant .ensures)
 
 leaf-returns-3 : (t : ℕ) → leaf-lts.Need-returns-3 (leaf-uses t) (leaf-at t) leaf.Post
 leaf-returns-3 t c =
-    let code = c .before .before .before .leaf-of .ensures ∙ ap leafCode (c .before .enum-told3 .given .1) in
-    constant-way _ _ (c .before .before .before .before .before .args .z) (boolean-at _ _ (c .before .before .before .before .before .args .z) code) _ _ (c .constant2 .ensures)
+    let at-leaf-of = c .before .before .before in
+    let s = at-leaf-of .before .before in
+    let code = at-leaf-of .leaf-of .ensures ∙ ap leafCode (c .before .enum-told3 .given .1) in
+    constant-way _ _ (s .args .z) (boolean-at _ _ (s .args .z) code) _ _ (c .constant2 .ensures)
 
 one-sub-n : (t : ℕ) → one-lts.Need-sub-n (one-uses t) (one-at t) one.Post
 one-sub-n t c =
@@ -519,36 +550,48 @@ one-enum-told t c = search needs
 
 one-returns : (t : ℕ) → one-lts.Need-returns (one-uses t) (one-at t) one.Post
 one-returns t c =
-    let s = c .before .before .before .before .before .before .before in
-    let a = c .before .before .before .expression .ensures in
-    one-back _ _ (s .args .z) (s .pre .1 .1 .code-is) _ (c .before .before .before .before .before .node-end .ensures) _ _ _ a (none-taken _ _ (c .before .before .value-in .ensures) (c .enum-told .given .1))
+    let at-expression = c .before .before .before in
+    let at-node-end = at-expression .before .before in
+    let s = at-node-end .before .before in
+    let a = at-expression .expression .ensures in
+    one-back _ _ (s .args .z) (s .pre .1 .1 .code-is) _ (at-node-end .node-end .ensures) _ _ _ a (none-taken _ _ (c .before .before .value-in .ensures) (c .enum-told .given .1))
 
 one-add-natural : (t : ℕ) → one-lts.Need-add-natural (one-uses t) (one-at t) one.Post
 one-add-natural t c =
-    let node = c .before .before .before .before .before .before .before .before .pre .1 .1 in
+    let s = c .before .before .before .before .before .before .before .before in
+    let node = s .pre .1 .1 in
     omega (arith, unary-there _ _ (held-noded _ _ _ _ (node .operator .held)) (node .code-is))
 
 one-natural-requires : (t : ℕ) → one-lts.Need-natural-requires (one-uses t) (one-at t) one.Post
 one-natural-requires t c κs =
-    let node = c .before .before .before .before .before .before .before .before .pre .1 .1 in
+    let s = c .before .before .before .before .before .before .before .before in
+    let node = s .pre .1 .1 in
     omega (arith, unary-there _ _ (held-noded _ _ _ _ (node .operator .held)) (node .code-is))
 
 one-unary-requires : (t : ℕ) → one-lts.Need-unary-requires (one-uses t) (one-at t) one.Post
 one-unary-requires t c κs =
-    let node = c .before .before .before .before .before .before .before .before .before .pre .1 .1 in
-    let next = c .before .before .before .before .before .before .before .node-end .ensures in
-    let x = value-taken _ _ (c .before .before .before .before .value-in .ensures) _ (c .before .before .p .given .1) in
+    let at-value-in = c .before .before .before .before in
+    let at-expression = at-value-in .before in
+    let at-node-end = at-expression .before .before in
+    let s = at-node-end .before .before in
+    let node = s .pre .1 .1 in
+    let next = at-node-end .node-end .ensures in
+    let x = value-taken _ _ (at-value-in .value-in .ensures) _ (c .before .before .p .given .1) in
     let below-it = only-operand _ _ _ _ _ next node in (
       omega (arith, unary-known _ _ (held-noded _ _ _ _ (node .operator .held)) (node .code-is), c .natural .ensures),
-      small-value _ _ _ _ below-it _ _ _ (c .before .before .before .before .before .expression .ensures) _ x,
+      small-value _ _ _ _ below-it _ _ _ (at-expression .expression .ensures) _ x,
     )
 
 one-returns-2 : (t : ℕ) → one-lts.Need-returns-2 (one-uses t) (one-at t) one.Post
 one-returns-2 t c =
-    let s = c .before .before .before .before .before .before .before .before .before .before in
-    let a = c .before .before .before .before .before .before .expression .ensures in
-    let x = value-taken _ _ (c .before .before .before .before .before .value-in .ensures) _ (c .before .before .before .p .given .1) in
-    one-way _ _ (s .args .z) (s .pre .1 .1 .code-is) _ (c .before .before .before .before .before .before .before .before .node-end .ensures) _ _ _ a _ _ _ x (c .before .natural .ensures) (c .unary .ensures)
+    let at-p = c .before .before .before in
+    let at-value-in = at-p .before .before in
+    let at-expression = at-value-in .before in
+    let at-node-end = at-expression .before .before in
+    let s = at-node-end .before .before in
+    let a = at-expression .expression .ensures in
+    let x = value-taken _ _ (at-value-in .value-in .ensures) _ (at-p .p .given .1) in
+    one-way _ _ (s .args .z) (s .pre .1 .1 .code-is) _ (at-node-end .node-end .ensures) _ _ _ a _ _ _ x (c .before .natural .ensures) (c .unary .ensures)
 
 operator-operator-of-requires : (t : ℕ) → operator-lts.Need-operator-of-requires (operator-uses t) (operator-at t) operator.Post
 operator-operator-of-requires t c κs =
@@ -560,9 +603,10 @@ operator-enum-told t c = search needs
 
 operator-one-requires : (t : ℕ) → operator-lts.Need-one-requires (operator-uses t) (operator-at t) operator.Post
 operator-one-requires t c κs =
-    let s = c .before .before .before .before .before in
+    let at-operator-of = c .before .before .before in
+    let s = at-operator-of .before .before in
     let is = s .pre .0 in
-    let code = c .before .before .before .operator-of .ensures ∙ ap operatorCode (c .before .enum-told .given .1) in
+    let code = at-operator-of .operator-of .ensures ∙ ap operatorCode (c .before .enum-told .given .1) in
     (omega arith, (s .pre .1 .0, record { operator = s .pre .1 .1; code-is = code }))
 
 operator-enum-told-2 : (t : ℕ) → operator-lts.Need-enum-told-2 (operator-uses t) (operator-at t) operator.Post
@@ -570,9 +614,10 @@ operator-enum-told-2 t c = search needs
 
 operator-two-requires : (t : ℕ) → operator-lts.Need-two-requires (operator-uses t) (operator-at t) operator.Post
 operator-two-requires t c κs =
-    let s = c .before .before .before .before .before in
+    let at-operator-of = c .before .before .before in
+    let s = at-operator-of .before .before in
     let is = s .pre .0 in
-    let code = c .before .before .before .operator-of .ensures ∙ ap operatorCode (c .before .enum-told2 .given .1) in
+    let code = at-operator-of .operator-of .ensures ∙ ap operatorCode (c .before .enum-told2 .given .1) in
     (omega arith, (s .pre .1 .0, record { operator = s .pre .1 .1; code-is = code }))
 
 operator-enum-told-3 : (t : ℕ) → operator-lts.Need-enum-told-3 (operator-uses t) (operator-at t) operator.Post
@@ -580,9 +625,10 @@ operator-enum-told-3 t c = search needs
 
 operator-three-requires : (t : ℕ) → operator-lts.Need-three-requires (operator-uses t) (operator-at t) operator.Post
 operator-three-requires t c κs =
-    let s = c .before .before .before .before .before in
+    let at-operator-of = c .before .before .before in
+    let s = at-operator-of .before .before in
     let is = s .pre .0 in
-    let code = c .before .before .before .operator-of .ensures ∙ ap operatorCode (c .before .enum-told3 .given .1) in
+    let code = at-operator-of .operator-of .ensures ∙ ap operatorCode (c .before .enum-told3 .given .1) in
     (omega arith, (s .pre .1 .0, record { operator = s .pre .1 .1; code-is = code }))
 
 operator-returns : (t : ℕ) → operator-lts.Need-returns (operator-uses t) (operator-at t) operator.Post
@@ -641,20 +687,25 @@ three-enum-told t c = search needs
 
 three-returns : (t : ℕ) → three-lts.Need-returns (three-uses t) (three-at t) three.Post
 three-returns t c =
-    let s = c .before .before .before .before .before .before .before in
-    let a = c .before .before .before .expression .ensures in
-    test-back _ _ (s .args .z) (s .pre .1 .1 .code-is) _ (c .before .before .before .before .before .node-end .ensures) _ _ _ a (none-taken _ _ (c .before .before .value-in .ensures) (c .enum-told .given .1))
+    let at-expression = c .before .before .before in
+    let at-node-end = at-expression .before .before in
+    let s = at-node-end .before .before in
+    let a = at-expression .expression .ensures in
+    test-back _ _ (s .args .z) (s .pre .1 .1 .code-is) _ (at-node-end .node-end .ensures) _ _ _ a (none-taken _ _ (c .before .before .value-in .ensures) (c .enum-told .given .1))
 
 three-expression-requires-2 : (t : ℕ) → three-lts.Need-expression-requires-2 (three-uses t) (three-at t) three.Post
 three-expression-requires-2 t c κs =
-    let s = c .before .before .before .before .before .before .before .before .before in
+    let at-value-in = c .before .before .before .before in
+    let at-expression = at-value-in .before in
+    let at-node-end = at-expression .before .before in
+    let s = at-node-end .before .before in
     let is = s .pre .0 in
     let node = s .pre .1 .1 in
-    let next = c .before .before .before .before .before .before .before .node-end .ensures in
+    let next = at-node-end .node-end .ensures in
     let some = held-some _ _ _ _ (node .operator .held) in
-    let a = c .before .before .before .before .before .expression .ensures in
+    let a = at-expression .expression .ensures in
     let test = test-operand _ _ _ _ _ next node in
-    let v = value-taken _ _ (c .before .before .before .before .value-in .ensures) _ (c .before .before .p .given .1) in
+    let v = value-taken _ _ (at-value-in .value-in .ensures) _ (c .before .before .p .given .1) in
     let tested = operand-ends _ _ _ _ test _ _ _ a _ v in
     (omega arith, (setting-after _ _ _ _ test _ _ _ a _ _ _ (s .pre .1 .0), first-arm _ _ _ _ _ next node _ tested))
 
@@ -669,27 +720,38 @@ three-enum-told-2 t c = search needs
 
 three-returns-2 : (t : ℕ) → three-lts.Need-returns-2 (three-uses t) (three-at t) three.Post
 three-returns-2 t c =
-    let s = c .before .before .before .before .before .before .before .before .before .before .before .before .before in
-    let a = c .before .before .before .before .before .before .before .before .before .expression .ensures in
-    let v = value-taken _ _ (c .before .before .before .before .before .before .before .before .value-in .ensures) _ (c .before .before .before .before .before .before .p .given .1) in
-    let b = c .before .before .before .expression2 .ensures in
-    first-back _ _ (s .args .z) (s .pre .1 .1 .code-is) _ (c .before .before .before .before .before .before .before .before .before .before .before .node-end .ensures) _ _ _ a _ v _ _ b
+    let at-expression2 = c .before .before .before in
+    let at-p = at-expression2 .before .before .before in
+    let at-value-in = at-p .before .before in
+    let at-expression = at-value-in .before in
+    let at-node-end = at-expression .before .before in
+    let s = at-node-end .before .before in
+    let a = at-expression .expression .ensures in
+    let v = value-taken _ _ (at-value-in .value-in .ensures) _ (at-p .p .given .1) in
+    let b = at-expression2 .expression2 .ensures in
+    first-back _ _ (s .args .z) (s .pre .1 .1 .code-is) _ (at-node-end .node-end .ensures) _ _ _ a _ v _ _ b
     (none-taken _ _ (c .before .before .value-in2 .ensures) (c .enum-told2 .given .1))
 
 three-expression-requires-3 : (t : ℕ) → three-lts.Need-expression-requires-3 (three-uses t) (three-at t) three.Post
 three-expression-requires-3 t c κs =
-    let s = c .before .before .before .before .before .before .before .before .before .before .before .before .before .before .before in
+    let at-value-in2 = c .before .before .before .before in
+    let at-expression2 = at-value-in2 .before in
+    let at-p = at-expression2 .before .before .before in
+    let at-value-in = at-p .before .before in
+    let at-expression = at-value-in .before in
+    let at-node-end = at-expression .before .before in
+    let s = at-node-end .before .before in
     let is = s .pre .0 in
     let node = s .pre .1 .1 in
-    let next = c .before .before .before .before .before .before .before .before .before .before .before .before .before .node-end .ensures in
+    let next = at-node-end .node-end .ensures in
     let some = held-some _ _ _ _ (node .operator .held) in
-    let a = c .before .before .before .before .before .before .before .before .before .before .before .expression .ensures in
+    let a = at-expression .expression .ensures in
     let test = test-operand _ _ _ _ _ next node in
-    let v = value-taken _ _ (c .before .before .before .before .before .before .before .before .before .before .value-in .ensures) _ (c .before .before .before .before .before .before .before .before .p .given .1) in
+    let v = value-taken _ _ (at-value-in .value-in .ensures) _ (at-p .p .given .1) in
     let tested = operand-ends _ _ _ _ test _ _ _ a _ v in
-    let b = c .before .before .before .before .before .expression2 .ensures in
+    let b = at-expression2 .expression2 .ensures in
     let first = first-arm _ _ _ _ _ next node _ tested in
-    let x = value-taken _ _ (c .before .before .before .before .value-in2 .ensures) _ (c .before .before .q .given .1) in
+    let x = value-taken _ _ (at-value-in2 .value-in2 .ensures) _ (c .before .before .q .given .1) in
     let then = operand-ends _ _ _ _ first _ _ _ b _ x in
     let setting = setting-after _ _ _ _ first _ _ _ b _ _ _ (setting-after _ _ _ _ test _ _ _ a _ _ _ (s .pre .1 .0)) in
     (omega arith, (setting, second-arm _ _ _ _ _ next node _ tested _ then))
@@ -705,13 +767,21 @@ three-enum-told-3 t c = search needs
 
 three-returns-3 : (t : ℕ) → three-lts.Need-returns-3 (three-uses t) (three-at t) three.Post
 three-returns-3 t c =
-    let s = c .before .before .before .before .before .before .before .before .before .before .before .before .before .before .before .before .before .before .before in
-    let a = c .before .before .before .before .before .before .before .before .before .before .before .before .before .before .before .expression .ensures in
-    let v = value-taken _ _ (c .before .before .before .before .before .before .before .before .before .before .before .before .before .before .value-in .ensures) _ (c .before .before .before .before .before .before .before .before .before .before .before .before .p .given .1) in
-    let b = c .before .before .before .before .before .before .before .before .before .expression2 .ensures in
-    let x = value-taken _ _ (c .before .before .before .before .before .before .before .before .value-in2 .ensures) _ (c .before .before .before .before .before .before .q .given .1) in
-    let d = c .before .before .before .expression3 .ensures in
-    second-back _ _ (s .args .z) (s .pre .1 .1 .code-is) _ (c .before .before .before .before .before .before .before .before .before .before .before .before .before .before .before .before .before .node-end .ensures) _ _ _ a _ v _ _ b _ x _ _ d
+    let at-expression3 = c .before .before .before in
+    let at-q = at-expression3 .before .before .before in
+    let at-value-in2 = at-q .before .before in
+    let at-expression2 = at-value-in2 .before in
+    let at-p = at-expression2 .before .before .before in
+    let at-value-in = at-p .before .before in
+    let at-expression = at-value-in .before in
+    let at-node-end = at-expression .before .before in
+    let s = at-node-end .before .before in
+    let a = at-expression .expression .ensures in
+    let v = value-taken _ _ (at-value-in .value-in .ensures) _ (at-p .p .given .1) in
+    let b = at-expression2 .expression2 .ensures in
+    let x = value-taken _ _ (at-value-in2 .value-in2 .ensures) _ (at-q .q .given .1) in
+    let d = at-expression3 .expression3 .ensures in
+    second-back _ _ (s .args .z) (s .pre .1 .1 .code-is) _ (at-node-end .node-end .ensures) _ _ _ a _ v _ _ b _ x _ _ d
     (none-taken _ _ (c .before .before .value-in3 .ensures) (c .enum-told3 .given .1))
 
 three-is-true-requires : (t : ℕ) → three-lts.Need-is-true-requires (three-uses t) (three-at t) three.Post
@@ -719,31 +789,51 @@ three-is-true-requires t c κs = search needs
 
 three-choose-requires : (t : ℕ) → three-lts.Need-choose-requires (three-uses t) (three-at t) three.Post
 three-choose-requires t c κs =
-    let node = c .before .before .before .before .before .before .before .before .before .before .before .before .before .before .before .before .before .before .before .before .before .pre .1 .1 in
-    let next = c .before .before .before .before .before .before .before .before .before .before .before .before .before .before .before .before .before .before .before .node-end .ensures in
-    let a = c .before .before .before .before .before .before .before .before .before .before .before .before .before .before .before .before .before .expression .ensures in
+    let at-value-in3 = c .before .before .before .before in
+    let at-expression3 = at-value-in3 .before in
+    let at-q = at-expression3 .before .before .before in
+    let at-value-in2 = at-q .before .before in
+    let at-expression2 = at-value-in2 .before in
+    let at-p = at-expression2 .before .before .before in
+    let at-value-in = at-p .before .before in
+    let at-expression = at-value-in .before in
+    let at-node-end = at-expression .before .before in
+    let s = at-node-end .before .before in
+    let node = s .pre .1 .1 in
+    let next = at-node-end .node-end .ensures in
+    let a = at-expression .expression .ensures in
     let test = test-operand _ _ _ _ _ next node in
-    let v = value-taken _ _ (c .before .before .before .before .before .before .before .before .before .before .before .before .before .before .before .before .value-in .ensures) _ (c .before .before .before .before .before .before .before .before .before .before .before .before .before .before .p .given .1) in
+    let v = value-taken _ _ (at-value-in .value-in .ensures) _ (at-p .p .given .1) in
     let tested = operand-ends _ _ _ _ test _ _ _ a _ v in
-    let b = c .before .before .before .before .before .before .before .before .before .before .before .expression2 .ensures in
+    let b = at-expression2 .expression2 .ensures in
     let first = first-arm _ _ _ _ _ next node _ tested in
-    let x = value-taken _ _ (c .before .before .before .before .before .before .before .before .before .before .value-in2 .ensures) _ (c .before .before .before .before .before .before .before .before .q .given .1) in
+    let x = value-taken _ _ (at-value-in2 .value-in2 .ensures) _ (at-q .q .given .1) in
     let then = operand-ends _ _ _ _ first _ _ _ b _ x in
     let second = second-arm _ _ _ _ _ next node _ tested _ then in
-    let y = value-taken _ _ (c .before .before .before .before .value-in3 .ensures) _ (c .before .before .r .given .1) in
-    (small-value _ _ _ _ first _ _ _ b _ x, small-value _ _ _ _ second _ _ _ (c .before .before .before .before .before .expression3 .ensures) _ y)
+    let y = value-taken _ _ (at-value-in3 .value-in3 .ensures) _ (c .before .before .r .given .1) in
+    (small-value _ _ _ _ first _ _ _ b _ x, small-value _ _ _ _ second _ _ _ (at-expression3 .expression3 .ensures) _ y)
 
 three-returns-4 : (t : ℕ) → three-lts.Need-returns-4 (three-uses t) (three-at t) three.Post
 three-returns-4 t c =
-    let s = c .before .before .before .before .before .before .before .before .before .before .before .before .before .before .before .before .before .before .before .before .before .before in
-    let a = c .before .before .before .before .before .before .before .before .before .before .before .before .before .before .before .before .before .before .expression .ensures in
-    let v = value-taken _ _ (c .before .before .before .before .before .before .before .before .before .before .before .before .before .before .before .before .before .value-in .ensures) _ (c .before .before .before .before .before .before .before .before .before .before .before .before .before .before .before .p .given .1) in
-    let b = c .before .before .before .before .before .before .before .before .before .before .before .before .expression2 .ensures in
-    let x = value-taken _ _ (c .before .before .before .before .before .before .before .before .before .before .before .value-in2 .ensures) _ (c .before .before .before .before .before .before .before .before .before .q .given .1) in
-    let d = c .before .before .before .before .before .before .expression3 .ensures in
-    let y = value-taken _ _ (c .before .before .before .before .before .value-in3 .ensures) _ (c .before .before .before .r .given .1) in
+    let at-r = c .before .before .before in
+    let at-value-in3 = at-r .before .before in
+    let at-expression3 = at-value-in3 .before in
+    let at-q = at-expression3 .before .before .before in
+    let at-value-in2 = at-q .before .before in
+    let at-expression2 = at-value-in2 .before in
+    let at-p = at-expression2 .before .before .before in
+    let at-value-in = at-p .before .before in
+    let at-expression = at-value-in .before in
+    let at-node-end = at-expression .before .before in
+    let s = at-node-end .before .before in
+    let a = at-expression .expression .ensures in
+    let v = value-taken _ _ (at-value-in .value-in .ensures) _ (at-p .p .given .1) in
+    let b = at-expression2 .expression2 .ensures in
+    let x = value-taken _ _ (at-value-in2 .value-in2 .ensures) _ (at-q .q .given .1) in
+    let d = at-expression3 .expression3 .ensures in
+    let y = value-taken _ _ (at-value-in3 .value-in3 .ensures) _ (at-r .r .given .1) in
     let says = rw (c .before .is-true .ensures) at (c .choose .ensures) in
-    three-way _ _ (s .args .z) (s .pre .1 .1 .code-is) _ (c .before .before .before .before .before .before .before .before .before .before .before .before .before .before .before .before .before .before .before .before .node-end .ensures) _ _ _ a _ v _ _ b _ x _ _ d _ _ y says
+    three-way _ _ (s .args .z) (s .pre .1 .1 .code-is) _ (at-node-end .node-end .ensures) _ _ _ a _ v _ _ b _ x _ _ d _ _ y says
 
 two-sub-n : (t : ℕ) → two-lts.Need-sub-n (two-uses t) (two-at t) two.Post
 two-sub-n t c =
@@ -773,20 +863,25 @@ two-enum-told t c = search needs
 
 two-returns : (t : ℕ) → two-lts.Need-returns (two-uses t) (two-at t) two.Post
 two-returns t c =
-    let s = c .before .before .before .before .before .before .before in
-    let a = c .before .before .before .expression .ensures in
-    left-back _ _ (s .args .z) (s .pre .1 .1 .code-is) _ (c .before .before .before .before .before .node-end .ensures) _ _ _ a (none-taken _ _ (c .before .before .value-in .ensures) (c .enum-told .given .1))
+    let at-expression = c .before .before .before in
+    let at-node-end = at-expression .before .before in
+    let s = at-node-end .before .before in
+    let a = at-expression .expression .ensures in
+    left-back _ _ (s .args .z) (s .pre .1 .1 .code-is) _ (at-node-end .node-end .ensures) _ _ _ a (none-taken _ _ (c .before .before .value-in .ensures) (c .enum-told .given .1))
 
 two-expression-requires-2 : (t : ℕ) → two-lts.Need-expression-requires-2 (two-uses t) (two-at t) two.Post
 two-expression-requires-2 t c κs =
-    let s = c .before .before .before .before .before .before .before .before .before in
+    let at-value-in = c .before .before .before .before in
+    let at-expression = at-value-in .before in
+    let at-node-end = at-expression .before .before in
+    let s = at-node-end .before .before in
     let is = s .pre .0 in
     let node = s .pre .1 .1 in
-    let next = c .before .before .before .before .before .before .before .node-end .ensures in
+    let next = at-node-end .node-end .ensures in
     let some = held-some _ _ _ _ (node .operator .held) in
-    let a = c .before .before .before .before .before .expression .ensures in
+    let a = at-expression .expression .ensures in
     let first = left-operand _ _ _ _ _ next node in
-    let x = value-taken _ _ (c .before .before .before .before .value-in .ensures) _ (c .before .before .p .given .1) in
+    let x = value-taken _ _ (at-value-in .value-in .ensures) _ (c .before .before .p .given .1) in
     let ends = operand-ends _ _ _ _ first _ _ _ a _ x in
     (omega arith, (setting-after _ _ _ _ first _ _ _ a _ _ _ (s .pre .1 .0), right-operand _ _ _ _ _ next node _ ends))
 
@@ -801,45 +896,66 @@ two-enum-told-2 t c = search needs
 
 two-returns-2 : (t : ℕ) → two-lts.Need-returns-2 (two-uses t) (two-at t) two.Post
 two-returns-2 t c =
-    let s = c .before .before .before .before .before .before .before .before .before .before .before .before .before in
-    let a = c .before .before .before .before .before .before .before .before .before .expression .ensures in
-    let x = value-taken _ _ (c .before .before .before .before .before .before .before .before .value-in .ensures) _ (c .before .before .before .before .before .before .p .given .1) in
-    let b = c .before .before .before .expression2 .ensures in
-    right-back _ _ (s .args .z) (s .pre .1 .1 .code-is) _ (c .before .before .before .before .before .before .before .before .before .before .before .node-end .ensures) _ _ _ a _ x _ _ b
+    let at-expression2 = c .before .before .before in
+    let at-p = at-expression2 .before .before .before in
+    let at-value-in = at-p .before .before in
+    let at-expression = at-value-in .before in
+    let at-node-end = at-expression .before .before in
+    let s = at-node-end .before .before in
+    let a = at-expression .expression .ensures in
+    let x = value-taken _ _ (at-value-in .value-in .ensures) _ (at-p .p .given .1) in
+    let b = at-expression2 .expression2 .ensures in
+    right-back _ _ (s .args .z) (s .pre .1 .1 .code-is) _ (at-node-end .node-end .ensures) _ _ _ a _ x _ _ b
     (none-taken _ _ (c .before .before .value-in2 .ensures) (c .enum-told2 .given .1))
 
 two-add-natural : (t : ℕ) → two-lts.Need-add-natural (two-uses t) (two-at t) two.Post
 two-add-natural t c =
-    let node = c .before .before .before .before .before .before .before .before .before .before .before .before .before .before .pre .1 .1 in
-    omega (arith, c .before .before .before .before .before .before .before .before .before .before .before .before .before .before .good, binary-there _ _ (held-noded _ _ _ _ (node .operator .held)) (node .code-is))
+    let s = c .before .before .before .before .before .before .before .before .before .before .before .before .before .before in
+    let node = s .pre .1 .1 in
+    omega (arith, s .good, binary-there _ _ (held-noded _ _ _ _ (node .operator .held)) (node .code-is))
 
 two-natural-requires : (t : ℕ) → two-lts.Need-natural-requires (two-uses t) (two-at t) two.Post
 two-natural-requires t c κs =
-    let node = c .before .before .before .before .before .before .before .before .before .before .before .before .before .before .pre .1 .1 in
+    let s = c .before .before .before .before .before .before .before .before .before .before .before .before .before .before in
+    let node = s .pre .1 .1 in
     omega (arith, binary-there _ _ (held-noded _ _ _ _ (node .operator .held)) (node .code-is))
 
 two-binary-requires : (t : ℕ) → two-lts.Need-binary-requires (two-uses t) (two-at t) two.Post
 two-binary-requires t c κs =
-    let node = c .before .before .before .before .before .before .before .before .before .before .before .before .before .before .before .pre .1 .1 in
-    let next = c .before .before .before .before .before .before .before .before .before .before .before .before .before .node-end .ensures in
-    let a = c .before .before .before .before .before .before .before .before .before .before .before .expression .ensures in
+    let at-value-in2 = c .before .before .before .before in
+    let at-expression2 = at-value-in2 .before in
+    let at-p = at-expression2 .before .before .before in
+    let at-value-in = at-p .before .before in
+    let at-expression = at-value-in .before in
+    let at-node-end = at-expression .before .before in
+    let s = at-node-end .before .before in
+    let node = s .pre .1 .1 in
+    let next = at-node-end .node-end .ensures in
+    let a = at-expression .expression .ensures in
     let first = left-operand _ _ _ _ _ next node in
-    let x = value-taken _ _ (c .before .before .before .before .before .before .before .before .before .before .value-in .ensures) _ (c .before .before .before .before .before .before .before .before .p .given .1) in
+    let x = value-taken _ _ (at-value-in .value-in .ensures) _ (at-p .p .given .1) in
     let second = right-operand _ _ _ _ _ next node _ (operand-ends _ _ _ _ first _ _ _ a _ x) in
-    let y = value-taken _ _ (c .before .before .before .before .value-in2 .ensures) _ (c .before .before .q .given .1) in (
+    let y = value-taken _ _ (at-value-in2 .value-in2 .ensures) _ (c .before .before .q .given .1) in (
       omega (arith, binary-known _ _ (held-noded _ _ _ _ (node .operator .held)) (node .code-is), c .natural .ensures),
       small-value _ _ _ _ first _ _ _ a _ x,
-      small-value _ _ _ _ second _ _ _ (c .before .before .before .before .before .expression2 .ensures) _ y,
+      small-value _ _ _ _ second _ _ _ (at-expression2 .expression2 .ensures) _ y,
     )
 
 two-returns-3 : (t : ℕ) → two-lts.Need-returns-3 (two-uses t) (two-at t) two.Post
 two-returns-3 t c =
-    let s = c .before .before .before .before .before .before .before .before .before .before .before .before .before .before .before .before in
-    let a = c .before .before .before .before .before .before .before .before .before .before .before .before .expression .ensures in
-    let x = value-taken _ _ (c .before .before .before .before .before .before .before .before .before .before .before .value-in .ensures) _ (c .before .before .before .before .before .before .before .before .before .p .given .1) in
-    let b = c .before .before .before .before .before .before .expression2 .ensures in
-    let y = value-taken _ _ (c .before .before .before .before .before .value-in2 .ensures) _ (c .before .before .before .q .given .1) in
-    two-way _ _ (s .args .z) (s .pre .1 .1 .code-is) _ (c .before .before .before .before .before .before .before .before .before .before .before .before .before .before .node-end .ensures) _ _ _ a _ x _ _ b _ _ _ y (c .before .natural .ensures) (c .binary .ensures)
+    let at-q = c .before .before .before in
+    let at-value-in2 = at-q .before .before in
+    let at-expression2 = at-value-in2 .before in
+    let at-p = at-expression2 .before .before .before in
+    let at-value-in = at-p .before .before in
+    let at-expression = at-value-in .before in
+    let at-node-end = at-expression .before .before in
+    let s = at-node-end .before .before in
+    let a = at-expression .expression .ensures in
+    let x = value-taken _ _ (at-value-in .value-in .ensures) _ (at-p .p .given .1) in
+    let b = at-expression2 .expression2 .ensures in
+    let y = value-taken _ _ (at-value-in2 .value-in2 .ensures) _ (at-q .q .given .1) in
+    two-way _ _ (s .args .z) (s .pre .1 .1 .code-is) _ (at-node-end .node-end .ensures) _ _ _ a _ x _ _ b _ _ _ y (c .before .natural .ensures) (c .binary .ensures)
 
 -- its fields are there, and the number in the second is a variable's
 variable-there : (t : ℕ) (s : variable-lts.Start (variable-uses t) (variable-at t) variable.Post) → NodedAs (now (s .args .s)) (s .args .at) Leaf
@@ -877,38 +993,58 @@ variable-enum-told t c = search needs
 
 variable-returns : (t : ℕ) → variable-lts.Need-returns (variable-uses t) (variable-at t) variable.Post
 variable-returns t c =
-    let p = c .before .before .before .before .before .before .before .pre .1 in
-    let number = c .before .before .before .before .before .natural .ensures in
-    let off = rw (c .before .before .before .record-place .ensures) at (sym (c .enum-told .given .1) ∙ c .before .before .index .ensures) in
-    off-way _ _ (p .0 .formed) _ _ _ (p .1) _ number _ _ (c .before .before .before .before .node-end .ensures) off
+    let at-record-place = c .before .before .before in
+    let at-node-end = at-record-place .before in
+    let at-natural = at-node-end .before in
+    let s = at-natural .before .before in
+    let p = s .pre .1 in
+    let number = at-natural .natural .ensures in
+    let off = rw (at-record-place .record-place .ensures) at (sym (c .enum-told .given .1) ∙ c .before .before .index .ensures) in
+    off-way _ _ (p .0 .formed) _ _ _ (p .1) _ number _ _ (at-node-end .node-end .ensures) off
 
 variable-first-element-requires : (t : ℕ) → variable-lts.Need-first-element-requires (variable-uses t) (variable-at t) variable.Post
-variable-first-element-requires t c κs = omega (arith, variable-laid t (c .before .before .before .before .before .before) .low)
+variable-first-element-requires t c κs =
+    let at-natural = c .before .before .before .before .before .before in
+    omega (arith, variable-laid t at-natural .low)
 
 variable-add-e : (t : ℕ) → variable-lts.Need-add-e (variable-uses t) (variable-at t) variable.Post
 variable-add-e t c =
-    let p = c .before .before .before .before .before .before .before .before .before .pre .1 in
-    let number = c .before .before .before .before .before .before .before .natural .ensures in
-    let found = rw (c .before .before .before .before .before .record-place .ensures) at (sym (c .before .before .found .given .1) ∙ c .before .before .before .before .index .ensures) in
+    let at-index = c .before .before .before .before in
+    let at-record-place = at-index .before in
+    let at-natural = at-record-place .before .before in
+    let s = at-natural .before .before in
+    let p = s .pre .1 in
+    let number = at-natural .natural .ensures in
+    let found = rw (at-record-place .record-place .ensures) at (sym (c .before .before .found .given .1) ∙ at-index .index .ensures) in
     omega (arith, number-few _ _ (p .0 .formed) _ _ _ (p .1) _ number _ found, c .first-element .ensures)
 
 variable-element-requires : (t : ℕ) → variable-lts.Need-element-requires (variable-uses t) (variable-at t) variable.Post
 variable-element-requires t c κs =
-    let s = c .before .before .before .before .before .before .before .before .before .before in
+    let at-found = c .before .before .before in
+    let at-index = at-found .before .before in
+    let at-record-place = at-index .before in
+    let at-natural = at-record-place .before .before in
+    let s = at-natural .before .before in
     let p = s .pre .1 in
     let is = s .pre .0 in
-    let number = c .before .before .before .before .before .before .before .before .natural .ensures in
-    let found = rw (c .before .before .before .before .before .before .record-place .ensures) at (sym (c .before .before .before .found .given .1) ∙ c .before .before .before .before .before .index .ensures) in
-    let here = ap (λ x. x + c .before .before .before .found .given .0 .0) (c .before .first-element .ensures) in
+    let number = at-natural .natural .ensures in
+    let found = rw (at-record-place .record-place .ensures) at (sym (at-found .found .given .1) ∙ at-index .index .ensures) in
+    let here = ap (λ x. x + at-found .found .given .0 .0) (c .before .first-element .ensures) in
     (omega arith, (p .0, named-element _ _ (p .0 .formed) _ _ _ (p .1) _ number _ found _ here))
 
 variable-returns-2 : (t : ℕ) → variable-lts.Need-returns-2 (variable-uses t) (variable-at t) variable.Post
 variable-returns-2 t c =
-    let p = c .before .before .before .before .before .before .before .before .before .before .before .pre .1 in
-    let number = c .before .before .before .before .before .before .before .before .before .natural .ensures in
-    let found = rw (c .before .before .before .before .before .before .before .record-place .ensures) at (sym (c .before .before .before .before .found .given .1) ∙ c .before .before .before .before .before .before .index .ensures) in
-    let here = ap (λ x. x + c .before .before .before .before .found .given .0 .0) (c .before .before .first-element .ensures) in
-    variable-way _ _ (p .0 .formed) _ _ _ (p .1) _ number _ found _ here _ (c .before .before .before .before .before .before .before .before .node-end .ensures) _ _ _ (c .element .ensures)
+    let at-found = c .before .before .before .before in
+    let at-index = at-found .before .before in
+    let at-record-place = at-index .before in
+    let at-node-end = at-record-place .before in
+    let at-natural = at-node-end .before in
+    let s = at-natural .before .before in
+    let p = s .pre .1 in
+    let number = at-natural .natural .ensures in
+    let found = rw (at-record-place .record-place .ensures) at (sym (at-found .found .given .1) ∙ at-index .index .ensures) in
+    let here = ap (λ x. x + at-found .found .given .0 .0) (c .before .before .first-element .ensures) in
+    variable-way _ _ (p .0 .formed) _ _ _ (p .1) _ number _ found _ here _ (at-node-end .node-end .ensures) _ _ _ (c .element .ensures)
 
 pub +branch+dependence+element+expression+leaf+one+operator+restriction+three+two+variable-spec :
     {M : Type 1} → statement M

@@ -29,13 +29,17 @@ above-is c =
     c .size .ensures ∙ ap natAbs (at-add .add .ensures .0 ∙ ap (λ y. x .v +ℤ y) (at-add .before .of .ensures))
 
 low : (c : tie.After-size) → c .size .result < 4294967296
-low c = packed-low (c .before .before .before .args .x .v) (c .before .before .before .pre .1) _ (above-is c)
+low c =
+    let s = c .before .before .before in
+    packed-low (s .args .x .v) (s .pre .1) _ (above-is c)
 
 mul-result : tie.Need-mul-result
 mul-result c = omega (arith, low c)
 
 add-result : tie.Need-add-result
-add-result c = omega (arith, low c, c .before .before .before .pre .0)
+add-result c =
+    let s = c .before .before .before in
+    omega (arith, low c, s .pre .0)
 
 returns : tie.Need-returns
 returns c =

@@ -28,7 +28,9 @@ enum-told : tie.Need-enum-told
 enum-told c = search needs
 
 owner-requires : tie.Need-owner-requires
-owner-requires c κs = let p = c .before .before .before .before .before .pre in (p .0 .formed, p .1 .element)
+owner-requires c κs =
+    let s = c .before .before .before .before .before in
+    let p = s .pre in (p .0 .formed, p .1 .element)
 
 abbrev start : tie.After-point-of → tie.Start
 start c = c .before .before .before .before .before .before .before
@@ -47,7 +49,9 @@ element-requires c κs =
     (start at-point-of .pre .0, at-point-of .point-of .ensures)
 
 known-requires-2 : tie.Need-known-requires-2
-known-requires-2 c κs = low (start (c .before .before .before))
+known-requires-2 c κs =
+    let at-point-of = c .before .before .before in
+    low (start at-point-of)
 
 enum-known-has : tie.Need-enum-known-has
 enum-known-has c = search needs

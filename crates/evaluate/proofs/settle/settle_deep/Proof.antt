@@ -26,14 +26,17 @@ mark-requires : tie.Need-mark-requires Inv-loop μ-loop
 mark-requires c κs = low (c .before .before)
 
 cast-stack : tie.Need-cast-stack Inv-loop μ-loop
-cast-stack c = let h = low (c .before .before .before) in search needs
+cast-stack c =
+    let s = c .before .before .before in
+    let h = low s in search needs
 
 array-write-stack : tie.Need-array-write-stack Inv-loop μ-loop
 array-write-stack c = search needs
 
 loop-holds : tie.Need-loop-holds Inv-loop μ-loop
 loop-holds c =
-    let p = c .before .before .before .pre in
+    let s = c .before .before .before in
+    let p = s .pre in
     let first = going-first _ _ _ (p .0 .ready) (p .1 .alone) (p .1 .late) (replicate 4096 0) (length-replicate {A = ℕ} 4096 0) in
     rw (c .mark .ensures) first
 

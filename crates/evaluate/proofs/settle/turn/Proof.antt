@@ -41,7 +41,8 @@ cast-top c =
 
 body-requires : tie.Need-body-requires
 body-requires c κs =
-    let p = c .before .before .before .pre in
+    let s = c .before .before .before in
+    let p = s .pre in
     (p .0, record { element = top-element _ _ (p .0 .ready) _ _ (p .1); marked = top-marked _ _ (p .0 .ready) _ _ (p .1) })
 
 enum-known-r : tie.Need-enum-known-r
@@ -68,16 +69,24 @@ mark-requires : tie.Need-mark-requires
 mark-requires c κs = deep-low (c .before .before)
 
 cast-stack : tie.Need-cast-stack
-cast-stack c = let low = deep-low (c .before .before .before) in search needs
+cast-stack c =
+    let at-r = c .before .before .before in
+    let low = deep-low at-r in search needs
 
 mul-stack : tie.Need-mul-stack
-mul-stack c = let h = tall (c .before .before .before) in search needs
+mul-stack c =
+    let at-r = c .before .before .before in
+    let h = tall at-r in search needs
 
 element-write-stack : tie.Need-element-write-stack
-element-write-stack c = tall (c .before .before .before)
+element-write-stack c =
+    let at-r = c .before .before .before in
+    tall at-r
 
 add-result : tie.Need-add-result
-add-result c = let h = tall (c .before .before .before) in search needs
+add-result c =
+    let at-r = c .before .before .before in
+    let h = tall at-r in search needs
 
 returns : tie.Need-returns
 returns c =

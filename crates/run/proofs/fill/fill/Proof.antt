@@ -62,27 +62,39 @@ add-e c = let f = first-is (c .before .before) in omega (arith, number-low c)
 
 settle-requires : tie.Need-settle-requires Inv-loop μ-loop
 settle-requires c κs =
+    let s = c .before .before .before .before .before .before in
     let m = c .before .before .loop .inv .advances in
-    (setting-with _ _ _ _ _ _ (c .before .before .before .before .before .before .pre .0) (m .ready), record { idle = m .idle; element = omega (arith, number-low (c .before)) })
+    (setting-with _ _ _ _ _ _ (s .pre .0) (m .ready), record { idle = m .idle; element = omega (arith, number-low (c .before)) })
 
 put-requires : tie.Need-put-requires Inv-loop μ-loop
 put-requires c κs =
-    let m = c .before .before .before .before .before .loop .inv in
-    let l = many (c .before .before .before .before) in
+    let in-loop = c .before .before .before .before in
+    let at-loop = in-loop .before in
+    let m = at-loop .loop .inv in
+    let l = many in-loop in
     record { small = c .before .before .settle .ensures .says .small; in-codes = omega (arith, l, m .codes-long); in-values = omega (arith, l, m .values-long) }
 
 add-i : tie.Need-add-i Inv-loop μ-loop
-add-i c = omega (arith, many (c .before .before .before .before .before .before .before .before), laid (c .before .before .before .before .before .before .before .before .before .before .before .before .before) .few)
+add-i c =
+    let in-loop = c .before .before .before .before .before .before .before .before in
+    let s = in-loop .before .before .before .before .before in
+    omega (arith, many in-loop, laid s .few)
 
 loop-less : tie.Need-loop-less Inv-loop μ-loop
-loop-less c = omega (arith, c .before .before .before .before .before .before .before .before .loop-test .taken)
+loop-less c =
+    let in-loop = c .before .before .before .before .before .before .before .before in
+    omega (arith, in-loop .loop-test .taken)
 
 loop-again : tie.Need-loop-again Inv-loop μ-loop
 loop-again c =
-    let l = c .before .before .before .before .before .before .before .before in
-    let here = first-is (c .before .before .before .before .before .before .before .before .before .before) in
-    let w = c .before .before .before .put .ensures in
-    fills-next _ _ _ _ _ _ _ _ (c .before .before .before .before .before .before .before .before .before .loop .inv) (many l) (rw here at (number-low l)) _ (rw here at (c .before .before .before .before .before .before .settle .ensures)) _ _
+    let at-put = c .before .before .before in
+    let at-settle = at-put .before .before .before in
+    let l = at-settle .before .before in
+    let at-loop = l .before in
+    let at-first-element = at-loop .before in
+    let here = first-is at-first-element in
+    let w = at-put .put .ensures in
+    fills-next _ _ _ _ _ _ _ _ (at-loop .loop .inv) (many l) (rw here at (number-low l)) _ (rw here at (at-settle .settle .ensures)) _ _
     (w .0) (w .1)
 
 same-length : tie.Need-same-length Inv-loop μ-loop

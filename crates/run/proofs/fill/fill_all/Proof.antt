@@ -123,7 +123,8 @@ part-fill-end c = omega (arith, in-codes (c .before))
 mul-fill : tie.Need-mul-fill Inv-loop μ-loop
 mul-fill c =
     let a = c .before .before .before in
-    let small : a .first-element .result ≤ 4096 = omega (arith, from-is a, laid (c .before .before .before .before) .few) in search needs
+    let in-loop = a .before in
+    let small : a .first-element .result ≤ 4096 = omega (arith, from-is a, laid in-loop .few) in search needs
 
 sub-fill-2 : tie.Need-sub-fill-2 Inv-loop μ-loop
 sub-fill-2 c = omega (arith, order (c .before .before), in-codes (c .before .before))
@@ -137,12 +138,15 @@ part-fill-end-2 c = omega (arith, in-values (c .before .before))
 fill-requires : tie.Need-fill-requires Inv-loop μ-loop
 fill-requires c κs =
     let t = c .before .before .before in
-    let m = c .before .before .before .before .before .before .loop .inv .1 in
+    let in-loop = t .before .before in
+    let at-loop = in-loop .before in
+    let s = at-loop .before .before .before .before in
+    let m = at-loop .loop .inv .1 in
     let wide = stretch-is t in (
-      setting-with _ _ _ _ _ _ (c .before .before .before .before .before .before .before .before .before .before .pre .0) (m .ready),
+      setting-with _ _ _ _ _ _ (s .pre .0) (m .ready),
       record {
         idle = m .idle;
-        known = known (c .before .before .before .before .before);
+        known = known in-loop;
         codes-long = part-long _ _ _ _ wide (in-codes t) (order t);
         values-long = part-long _ _ _ _ wide (in-values t) (order t);
       },
@@ -150,24 +154,33 @@ fill-requires c κs =
 
 add-v : tie.Need-add-v Inv-loop μ-loop
 add-v c =
-    let few = prepared-sections _ _ (c .before .before .before .before .before .before .before .before .before .before .before .before .before .before .pre .0 .formed .placed .prepared) .few in
-    omega (arith, few, count-is (c .before .before .before .before .before .before .before .before .before .before .before), c .before .before .before .before .before .before .before .before .before .loop-test .taken)
+    let in-loop = c .before .before .before .before .before .before .before .before .before in
+    let at-variable-count = in-loop .before .before in
+    let s = at-variable-count .before .before .before in
+    let few = prepared-sections _ _ (s .pre .0 .formed .placed .prepared) .few in
+    omega (arith, few, count-is at-variable-count, in-loop .loop-test .taken)
 
 loop-less : tie.Need-loop-less Inv-loop μ-loop
-loop-less c = omega (arith, c .before .before .before .before .before .before .before .before .before .loop-test .taken)
+loop-less c =
+    let in-loop = c .before .before .before .before .before .before .before .before .before in
+    omega (arith, in-loop .loop-test .taken)
 
 loop-again : tie.Need-loop-again Inv-loop μ-loop
 loop-again c =
-    let t = c .before .before .before .before .before .before .before in
-    let at-loop = c .before .before .before .before .before .before .before .before .before .before in
-    let sheet = sheetOf (c .before .before .before .before .before .before .before .before .before .before .before .before .before .before .args .s .now) in
+    let at-fill = c .before .before .before in
+    let t = at-fill .before .before .before .before in
+    let at-first-element = t .before in
+    let in-loop = at-first-element .before in
+    let at-loop = in-loop .before in
+    let s = at-loop .before .before .before .before in
+    let sheet = sheetOf (s .args .s .now) in
     let m = at-loop .loop .inv in
-    let F = c .before .before .before .fill .ensures in
+    let F = at-fill .fill .ensures in
     let next =
-    fills-on sheet (at-loop .loop .v) _ _ (from-is (c .before .before .before .before .before .before .before .before)) (to-is t) _ _ _ (m .1) _ _ _ _ _ _ (m .0) F
+    fills-on sheet (at-loop .loop .v) _ _ (from-is at-first-element) (to-is t) _ _ _ (m .1) _ _ _ _ _ _ (m .0) F
     (omega (arith, room t .0)) (omega (arith, room t .1)) in
     let one : t .first-element2 .result ≡ before sheet (at-loop .loop .v + 1) = ends t in
-    (fills-at _ _ _ _ _ _ _ _ one next, advances-on _ _ _ _ (m .1) (F .advances), omega (arith, known (c .before .before .before .before .before .before .before .before .before)))
+    (fills-at _ _ _ _ _ _ _ _ one next, advances-on _ _ _ _ (m .1) (F .advances), omega (arith, known in-loop))
 
 same-length : tie.Need-same-length Inv-loop μ-loop
 same-length c = c .before .loop .inv .0 .codes-long

@@ -33,7 +33,9 @@ loop-holds c = (c .before .before .pre .1, omega arith)
 
 start-variable-requires : tie.Need-start-variable-requires Inv-loop μ-loop
 start-variable-requires c κs =
-    (c .before .before .before .before .before .pre .0, record { known = omega (arith, count-is (c .before .before .before), c .before .loop-test .taken); started = c .before .before .loop .inv .0 })
+    let at-variable-count = c .before .before .before in
+    let s = at-variable-count .before .before in
+    (s .pre .0, record { known = omega (arith, count-is at-variable-count, c .before .loop-test .taken); started = c .before .before .loop .inv .0 })
 
 add-v : tie.Need-add-v Inv-loop μ-loop
 add-v c = omega (arith, c .before .before .loop-test .taken)

@@ -37,22 +37,30 @@ returns c =
     c .note .ensures ∙ ap (after s) (outside-first (byte s) (s .args .input) (entry s) (s .args .e) (c .before .before .if1 .taken))
 
 mul-of32 : tie.Need-mul-of32
-mul-of32 c = let h = c .before .before .before .before .pre .1 (c .before .if2 .taken) in search needs
+mul-of32 c =
+    let s = c .before .before .before .before in
+    let h = s .pre .1 (c .before .if2 .taken) in search needs
 
 shared-slice-copy-out-of32 : tie.Need-shared-slice-copy-out-of32
-shared-slice-copy-out-of32 c = c .before .before .before .before .pre .1 (c .before .if2 .taken)
+shared-slice-copy-out-of32 c =
+    let s = c .before .before .before .before in
+    s .pre .1 (c .before .if2 .taken)
 
 of32-requires : tie.Need-of32-requires
 of32-requires c κs = search needs
 
 note-requires-2 : tie.Need-note-requires-2
-note-requires-2 c κs = (c .before .before .before .before .before .before .pre .0, c .of32 .ensures .1)
+note-requires-2 c κs =
+    let s = c .before .before .before .before .before .before in
+    (s .pre .0, c .of32 .ensures .1)
 
 returns-2 : tie.Need-returns-2
 returns-2 c =
-    let s = c .before .before .before .before .before .before .before in
+    let at-then2 = c .before .before .before .before in
+    let at-else1 = at-then2 .before in
+    let s = at-else1 .before .before in
     let x = c .before .of32 .ensures .0 ∙ toZ-ofZ {w = w32} (sfits-of (c .before .before .of32-arg .given)) in
-    let first = input-first (byte s) (s .args .input) (entry s) (s .args .e) (c .before .before .before .before .before .if1 .left) (c .before .before .before .before .if2 .taken) in
+    let first = input-first (byte s) (s .args .input) (entry s) (s .args .e) (at-else1 .if1 .left) (at-then2 .if2 .taken) in
     c .note2 .ensures ∙ ap (λ y. after s (Done (Value (record { v = y })))) x ∙ ap (after s) first
 
 note-requires-3 : tie.Need-note-requires-3
@@ -60,8 +68,9 @@ note-requires-3 c κs = search needs
 
 returns-3 : tie.Need-returns-3
 returns-3 c =
-    let s = c .before .before .before .before .before in
-    c .note3 .ensures ∙ ap (after s) (other-first (byte s) (s .args .input) (entry s) (s .args .e) (c .before .before .before .if1 .left) (c .before .before .if2 .left))
+    let at-else1 = c .before .before .before in
+    let s = at-else1 .before .before in
+    c .note3 .ensures ∙ ap (after s) (other-first (byte s) (s .args .input) (entry s) (s .args .e) (at-else1 .if1 .left) (c .before .before .if2 .left))
 
 pub start-element-spec : {M : Type 1} → statement M
 start-element-spec =
