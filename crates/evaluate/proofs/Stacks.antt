@@ -20,7 +20,7 @@ use Rattle.evaluate.specs.Memo.{busy, unknown, Memo, codeAt, sum, busyOn
 use Rattle.evaluate.specs.Memo.{valueOf, stored}
 use Rattle.evaluate.specs.Memo as Memo
 use Rattle.evaluate.specs.Working.{elementAt, outcomes, Bodied, Ready, WorksOut}
-use Rattle.evaluate.specs.Settling.{bodyOf, standing, Stacked, Linked, Turned, Idle, Alone, Standing, Settled}
+use Rattle.evaluate.specs.Settling.{bodyOf, standing, Stacked, Linked, Turned, Idle, Alone, StackedSome, Settled}
 use Rattle.evaluate.proofs.Entries.{code-few, busy-one, none-to-do, answer-unmarked}
 use Rattle.evaluate.proofs.Stores.{decide, code-same, code-other, sum-store, loop-down, right-set, said-stored}
 use Rattle.evaluate.proofs.Doing.{element-grows, ready-sized, ready-kept}
@@ -72,7 +72,7 @@ module _ (s : Sheet) (memo : Memo) (M : Ready s memo) (e c : ℕ) (x : ℤ) (lt 
 settled-code : (r : Work) (o : Declared.Outcome) → r ≡ Done o → (codeOf r ≤ 4) × (toDo (codeOf r) ≡ 0)
 settled-code r o is = let few = code-few (outcomeOf o) in rw is (few, none-to-do (codeFor o) few)
 
-module _ (s : Sheet) (memo : Memo) (M : Ready s memo) (stack : List ℕ) (high : ℕ) (Top : Standing s memo stack high) where
+module _ (s : Sheet) (memo : Memo) (M : Ready s memo) (stack : List ℕ) (high : ℕ) (Top : StackedSome s memo stack high) where
   abbrev St : Stacked s memo stack high
   St = Top .stacked
 

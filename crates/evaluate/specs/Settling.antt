@@ -37,6 +37,11 @@ pub record Stacked (s : Sheet) (memo : Memo) (stack : List ℕ) (high : ℕ) : T
   pub found : (m : ℕ) → m < total s → codeAt memo m ≡ busy → (j : ℕ) × (j < high) × (standing stack j ≡ m)
   pub apart : (i j : ℕ) → i < j → j < high → standing stack i ≡ standing stack j → ⊥
 
+-- and there is one at least
+pub record StackedSome (s : Sheet) (memo : Memo) (stack : List ℕ) (high : ℕ) : Type 0 where
+  pub stacked : Stacked s memo stack high
+  pub some : 1 ≤ high
+
 -- each waits for the next: where the next loops, its body does
 pub record Linked (s : Sheet) (ins : List ℤ) (stack : List ℕ) (high : ℕ) : Type 0 where
   pub link : (j : ℕ) → suc j < high → (k : ℕ) → outcomes s ins k (standing stack (suc j)) ≡ loop → bodyOf s (standing stack j) ins k ≡ loop
@@ -69,11 +74,6 @@ pub record Open (s : Sheet) (memo : Memo) (e : ℕ) : Type 0 where
 pub record Busy (s : Sheet) (memo : Memo) (e : ℕ) : Type 0 where
   pub element : e < total s
   pub marked : codeAt memo e ≡ busy
-
--- a stack on which some element stands
-pub record Standing (s : Sheet) (memo : Memo) (stack : List ℕ) (high : ℕ) : Type 0 where
-  pub stacked : Stacked s memo stack high
-  pub some : 1 ≤ high
 
 -- element e is settled, with the outcome o, and every entry is right where every one was
 pub record Settled (s : Sheet) (e : ℕ) (memo memo′ : Memo) (o : Outcome) : Type 0 where

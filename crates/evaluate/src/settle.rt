@@ -17,7 +17,7 @@ ghost use Rattle.laws.specs.Sheets.{sheetOf};
 ghost use Rattle.tree.specs.Formed.{Formed};
 ghost use Rattle.evaluate.specs.Memo.{memoOf};
 ghost use Rattle.evaluate.specs.Working.{WorksOut, Setting, ElementIs};
-ghost use Rattle.evaluate.specs.Settling.{Owns, bodyOf, Turned, Alone, Open, Busy, Standing, Settled};
+ghost use Rattle.evaluate.specs.Settling.{Owns, bodyOf, Turned, Alone, Open, Busy, StackedSome, Settled};
 
 const DEPTH: usize = 4;
 
@@ -72,7 +72,7 @@ fn turn(
     stack: &mut [u16; 4096],
     high: usize,
 ) -> usize
-    requires { ⌜ Setting (now s) (now tab) (now inside) (now ends) (memoOf (now memo)) × Standing (sheetOf (now s)) (memoOf (now memo)) (now stack) high ⌝ }
+    requires { ⌜ Setting (now s) (now tab) (now inside) (now ends) (memoOf (now memo)) × StackedSome (sheetOf (now s)) (memoOf (now memo)) (now stack) high ⌝ }
     ensures { λ r. ⌜ Turned (sheetOf (now (s .entry))) (memoOf (now (memo .entry))) (now (stack .entry)) high (memoOf (now (memo .exit))) (now (stack .exit)) r ⌝ }
 {
     let top = stack[high - 1] as usize;
