@@ -5,20 +5,19 @@ use native.Mathlib.Omega.{arith}
 use lib.IntN.{ℤ}
 use Rattle.alpha.specs.Outcome.{Outcome, outside, value, divzero, overflow, loop, andThen}
 use Rattle.alpha.specs.declared.Int.{Int}
+use Rattle.alpha.specs.declared.Outcome as Declared
+use Rattle.alpha.specs.declared.Outcome.the-variants as Outcomes
+use Rattle.alpha.specs.Verdict.{outcomeOf}
 use Rattle.laws.specs.Under.{Under}
 use Rattle.evaluate.specs.declared.Work.{Work}
-use Rattle.evaluate.specs.declared.Work.the-variants.{Outside, Value, DivZero, Overflow, Loop, Deep}
+use Rattle.evaluate.specs.declared.Work.the-variants.{Done, Deep}
 use Rattle.evaluate.specs.Memo.{Thing, Elements, Grows, Says}
 
 -- ---- one thing that is another
 
 pub says-same : (out : Elements) (f g : Thing) (c : ℕ) (r : Work) → ((k : ℕ) → f k ≡ g k) → Says out g c r → Says out f c r
 unfolding Says
-says-same out f g c Outside h s = h c ∙ s
-says-same out f g c (Value x) h s = h c ∙ s
-says-same out f g c DivZero h s = h c ∙ s
-says-same out f g c Overflow h s = h c ∙ s
-says-same out f g c Loop h s = λ k. h k ∙ s k
+says-same out f g c (Done o) h s = record { is = h c ∙ s .is; stuck = λ l k. h k ∙ s .stuck l k }
 says-same out f g c (Deep d) h s = λ k l. h k ∙ s k l
 
 -- ---- a thing that has a value, and what follows it
@@ -66,19 +65,23 @@ module _ (out : Elements) (f : Thing) (grows : Grows f) (next : ℤ → Thing) w
     -- f has a value, and what follows it says r
     pub says-next : (r : Work) → Says out (next x) d r → Says out after d r
     unfolding Says
-    says-next Outside s = at-last ∙ s
-    says-next (Value y) s = at-last ∙ s
-    says-next DivZero s = at-last ∙ s
-    says-next Overflow s = at-last ∙ s
-    says-next Loop s = λ k. never k (s k)
+    says-next (Done o) s = record { is = at-last ∙ s .is; stuck = λ l k. never k (s .stuck l k) }
     says-next (Deep m) s = λ k l. never k (s k l)
 
   -- f has no value: what it says is handed on
-  pub says-first : (c : ℕ) (r : Work) → ((x : Int) → r ≡ Value x → ⊥) → Says out f c r → Says out after c r
+  pub says-first : (c : ℕ) (r : Work) → ((x : Int) → r ≡ Done (Outcomes.Value x) → ⊥) → Says out f c r → Says out after c r
   unfolding Says
-  says-first c Outside n s = ap (λ o. andThen o (λ y. next y c)) s
-  says-first c (Value x) n s = absurd (n x refl)
-  says-first c DivZero n s = ap (λ o. andThen o (λ y. next y c)) s
-  says-first c Overflow n s = ap (λ o. andThen o (λ y. next y c)) s
-  says-first c Loop n s = λ k. ap (λ o. andThen o (λ y. next y k)) (s k)
+  says-first c (Done o) n s =
+      record { is = handed c (s .is) ∙ no-value o (λ x. n x) c; stuck = λ l k. handed k (s .stuck l k) }
+    where
+      handed : (k : ℕ) {p : Outcome} → f k ≡ p → after k ≡ andThen p (λ y. next y k)
+      handed k q = ap (λ p. andThen p (λ y. next y k)) q
+
+      no-value : (o : Declared.Outcome) → ((x : Int) → Done o ≡ Done (Outcomes.Value x) → ⊥) → (k : ℕ) →
+          andThen (outcomeOf o) (λ y. next y k) ≡ outcomeOf o
+      no-value Outcomes.Outside none k = refl
+      no-value (Outcomes.Value x) none k = absurd (none x refl)
+      no-value Outcomes.DivZero none k = refl
+      no-value Outcomes.Overflow none k = refl
+      no-value Outcomes.Loop none k = refl
   says-first c (Deep m) n s = λ k l. ap (λ o. andThen o (λ y. next y k)) (s k l)

@@ -6,20 +6,27 @@ use native.Mathlib.Omega.{arith}
 use mathlib.Core.List.{List}
 use lib.IntN.{ℤ}
 use Rattle.alpha.specs.declared.Int.{Int}
-use Rattle.alpha.specs.declared.Outcome as Outcomes
-use Rattle.alpha.specs.declared.Outcome.the-variants as Declared
+use Rattle.alpha.specs.declared.Outcome as Declared
+use Rattle.alpha.specs.declared.Outcome.the-variants as Outcomes
 use Rattle.alpha.specs.Sheet.{Expr, Sheet, Point}
 use Rattle.alpha.specs.Check.{total}
 use Rattle.alpha.specs.Outcome.{Outcome, outside, value, loop, andThen}
+use Rattle.laws.specs.Sheets.{sheetOf}
 use Rattle.laws.proofs.Growth.{outcome-under, eval-grows}
 use Rattle.integer.specs.Range as Range
 use Rattle.integer.specs.Range.{In32}
 use Rattle.evaluate.specs.declared.Work.{Work}
-use Rattle.evaluate.specs.declared.Work.the-variants.{Outside, Value, DivZero, Overflow, Loop}
+use Rattle.evaluate.specs.declared.Work.the-variants.{Done}
 use Rattle.evaluate.specs.Memo.{Thing, Grows, element, Memo, count, Sized, Waits, Says, Kept}
-use Rattle.evaluate.specs.Working.{workOf, elementAt, outcomes, expression, Ready, Done}
+use Rattle.evaluate.specs.Working.{elementAt, outcomes, expression, Ready, WorksOut, Setting}
 use Rattle.evaluate.proofs.Answers.{says-same, says-next, says-first, never}
 use Rattle.evaluate.proofs.Stores.{kept-same, kept-two, waits-sub, waits-kept}
+
+-- the same setting with another memo
+pub setting-with : (bs tab inside ends : List ℕ) (memo last : Memo) → Setting bs tab inside ends memo → Ready (sheetOf bs) last →
+    Setting bs tab inside ends last
+setting-with bs tab inside ends memo last S ready =
+    record { formed = S .formed; inside-is = S .inside-is; ends-kept = S .ends-kept; ready = ready }
 
 module _ (s : Sheet) where
   pub element-grows : (ins : List ℤ) (m : ℕ) → Grows (element (outcomes s ins) m)
@@ -52,8 +59,8 @@ module _ (s : Sheet) where
 
   -- ---- one thing that is another
 
-  pub done-same : (memo last : Memo) (f g : List ℤ → Thing) (r : Work) → ((ins : List ℤ) (k : ℕ) → f ins k ≡ g ins k) → Done s memo last g r →
-      Done s memo last f r
+  pub done-same : (memo last : Memo) (f g : List ℤ → Thing) (r : Work) → ((ins : List ℤ) (k : ℕ) → f ins k ≡ g ins k) → WorksOut s memo last g r →
+      WorksOut s memo last f r
   done-same memo last f g r is D = record {
     kept = D .kept;
     wanted = D .wanted;
@@ -65,25 +72,21 @@ module _ (s : Sheet) where
 
   -- ---- nothing to do
 
-  -- a thing that is the same at every depth, and an operator's answer says it
-  pub done-known : (memo : Memo) (o : Outcomes.Outcome) (defined : Outcome) → Range.Says o defined → Done s memo memo (λ ins k. defined) (workOf o)
+  -- a thing that is the same at every depth, and an outcome says it
+  pub done-known : (memo : Memo) (o : Declared.Outcome) (defined : Outcome) → Range.Says o defined → WorksOut s memo memo (λ ins k. defined) (Done o)
   unfolding Says
-  done-known memo Declared.Outside d h =
-      record { kept = kept-same memo; wanted = tt; small = tt; said = λ ins R W. record { right = R; says = sym (h .is) } }
-  done-known memo (Declared.Value x) d h = record
-      { kept = kept-same memo; wanted = tt; small = h .small; said = λ ins R W. record { right = R; says = sym (h .is) } }
-  done-known memo Declared.DivZero d h =
-      record { kept = kept-same memo; wanted = tt; small = tt; said = λ ins R W. record { right = R; says = sym (h .is) } }
-  done-known memo Declared.Overflow d h =
-      record { kept = kept-same memo; wanted = tt; small = tt; said = λ ins R W. record { right = R; says = sym (h .is) } }
-  done-known memo Declared.Loop d h =
-      record { kept = kept-same memo; wanted = tt; small = tt; said = λ ins R W. record { right = R; says = λ k. sym (h .is) } }
+  done-known memo o defined h = record {
+    kept = kept-same memo;
+    wanted = tt;
+    small = h .small;
+    said = λ ins R W. record { right = R; says = record { is = sym (h .is); stuck = λ l k. sym (h .is) ∙ l } };
+  }
 
-  pub done-value : (memo : Memo) (x : Int) → In32 (x .v) → Done s memo memo (λ ins k. value (x .v)) (Value x)
-  done-value memo x h = done-known memo (Declared.Value x) (value (x .v)) (record { is = refl; small = h })
+  pub done-value : (memo : Memo) (x : Int) → In32 (x .v) → WorksOut s memo memo (λ ins k. value (x .v)) (Done (Outcomes.Value x))
+  done-value memo x h = done-known memo (Outcomes.Value x) (value (x .v)) (record { is = refl; small = h })
 
-  pub done-outside : (memo : Memo) → Done s memo memo (λ ins k. outside) Outside
-  done-outside memo = done-known memo Declared.Outside outside (record { is = refl; small = tt })
+  pub done-outside : (memo : Memo) → WorksOut s memo memo (λ ins k. outside) (Done Outcomes.Outside)
+  done-outside memo = done-known memo Outcomes.Outside outside (record { is = refl; small = tt })
 
   -- ---- a thing, and then what follows its value
 
@@ -95,7 +98,7 @@ module _ (s : Sheet) where
     first-loops ins k q = ap (λ o. andThen o (λ x. next x ins k)) q
 
     -- it has no value: it is handed back
-    pub done-first : (memo last : Memo) (r : Work) → ((x : Int) → r ≡ Value x → ⊥) → Done s memo last f r → Done s memo last after r
+    pub done-first : (memo last : Memo) (r : Work) → ((x : Int) → r ≡ Done (Outcomes.Value x) → ⊥) → WorksOut s memo last f r → WorksOut s memo last after r
     done-first memo last r none D = record {
       kept = D .kept;
       wanted = D .wanted;
@@ -106,8 +109,8 @@ module _ (s : Sheet) where
     }
 
     -- it has the value x, and then what follows is worked out
-    pub done-next : (memo mid last : Memo) (x : Int) (r : Work) → Done s memo mid f (Value x) → Done s mid last (next (x .v)) r →
-        Done s memo last after r
+    pub done-next : (memo mid last : Memo) (x : Int) (r : Work) → WorksOut s memo mid f (Done (Outcomes.Value x)) → WorksOut s mid last (next (x .v)) r →
+        WorksOut s memo last after r
     unfolding Says
     done-next memo mid last x r D E = record {
       kept = kept-two (D .kept) (E .kept);
@@ -120,10 +123,10 @@ module _ (s : Sheet) where
           let W2 = later ins memo mid (after ins) W (D .kept) in
           let T =
           E .said ins (S .right) (sub ins mid (after ins) (next (x .v) ins) W2
-          (never out (f ins) (grows ins) (λ y. next y ins) c c (x .v) (omega arith) (S .says))) in
+          (never out (f ins) (grows ins) (λ y. next y ins) c c (x .v) (omega arith) (S .says .is))) in
           record {
             right =
                 T .right;
-            says = says-next out (f ins) (grows ins) (λ y. next y ins) c (count last) (x .v) (E .kept .more) (S .says) r (T .says);
+            says = says-next out (f ins) (grows ins) (λ y. next y ins) c (count last) (x .v) (E .kept .more) (S .says .is) r (T .says);
           };
     }

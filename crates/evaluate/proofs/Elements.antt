@@ -1,7 +1,7 @@
 -- Elements by their numbers: what an element is, its body, and the ways through the evaluator of elements and through a variable.
 -- Assumes nothing.
-use mathlib.Core.Path.{_≡_, refl, sym, ap, _∙_, subst}
-use Prim.Native.Nat.{ℕ, zero, suc, _+_, _-_, _≤_, _<_}
+use mathlib.Core.Path.{_≡_, sym, ap, _∙_, subst}
+use Prim.Native.Nat.{ℕ, suc, _+_, _≤_, _<_}
 use native.Mathlib.Decide.{ℕ-discrete}
 use native.Mathlib.Omega.{arith}
 use mathlib.Core.Bool.{true, false, _&&_}
@@ -10,6 +10,8 @@ use lib.ListN.{length, getD, length-set}
 use lib.IntN.{ℤ, pos, natAbs}
 use borrow.Author.Tests.{eqb-true}
 use Rattle.alpha.specs.declared.Int.{Int}
+use Rattle.alpha.specs.declared.Outcome as Declared
+use Rattle.alpha.specs.declared.Outcome.the-variants as Outcomes
 use Rattle.alpha.specs.Field.{field}
 use Rattle.alpha.specs.Sheet.{Expr, Expr.var, Sheet, Point, Range}
 use Rattle.alpha.specs.Affine.{meetsAll}
@@ -18,37 +20,43 @@ use Rattle.alpha.specs.Read.{dimension}
 use Rattle.alpha.specs.Shape.{fits}
 use Rattle.alpha.specs.Holds.{variable, isInput, inDomain}
 use Rattle.alpha.specs.Check.{total}
-use Rattle.alpha.specs.Outcome.{outside, value, loop, eval, outcome}
-use Rattle.laws.specs.At.{At}
+use Rattle.alpha.specs.Outcome.{outside, loop, eval, outcome}
+use Rattle.laws.specs.At.{nodeEnd, At}
 use Rattle.laws.specs.Sheets.{headsOf, varsOf, sheetOf}
 use Rattle.laws.proofs.Boxes.{index-low, pointAt-index}
 use Rattle.laws.proofs.Elements.{number-low, element-of-number}
 use Rattle.laws.proofs.Growth.{outcome-outside, outcome-none, outcome-body}
 use Rattle.laws.proofs.Readers.{counted-is}
-use Rattle.laws.proofs.Shapes.{at-var, var-known}
+use Rattle.laws.proofs.Shapes.{at-var}
+use Rattle.integer.specs.Range as Range
 use Rattle.affine.specs.Value.{pointOf, Padded}
 use Rattle.sheet.specs.Record.{dimensionAt}
 use Rattle.points.specs.declared.Found.{Found}
 use Rattle.points.specs.declared.Found.the-variants as Found
 use Rattle.points.specs.Number.{boxOf, numberIn}
+use Rattle.tree.specs.declared.LeafKind.the-variants.{Variable}
+use Rattle.tree.specs.Classes.{leafCode}
 use Rattle.tree.specs.Formed.{Formed}
+use Rattle.tree.proofs.Classes.{coded-field}
+use Rattle.tree.proofs.Fitting.{variable-known}
 use Rattle.domain.specs.Walk.{Walk}
 use Rattle.domain.specs.Held.{Held}
-use Rattle.domain.proofs.Walks.{code-field}
 use Rattle.domain.proofs.Records.{VariableLaid, laid-variable}
 use Rattle.domain.proofs.Leaves.{Numbered, at-numbered, off-outside, number-is}
 use Rattle.domain.proofs.Bodying.{body-walk}
 use Rattle.domain.proofs.Carried.{held-by}
 use Rattle.evaluate.specs.declared.Work.{Work}
-use Rattle.evaluate.specs.declared.Work.the-variants.{Outside, Deep}
+use Rattle.evaluate.specs.declared.Work.the-variants.{Done, Deep}
 use Rattle.evaluate.specs.declared.Worked.{Worked}
-use Rattle.evaluate.specs.Memo.{busy, unknown, element, Memo, codeAt, valueAt, count, Right, Waits, Says, Wanted, Small}
-use Rattle.evaluate.specs.Memo.{noted, codeOf, valueOf}
-use Rattle.evaluate.specs.Working.{entryOf, elementAt, outcomes, expression, Bodied, Ready, Done, ElementIs, EvaluatesAt}
+use Rattle.evaluate.specs.Memo.{busy, unknown, element, Memo, codeAt, valueAt, savedAt, count, Tells, Right, Waits, Says, Known}
+use Rattle.evaluate.specs.Memo.{noted, stored}
+use Rattle.evaluate.specs.Working.{elementAt, outcomes, expression, Bodied, Ready, WorksOut, ElementIs, HeldLeaf, EvaluatesAt}
 use Rattle.evaluate.specs.Settling.{bodyOf}
+use Rattle.evaluate.proofs.Entries.{loop-decoded}
 use Rattle.evaluate.proofs.Stores.{decide, code-same, code-other, kept-same, kept-stored, still-busy, in-last, wanted-stored, sized-noted}
 use Rattle.evaluate.proofs.Stores.{sized-kept, busy-loops, right-mark, waits-mark, said-stored}
 use Rattle.evaluate.proofs.Doing.{element-grows, ready-sized, done-same, done-outside}
+use Rattle.evaluate.proofs.Operands.{some-variable, held-noded}
 
 module _ (bs tab : List ℕ) (F : Formed bs tab) (v e : ℕ) (z : List Int) (I : ElementIs bs v e z) where
   abbrev sheet : Sheet
@@ -91,7 +99,7 @@ module _ (bs tab : List ℕ) (F : Formed bs tab) (v e : ℕ) (z : List Int) (I :
 
     element-walk : (place : ℕ) → place ≡ getD tab (69 + v) 0 → Walk bs place 2048 z
     element-walk place is =
-        body-walk bs tab v (index box point) laid (index-low box point (I .in-box)) F (I .known) no-input z
+        body-walk bs tab v (index box point) laid (index-low box point (I .in-box)) F (record { known = I .known; no-input = no-input }) z
         (record {
           is =
               ap (λ n. pointOf n z) (laid .dims-are) ∙ sym (pointAt-index box point (I .in-box))
@@ -116,11 +124,11 @@ module _ (bs tab : List ℕ) (F : Formed bs tab) (v e : ℕ) (z : List Int) (I :
           (element-walk place place-is) (bodied .clear)
 
       pub body-evaluated : (memo last : Memo) (r : Worked) → EvaluatesAt bs place z memo last r →
-          Done sheet memo last (λ ins. expression sheet ins (variable sheet v .body) point) (r .out)
+          WorksOut sheet memo last (λ ins. expression sheet ins (variable sheet v .body) point) (r .out)
       body-evaluated memo last r E = E (variable sheet v .body) (variable sheet v .end) (dimension (headsOf bs) v) body-at body-fits .done
 
-    pub body-by-number : (memo last : Memo) (r : Work) → Done sheet memo last (λ ins. expression sheet ins (variable sheet v .body) point) r →
-        Done sheet memo last (bodyOf sheet e) r
+    pub body-by-number : (memo last : Memo) (r : Work) → WorksOut sheet memo last (λ ins. expression sheet ins (variable sheet v .body) point) r →
+        WorksOut sheet memo last (bodyOf sheet e) r
     body-by-number memo last r D =
         done-same sheet memo last (bodyOf sheet e) (λ ins. expression sheet ins (variable sheet v .body) point) r
         (λ ins k. ap (λ x. expression sheet ins (variable sheet (x .who) .body) (x .at) k) element-is) D
@@ -131,48 +139,44 @@ module _ (bs tab : List ℕ) (F : Formed bs tab) (v e : ℕ) (z : List Int) (I :
     in-memo : e < length (memo .codes)
     in-memo = omega (arith, M .few, M .codes-long, element-low)
 
-    -- what the memo has
-    known-says : (c : ℕ) (x : Int) → codeAt memo e ≡ c → c < 6 → x .v ≡ valueAt memo e → (ins : List ℤ) →
-        Right (outcomes sheet ins) (total sheet) memo →
-        Waits (outcomes sheet ins) (total sheet) memo (element (outcomes sheet ins) e) →
-        Says (outcomes sheet ins) (element (outcomes sheet ins) e) (count memo) (entryOf c x)
+    -- what the memo has: a settled element's outcome, and an element in progress waits for itself
+    known-way : (o : Declared.Outcome) → codeAt memo e ≤ busy → Range.Says o (savedAt memo e) →
+        WorksOut sheet memo memo (λ ins. element (outcomes sheet ins) e) (Done o)
     unfolding Says
-    known-says zero x is l same ins R W = rw is at (R .settled e element-low (omega (arith, is)))
-    known-says (suc zero) x is l same ins R W = (rw is at (R .settled e element-low (omega (arith, is)))) ∙ ap value (sym same)
-    known-says (suc (suc zero)) x is l same ins R W = rw is at (R .settled e element-low (omega (arith, is)))
-    known-says (suc (suc (suc zero))) x is l same ins R W = rw is at (R .settled e element-low (omega (arith, is)))
-    known-says (suc (suc (suc (suc zero)))) x is l same ins R W = R .stuck e element-low is
-    known-says (suc (suc (suc (suc (suc zero))))) x is l same ins R W =
-        busy-loops (outcomes sheet ins) (element-grows sheet ins) (total sheet) memo e element-low is
-        (starts (M .opens e element-low (omega (arith, is))) ins) W
-    known-says (suc (suc (suc (suc (suc (suc c)))))) x is l same ins R W = absurd (omega arith)
-
-    pub known-way : (x : Int) (r : Work) → codeAt memo e < 6 → x .v ≡ valueAt memo e → r ≡ entryOf (codeAt memo e) x → Small r →
-        Done sheet memo memo (λ ins. element (outcomes sheet ins) e) r
-    known-way x r l same is small = record {
+    known-way o l says = record {
       kept = kept-same memo;
-      wanted = rw is (settled-wanted (codeAt memo e) x);
-      small = small;
-      said = λ ins R W. record { right = R; says = rw is (known-says (codeAt memo e) x refl l same ins R W) };
+      wanted = tt;
+      small = says .small;
+      said = λ ins R W. record { right = R; says = subst (Tells (element (outcomes sheet ins) e) (count memo)) (sym (says .is)) (tells ins R W) };
     }
       where
-        settled-wanted : (c : ℕ) (x : Int) → Wanted (total sheet) memo (entryOf c x)
-        settled-wanted zero x = tt
-        settled-wanted (suc zero) x = tt
-        settled-wanted (suc (suc zero)) x = tt
-        settled-wanted (suc (suc (suc zero))) x = tt
-        settled-wanted (suc (suc (suc (suc c)))) x = tt
+        tells : (ins : List ℤ) → Right (outcomes sheet ins) (total sheet) memo →
+            Waits (outcomes sheet ins) (total sheet) memo (element (outcomes sheet ins) e) →
+            Tells (element (outcomes sheet ins) e) (count memo) (savedAt memo e)
+        tells ins R W = decide (codeAt memo e) busy (ℕ-discrete (codeAt memo e) busy)
+            (λ is.
+            let loops =
+            busy-loops (outcomes sheet ins) (element-grows sheet ins) (total sheet) memo e element-low is
+            (starts (M .opens e element-low (omega (arith, is))) ins) W in
+            record { is = loops (count memo) ∙ loop-decoded (codeAt memo e) (valueAt memo e) (omega (arith, is)); stuck = λ _. loops })
+            (λ other. R .settled e element-low (omega (arith, l, other)))
+
+    pub known-answer : (r : Work) → Known memo e r → (o : Declared.Outcome) → r ≡ Done o → WorksOut sheet memo memo (λ ins. element (outcomes sheet ins) e) r
+    known-answer r k o is = let says = rw is at k in rw is (known-way o (says .0) (says .1))
 
     -- an unknown element
-    module _ (late : 6 ≤ codeAt memo e) where
-      pub fresh : codeAt memo e ≡ unknown
+    pub late-code : (r : Work) → Known memo e r → (d : ℕ) → r ≡ Deep d → unknown ≤ codeAt memo e
+    late-code r k d is = let says = rw is at k in says .0
+
+    module _ (late : unknown ≤ codeAt memo e) where
+      fresh : codeAt memo e ≡ unknown
       fresh = omega (arith, M .low e)
 
       open-body : Bodied sheet (elementAt sheet e)
       open-body = M .opens e element-low (omega (arith, late))
 
       -- that has to be worked out first
-      pub deep-way : Done sheet memo memo (λ ins. element (outcomes sheet ins) e) (Deep e)
+      deep-way : WorksOut sheet memo memo (λ ins. element (outcomes sheet ins) e) (Deep e)
       unfolding Says
       deep-way = record {
         kept = kept-same memo;
@@ -180,6 +184,9 @@ module _ (bs tab : List ℕ) (F : Formed bs tab) (v e : ℕ) (z : List Int) (I :
         small = tt;
         said = λ ins R W. record { right = R; says = λ k l. l };
       }
+
+      pub deep-answer : (r : Work) → Known memo e r → (d : ℕ) → r ≡ Deep d → WorksOut sheet memo memo (λ ins. element (outcomes sheet ins) e) r
+      deep-answer r k d is = let says = rw is at k in rw (is, says .1) deep-way
 
       abbrev marked : Memo
       marked = noted memo e busy (pos 0)
@@ -197,18 +204,18 @@ module _ (bs tab : List ℕ) (F : Formed bs tab) (v e : ℕ) (z : List Int) (I :
             (λ other. M .opens m h (rw (code-other memo e busy (pos 0) m other) at u));
       }
 
-      pub held-body : (place : ℕ) → place ≡ getD tab (69 + v) 0 → Held bs place 2048 z
-      held-body place is = element-held open-body place is
+      pub open-held : (place : ℕ) → place ≡ getD tab (69 + v) 0 → Held bs place 2048 z
+      open-held place is = element-held open-body place is
 
       -- that is worked out by its body
       module _ (place : ℕ) (place-is : place ≡ getD tab (69 + v) 0) (last : Memo) (r : Worked) (E : EvaluatesAt bs place z marked last r) where
-        pub body-done : Done sheet marked last (λ ins. expression sheet ins (variable sheet v .body) point) (r .out)
+        pub body-done : WorksOut sheet marked last (λ ins. expression sheet ins (variable sheet v .body) point) (r .out)
         body-done = body-evaluated open-body place place-is marked last r E
 
-        pub worked-way : Done sheet memo (noted last e (codeOf (r .out)) (valueOf (r .out))) (λ ins. element (outcomes sheet ins) e) (r .out)
+        pub worked-way : WorksOut sheet memo (stored last e (r .out)) (λ ins. element (outcomes sheet ins) e) (r .out)
         worked-way = record {
-          kept = kept-stored memo e (pos 0) in-memo fresh last (body-done .kept) (r .out);
-          wanted = wanted-stored (total sheet) last e (r .out) (in-last memo e (pos 0) in-memo fresh last (body-done .kept)) (body-done .wanted);
+          kept = kept-stored memo e in-memo fresh last (body-done .kept) (r .out);
+          wanted = wanted-stored (total sheet) last e (r .out) (in-last memo e in-memo fresh last (body-done .kept)) (body-done .wanted);
           small = body-done .small;
           said = λ ins R W.
               let out = outcomes sheet ins in
@@ -218,90 +225,86 @@ module _ (bs tab : List ℕ) (F : Formed bs tab) (v e : ℕ) (z : List Int) (I :
               let marked-sized = sized-noted (total sheet) memo e busy (pos 0) S in
               let first = starts open-body ins in
               let then = steps open-body ins in
-              let D = body-done .said ins (right-mark out grows (total sheet) e element-low body first then memo S fresh (pos 0) R)
-              (waits-mark out grows (total sheet) e element-low body first then memo S fresh (pos 0) W) in
+              let D = body-done .said ins (right-mark out grows (total sheet) e element-low body first then memo S fresh R)
+              (waits-mark out grows (total sheet) e element-low body first then memo S fresh W) in
               said-stored out grows (total sheet) e element-low body first then last
               (sized-kept (total sheet) marked last marked-sized (body-done .kept))
-              (still-busy memo e (pos 0) in-memo fresh last (body-done .kept)) (r .out) D;
+              (still-busy memo e in-memo fresh last (body-done .kept)) (r .out) D;
         }
 
 -- ---- a variable at a point
 
-module _ (bs tab : List ℕ) (F : Formed bs tab) (p left : ℕ) (z : List Int) (w : Walk bs p left z) (code : natAbs (field bs p) ≡ 0) (v : ℕ)
+module _ (bs tab : List ℕ) (F : Formed bs tab) (p left : ℕ) (z : List Int) (t : HeldLeaf Variable bs p left z) (v : ℕ)
     (number : v ≡ natAbs (field bs (p + 8))) where
   -- any tree there is this variable
   record Named (e : Expr) (q n : ℕ) : Type 0 where
     is : e ≡ var v
-    end : q ≡ p + 16
+    end : nodeEnd (varsOf bs) bs p ≡ q
     wide : dimension (headsOf bs) v ≡ n
 
   named : (e : Expr) (q n : ℕ) → At e (varsOf bs) bs p q → fits e (headsOf bs) n ≡ true → Named e q n
   named e q n h f =
-      let x = at-var (varsOf bs) bs e p q h (code-field bs p e q 0 h code) in
+      let x = at-var (varsOf bs) bs e p q h (coded-field bs e p q h (leafCode Variable) (t .code-is)) in
       let same : x .number ≡ v = counted-is (x .stands) ∙ sym number in
       record { is = x .is ∙ ap var same; end = x .end; wide = wide (rw (x .is ∙ ap var same) at f) }
     where
       wide : fits (var v) (headsOf bs) n ≡ true → dimension (headsOf bs) v ≡ n
       wide g = unfold fits in eqb-true (dimension (headsOf bs) v) n g
 
-  pub variable-known : 0 < varsOf bs → v < varsOf bs
-  variable-known some =
-      let x = at-var (varsOf bs) bs (w .tree) p (w .end) (w .at) (code-field bs p (w .tree) (w .end) 0 (w .at) code) in
-      let same : x .number ≡ v = counted-is (x .stands) ∙ sym number in
-      omega (arith, same, var-known x some)
+  pub number-known : v < varsOf bs
+  number-known = omega (arith, number, variable-known bs p (held-noded bs p left z (t .leaf .held)) (t .code-is) (some-variable bs tab F))
 
-  module _ (known : v < varsOf bs) where
-    there : VariableLaid bs tab v
-    there = laid-variable bs tab (F .placed) v known
+  there : VariableLaid bs tab v
+  there = laid-variable bs tab (F .placed) v number-known
 
-    abbrev here : Point
-    here = pointOf (dimension (headsOf bs) v) z
+  abbrev here : Point
+  here = pointOf (dimension (headsOf bs) v) z
 
-    -- the tree by the variable's outcome
-    variable-same : (e : Expr) (q n : ℕ) → Named e q n → (ins : List ℤ) (k : ℕ) →
-        expression (sheetOf bs) ins e (pointOf n z) k ≡ outcome k (sheetOf bs) ins v here
-    unfolding eval
-    variable-same e q n x ins k =
-        ap (λ t. expression (sheetOf bs) ins t (pointOf n z) k) (x .is) ∙ ap (λ d. outcome k (sheetOf bs) ins v (pointOf d z)) (sym (x .wide))
+  -- the tree by the variable's outcome
+  variable-same : (e : Expr) (q n : ℕ) → Named e q n → (ins : List ℤ) (k : ℕ) →
+      expression (sheetOf bs) ins e (pointOf n z) k ≡ outcome k (sheetOf bs) ins v here
+  unfolding eval
+  variable-same e q n x ins k =
+      ap (λ t. expression (sheetOf bs) ins t (pointOf n z) k) (x .is) ∙ ap (λ d. outcome k (sheetOf bs) ins v (pointOf d z)) (sym (x .wide))
 
-    -- off its box
-    pub off-way : (memo : Memo) → Found.Off ≡ numberIn (boxOf bs (getD tab v 0)) (pointOf (dimensionAt bs (getD tab v 0)) z) →
-        EvaluatesAt bs p z memo memo (record { out = Outside; next = p + 16 })
-    off-way memo off e q n h f =
-        let x = named e q n h f in
-        let outer : inBox (variable (sheetOf bs) v .head .box) here ≡ false =
-        off-outside (variable (sheetOf bs) v .head .box) here (number-is bs tab v z there Found.Off off) in
-        let undeclared : inDomain (variable (sheetOf bs) v) here ≡ false = ap (λ b. b && meetsAll (variable (sheetOf bs) v .declared) here) outer in
-        record {
-          done = done-same (sheetOf bs) memo memo (λ ins. expression (sheetOf bs) ins e (pointOf n z)) (λ ins k. outside) Outside
-              (λ ins k. variable-same e q n x ins k ∙ outcome-outside (sheetOf bs) ins k v here undeclared) (done-outside (sheetOf bs) memo);
-          ends = λ y g. sym (x .end);
-        }
-
-    -- at an element
-    module _ (i : ℕ) (at : Found.At i ≡ numberIn (boxOf bs (getD tab v 0)) (pointOf (dimensionAt bs (getD tab v 0)) z)) where
-      numbered : Numbered (variable (sheetOf bs) v .head .box) here i
-      numbered = at-numbered (variable (sheetOf bs) v .head .box) here i (number-is bs tab v z there (Found.At i) at)
-
-      pub named-element : (e : ℕ) → e ≡ getD tab (32 + v) 0 + i → ElementIs bs v e z
-      named-element e is = record {
-        known = known;
-        in-box = numbered .inside;
-        number = omega (arith, is, there .first-is, numbered .is);
-        rest = rw (named (w .tree) (w .end) (w .dims) (w .at) (w .fitting) .wide) (w .point .padded);
+  -- off its box
+  pub off-way : (memo : Memo) (k : ℕ) → k ≡ nodeEnd (varsOf bs) bs p → Found.Off ≡ numberIn (boxOf bs (getD tab v 0)) (pointOf (dimensionAt bs (getD tab v 0)) z) →
+      EvaluatesAt bs p z memo memo (record { out = Done Outcomes.Outside; next = k })
+  off-way memo k next off e q n h f =
+      let x = named e q n h f in
+      let outer : inBox (variable (sheetOf bs) v .head .box) here ≡ false =
+      off-outside (variable (sheetOf bs) v .head .box) here (number-is bs tab v z there Found.Off off) in
+      let undeclared : inDomain (variable (sheetOf bs) v) here ≡ false = ap (λ b. b && meetsAll (variable (sheetOf bs) v .declared) here) outer in
+      record {
+        done = done-same (sheetOf bs) memo memo (λ ins. expression (sheetOf bs) ins e (pointOf n z)) (λ ins k. outside) (Done Outcomes.Outside)
+            (λ ins k. variable-same e q n x ins k ∙ outcome-outside (sheetOf bs) ins k v here undeclared) (done-outside (sheetOf bs) memo);
+        ends = λ y g. next ∙ x .end;
       }
 
-      pub number-few : getD tab (32 + v) 0 + i < 4096
-      number-few = omega (arith, numbered .is, there .first-is, index-low (variable (sheetOf bs) v .head .box) here (numbered .inside), there .few)
+  -- at an element
+  module _ (i : ℕ) (at : Found.At i ≡ numberIn (boxOf bs (getD tab v 0)) (pointOf (dimensionAt bs (getD tab v 0)) z)) where
+    numbered : Numbered (variable (sheetOf bs) v .head .box) here i
+    numbered = at-numbered (variable (sheetOf bs) v .head .box) here i (number-is bs tab v z there (Found.At i) at)
 
-      pub variable-way : (e : ℕ) → e ≡ getD tab (32 + v) 0 + i → (memo last : Memo) (r : Work) →
-          Done (sheetOf bs) memo last (λ ins. element (outcomes (sheetOf bs) ins) e) r →
-          EvaluatesAt bs p z memo last (record { out = r; next = p + 16 })
-      variable-way e is memo last r D t q n h f =
-          let x = named t q n h f in
-          record {
-            done =
-                done-same (sheetOf bs) memo last (λ ins. expression (sheetOf bs) ins t (pointOf n z)) (λ ins. element (outcomes (sheetOf bs) ins) e) r
-                (λ ins k. variable-same t q n x ins k ∙ sym (outcome-is bs tab F v e z (named-element e is) ins k)) D;
-            ends = λ y g. sym (x .end);
-          }
+    pub named-element : (e : ℕ) → e ≡ getD tab (32 + v) 0 + i → ElementIs bs v e z
+    named-element e is = record {
+      known = number-known;
+      in-box = numbered .inside;
+      number = omega (arith, is, there .first-is, numbered .is);
+      rest = let w = t .leaf .held .walk in rw (named (w .tree) (w .end) (w .dims) (w .at) (w .fitting) .wide) (w .point .padded);
+    }
+
+    pub number-few : getD tab (32 + v) 0 + i < 4096
+    number-few = omega (arith, numbered .is, there .first-is, index-low (variable (sheetOf bs) v .head .box) here (numbered .inside), there .few)
+
+    pub variable-way : (e : ℕ) → e ≡ getD tab (32 + v) 0 + i → (k : ℕ) → k ≡ nodeEnd (varsOf bs) bs p → (memo last : Memo) (r : Work) →
+        WorksOut (sheetOf bs) memo last (λ ins. element (outcomes (sheetOf bs) ins) e) r →
+        EvaluatesAt bs p z memo last (record { out = r; next = k })
+    variable-way e is k next memo last r D tree q n h f =
+        let x = named tree q n h f in
+        record {
+          done =
+              done-same (sheetOf bs) memo last (λ ins. expression (sheetOf bs) ins tree (pointOf n z)) (λ ins. element (outcomes (sheetOf bs) ins) e) r
+              (λ ins k. variable-same tree q n x ins k ∙ sym (outcome-is bs tab F v e z (named-element e is) ins k)) D;
+          ends = λ y g. next ∙ x .end;
+        }

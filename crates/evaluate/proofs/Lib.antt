@@ -5,7 +5,6 @@ pub mod Stores
 pub mod Doing
 pub mod Operands
 pub mod Ways
-pub mod Lowering
 pub mod Elements
 pub mod Owning
 pub mod Stacks

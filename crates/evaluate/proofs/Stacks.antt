@@ -10,16 +10,19 @@ use lib.Seq.{getD-set-same, getD-set-other}
 use lib.IntN.{ℤ, pos}
 use Rattle.alpha.specs.Sheet.{Sheet}
 use Rattle.alpha.specs.Check.{total}
+use Rattle.alpha.specs.declared.Outcome as Declared
 use Rattle.alpha.specs.Outcome.{loop}
+use Rattle.alpha.specs.Verdict.{outcomeOf, codeFor}
 use Rattle.laws.proofs.Growth.{outcome-none, outcome-body}
 use Rattle.evaluate.specs.declared.Work.{Work}
-use Rattle.evaluate.specs.declared.Work.the-variants.{Outside, Value, DivZero, Overflow, Loop, Deep}
-use Rattle.evaluate.specs.Memo.{busy, unknown, Memo, codeAt, sum, busyOne, toDo, Right, Waits, Says, Said, noted, codeOf}
-use Rattle.evaluate.specs.Memo.{valueOf}
+use Rattle.evaluate.specs.declared.Work.the-variants.{Done, Deep}
+use Rattle.evaluate.specs.Memo.{busy, unknown, Memo, codeAt, sum, busyOne, toDo, Right, Waits, Says, Said, Known, noted, codeOf}
+use Rattle.evaluate.specs.Memo.{valueOf, stored}
 use Rattle.evaluate.specs.Memo as Memo
-use Rattle.evaluate.specs.Working.{elementAt, outcomes, Bodied, Ready, Done}
-use Rattle.evaluate.specs.Settling.{bodyOf, standing, Stacked, Linked, Turned, Idle, Settled}
-use Rattle.evaluate.proofs.Stores.{decide, code-same, code-other, sum-store, answer-unmarked, loop-down, right-set, said-stored}
+use Rattle.evaluate.specs.Working.{elementAt, outcomes, Bodied, Ready, WorksOut}
+use Rattle.evaluate.specs.Settling.{bodyOf, standing, Stacked, Linked, Turned, Idle, Alone, Standing, Settled}
+use Rattle.evaluate.proofs.Entries.{code-few, busy-one, none-to-do, answer-unmarked}
+use Rattle.evaluate.proofs.Stores.{decide, code-same, code-other, sum-store, loop-down, right-set, said-stored}
 use Rattle.evaluate.proofs.Doing.{element-grows, ready-sized, ready-kept}
 
 -- ---- sums over the entries
@@ -30,15 +33,6 @@ unfolding sum
 entry-counts w z [] i = omega (arith, z)
 entry-counts w z (c ∷ cs) zero = omega arith
 entry-counts w z (c ∷ cs) (suc i) = omega (arith, entry-counts w z cs i)
-
-busy-one : (c : ℕ) → busyOne c ≤ 1
-busy-one zero = omega arith
-busy-one (suc zero) = omega arith
-busy-one (suc (suc zero)) = omega arith
-busy-one (suc (suc (suc zero))) = omega arith
-busy-one (suc (suc (suc (suc zero)))) = omega arith
-busy-one (suc (suc (suc (suc (suc zero))))) = omega arith
-busy-one (suc (suc (suc (suc (suc (suc c)))))) = omega arith
 
 marks-few : (cs : List ℕ) → sum busyOne cs ≤ length cs
 unfolding sum
@@ -74,16 +68,14 @@ module _ (s : Sheet) (memo : Memo) (M : Ready s memo) (e c : ℕ) (x : ℤ) (lt 
         (λ other. M .opens m h (rw (code-other memo e c x m other) at u));
   }
 
--- the last code of an answer that has to wait for nothing
-settled-code : (r : Work) → ((d : ℕ) → r ≡ Deep d → ⊥) → (codeOf r ≤ 4) × (toDo (codeOf r) ≡ 0)
-settled-code Outside h = (omega arith, refl)
-settled-code (Value x) h = (omega arith, refl)
-settled-code DivZero h = (omega arith, refl)
-settled-code Overflow h = (omega arith, refl)
-settled-code Loop h = (omega arith, refl)
-settled-code (Deep d) h = absurd (h d refl)
+-- the code of an answer that is an outcome
+settled-code : (r : Work) (o : Declared.Outcome) → r ≡ Done o → (codeOf r ≤ 4) × (toDo (codeOf r) ≡ 0)
+settled-code r o is = let few = code-few (outcomeOf o) in rw is (few, none-to-do (codeFor o) few)
 
-module _ (s : Sheet) (memo : Memo) (M : Ready s memo) (stack : List ℕ) (high : ℕ) (St : Stacked s memo stack high) (some : 1 ≤ high) where
+module _ (s : Sheet) (memo : Memo) (M : Ready s memo) (stack : List ℕ) (high : ℕ) (Top : Standing s memo stack high) where
+  abbrev St : Stacked s memo stack high
+  St = Top .stacked
+
   abbrev top : ℕ
   top = standing stack (high - 1)
 
@@ -104,22 +96,22 @@ module _ (s : Sheet) (memo : Memo) (M : Ready s memo) (stack : List ℕ) (high :
   high-few = omega (arith, St .height, M .codes-long, marks-few (memo .codes))
 
   pub top-element : top < total s
-  top-element = St .element (high - 1) (omega arith)
+  top-element = St .element (high - 1) (omega (arith, Top .some))
 
   pub top-marked : codeAt memo top ≡ busy
-  top-marked = St .marked (high - 1) (omega arith)
+  top-marked = St .marked (high - 1) (omega (arith, Top .some))
 
   -- each on the stack loops after the body of the one on top
   module _ (ins : List ℤ) (L : Linked s ins stack high) where
     down : (d j : ℕ) → j + d ≡ high - 1 → (k : ℕ) → bodyOf s top ins k ≡ loop → outcomes s ins (suc k) (standing stack j) ≡ loop
     down zero j is k q =
-        let here : j ≡ high - 1 = omega arith in
-        subst (λ i. outcomes s ins (suc k) (standing stack i) ≡ loop) (sym here) (steps (high - 1) (omega arith) ins k ∙ q)
+        let here : j ≡ high - 1 = omega (arith, Top .some) in
+        subst (λ i. outcomes s ins (suc k) (standing stack i) ≡ loop) (sym here) (steps (high - 1) (omega (arith, Top .some)) ins k ∙ q)
     down (suc d) j is k q =
-        let above : outcomes s ins (suc k) (standing stack (suc j)) ≡ loop = down d (suc j) (omega arith) k q in
-        steps j (omega arith) ins k
-        ∙ L .link j (omega arith) k
-        (loop-down (outcomes s ins) (element-grows s ins) (total s) k (suc k) (standing stack (suc j)) (omega arith) above)
+        let above : outcomes s ins (suc k) (standing stack (suc j)) ≡ loop = down d (suc j) (omega (arith, Top .some)) k q in
+        steps j (omega (arith, Top .some)) ins k
+        ∙ L .link j (omega (arith, Top .some)) k
+        (loop-down (outcomes s ins) (element-grows s ins) (total s) k (suc k) (standing stack (suc j)) (omega (arith, Top .some)) above)
 
     waits-top : Waits (outcomes s ins) (total s) memo (bodyOf s top ins)
     waits-top = record {
@@ -128,15 +120,12 @@ module _ (s : Sheet) (memo : Memo) (M : Ready s memo) (stack : List ℕ) (high :
           subst (λ i. outcomes s ins (suc k) i ≡ loop) (f .2) (down (high - 1 - f .0) (f .0) (omega (arith, f .1)) k q);
     }
 
-  module _ (last : Memo) (r : Work) (D : Done s memo last (bodyOf s top) r) where
+  module _ (last : Memo) (r : Work) (D : WorksOut s memo last (bodyOf s top) r) where
     ready-last : Ready s last
     ready-last = ready-kept s memo last M (D .kept)
 
-    pub codes-last : length (last .codes) ≡ 4096
+    codes-last : length (last .codes) ≡ 4096
     codes-last = ready-last .codes-long
-
-    pub values-last : length (last .values) ≡ 4096
-    values-last = ready-last .values-long
 
     in-last : (m : ℕ) → m < total s → m < length (last .codes)
     in-last m h = in-codes s last ready-last m 0 (pos 0) h
@@ -150,15 +139,15 @@ module _ (s : Sheet) (memo : Memo) (M : Ready s memo) (stack : List ℕ) (high :
 
     -- ---- the one on top is settled
 
-    module _ (done : (d : ℕ) → r ≡ Deep d → ⊥) where
+    module _ (o : Declared.Outcome) (is : r ≡ Done o) where
       abbrev popped : Memo
-      popped = noted last top (codeOf r) (valueOf r)
+      popped = stored last top r
 
       pub popped-turn : Turned s memo stack high popped stack (high - 1)
       popped-turn = record {
         ready =
-            ready-noted s last ready-last top (codeOf r) (valueOf r) top-element (omega (arith, settled-code r done .0))
-            (λ l. absurd (omega (arith, settled-code r done .0)));
+            ready-noted s last ready-last top (codeOf r) (valueOf r) top-element (omega (arith, settled-code r o is .0))
+            (λ l. absurd (omega (arith, settled-code r o is .0)));
         stacked = record {
           sized = St .sized;
           height =
@@ -166,38 +155,38 @@ module _ (s : Sheet) (memo : Memo) (M : Ready s memo) (stack : List ℕ) (high :
                 arith,
                 St .height,
                 D .kept .marks,
-                sum-store busyOne last top busy (codeOf r) (valueOf r) (in-last top top-element) (still (high - 1) (omega arith)),
+                sum-store busyOne last top busy (codeOf r) (valueOf r) (in-last top top-element) (still (high - 1) (omega (arith, Top .some))),
                 answer-unmarked r,
               );
-          element = λ j h. St .element j (omega arith);
+          element = λ j h. St .element j (omega (arith, Top .some));
           marked =
-              λ j h. code-other last top (codeOf r) (valueOf r) (standing stack j) (λ e. St .apart j (high - 1) h (omega arith) e)
-              ∙ still j (omega arith);
+              λ j h. code-other last top (codeOf r) (valueOf r) (standing stack j) (λ e. St .apart j (high - 1) h (omega (arith, Top .some)) e)
+              ∙ still j (omega (arith, Top .some));
           found = λ m h b. decide m top (ℕ-discrete m top)
               (λ same. absurd (let c : codeOf r ≡ busy = sym (code-same last top (codeOf r) (valueOf r) (in-last top top-element))
-              ∙ rw same at b in omega (arith, settled-code r done .0)))
+              ∙ rw same at b in omega (arith, settled-code r o is .0)))
               (λ other.
               let f = St .found m h (D .kept .idle m (sym (code-other last top (codeOf r) (valueOf r) m other) ∙ b)) in
               (f .0, before (f .0) (f .1) (λ e. other (sym (f .2) ∙ ap (standing stack) e)), f .2));
-          apart = λ i j l h e. St .apart i j l (omega arith) e;
+          apart = λ i j l h e. St .apart i j l (omega (arith, Top .some)) e;
         };
         less =
             omega (
               arith,
               D .kept .less,
-              sum-store toDo last top busy (codeOf r) (valueOf r) (in-last top top-element) (still (high - 1) (omega arith)),
-              settled-code r done .1,
+              sum-store toDo last top busy (codeOf r) (valueOf r) (in-last top top-element) (still (high - 1) (omega (arith, Top .some))),
+              settled-code r o is .1,
             );
         first = refl;
         settled = λ none.
             let one : high - 1 ≡ 0 = none in
-            let is : codeAt popped top ≡ codeOf r = code-same last top (codeOf r) (valueOf r) (in-last top top-element) in
-            subst (λ i. codeAt popped (standing stack i) ≤ 4) one (omega (arith, is, settled-code r done .0));
+            let stored : codeAt popped top ≡ codeOf r = code-same last top (codeOf r) (valueOf r) (in-last top top-element) in
+            subst (λ i. codeAt popped (standing stack i) ≤ 4) one (omega (arith, stored, settled-code r o is .0));
         right = λ ins R L. (
-          said-stored (outcomes s ins) (element-grows s ins) (total s) top top-element (bodyOf s top ins) (starts (high - 1) (omega arith) ins)
-              (steps (high - 1) (omega arith) ins)
-              last (ready-sized s last ready-last) (still (high - 1) (omega arith)) r (said ins R L) .right,
-          record { link = λ j h k q. L .link j (omega arith) k q },
+          said-stored (outcomes s ins) (element-grows s ins) (total s) top top-element (bodyOf s top ins) (starts (high - 1) (omega (arith, Top .some)) ins)
+              (steps (high - 1) (omega (arith, Top .some)) ins)
+              last (ready-sized s last ready-last) (still (high - 1) (omega (arith, Top .some))) r (said ins R L) .right,
+          record { link = λ j h k q. L .link j (omega (arith, Top .some)) k q },
         );
       }
         where
@@ -206,7 +195,7 @@ module _ (s : Sheet) (memo : Memo) (M : Ready s memo) (stack : List ℕ) (high :
 
   -- ---- one that it waits for comes on top
 
-  module _ (last : Memo) (d : ℕ) (D : Done s memo last (bodyOf s top) (Deep d)) where
+  module _ (last : Memo) (d : ℕ) (D : WorksOut s memo last (bodyOf s top) (Deep d)) where
     pub wanted-element : d < total s
     wanted-element = D .wanted .0
 
@@ -245,7 +234,7 @@ module _ (s : Sheet) (memo : Memo) (M : Ready s memo) (stack : List ℕ) (high :
     pub pushed-turn : Turned s memo stack high pushed taller (high + 1)
     unfolding Says
     pushed-turn = record {
-      ready = ready-noted s last (ready-last last (Deep d) D) d busy (pos 0) wanted-element (omega arith)
+      ready = ready-noted s last (ready-last last (Deep d) D) d busy (pos 0) wanted-element (omega (arith, Top .some))
           (λ l. ready-last last (Deep d) D .opens d wanted-element (omega (arith, D .wanted .1)));
       stacked = record {
         sized = simp length-set (St .sized);
@@ -261,31 +250,30 @@ module _ (s : Sheet) (memo : Memo) (M : Ready s memo) (stack : List ℕ) (high :
             (λ l. rw (under j l) (code-other last d busy (pos 0) (standing stack j) (λ e. new j l e) ∙ still last (Deep d) D j l))
             (rw on-top (code-same last d busy (pos 0) (in-last last (Deep d) D d wanted-element)));
         found = λ m h b. decide m d (ℕ-discrete m d)
-            (λ same. (high, omega arith, on-top ∙ sym same))
+            (λ same. (high, omega (arith, Top .some), on-top ∙ sym same))
             (λ other.
             let f = St .found m h (D .kept .idle m (sym (code-other last d busy (pos 0) m other) ∙ b)) in
             (f .0, omega (arith, f .1), under (f .0) (f .1) ∙ f .2));
         apart = λ i j l h e. decide j high (ℕ-discrete j high)
-            (λ last-one. new i (omega arith) (sym (under i (omega arith)) ∙ e ∙ ap (standing taller) last-one ∙ on-top))
-            (λ n. let k : j < high = omega (arith, n) in St .apart i j l k (sym (under i (omega arith)) ∙ e ∙ under j k));
+            (λ last-one. new i (omega (arith, Top .some)) (sym (under i (omega (arith, Top .some))) ∙ e ∙ ap (standing taller) last-one ∙ on-top))
+            (λ n. let k : j < high = omega (arith, n) in St .apart i j l k (sym (under i (omega (arith, Top .some))) ∙ e ∙ under j k));
       };
       less = omega (arith, D .kept .less, sum-store toDo last d unknown busy (pos 0) (in-last last (Deep d) D d wanted-element) (D .wanted .1));
-      first = under 0 (omega arith);
-      settled = λ none. absurd (omega arith);
+      first = under 0 (omega (arith, Top .some));
+      settled = λ none. absurd (omega (arith, Top .some));
       right = λ ins R L.
           let S = said last (Deep d) D ins R L in (
             right-set (outcomes s ins) (element-grows s ins) (total s) last (ready-sized s last (ready-last last (Deep d) D)) (S .right) d unknown
-                busy (pos 0) wanted-element (D .wanted .1) refl
-                (λ h. absurd (omega arith)) (λ h. absurd (omega arith)),
+                busy (pos 0) wanted-element (D .wanted .1) refl (λ h. absurd (omega (arith, Top .some))),
             record {
               link = λ j h k q. decide (suc j) high (ℕ-discrete (suc j) high)
                   (λ is.
-                  let at : j ≡ high - 1 = omega arith in
+                  let at : j ≡ high - 1 = omega (arith, Top .some) in
                   let loops : outcomes s ins k d ≡ loop = subst (λ i. outcomes s ins k i ≡ loop) (ap (standing taller) is ∙ on-top) q in
-                  subst (λ i. bodyOf s i ins k ≡ loop) (sym (under j (omega arith) ∙ ap (standing stack) at)) (S .says k loops))
+                  subst (λ i. bodyOf s i ins k ≡ loop) (sym (under j (omega (arith, Top .some)) ∙ ap (standing stack) at)) (S .says k loops))
                   (λ n.
                   let l : suc j < high = omega (arith, n) in
-                  subst (λ i. bodyOf s i ins k ≡ loop) (sym (under j (omega arith)))
+                  subst (λ i. bodyOf s i ins k ≡ loop) (sym (under j (omega (arith, Top .some))))
                   (L .link j l k (subst (λ i. outcomes s ins k i ≡ loop) (under (suc j) l) q)));
             },
           );
@@ -294,7 +282,7 @@ module _ (s : Sheet) (memo : Memo) (M : Ready s memo) (stack : List ℕ) (high :
 -- ---- from the first turn to the last
 
 -- a code that is no unknown element's, and none in progress, is a settled one's
-under-busy : (c : ℕ) → c < 6 → (c ≡ busy → ⊥) → c ≤ 4
+under-busy : (c : ℕ) → c ≤ busy → (c ≡ busy → ⊥) → c ≤ 4
 under-busy c l ne = omega (arith, ne)
 
 -- element e was put on an empty stack, which left memo, and so far
@@ -315,39 +303,50 @@ going-on s e memo memo′ memo″ stack stack′ high high′ G T = record {
   right = λ ins R. let g = G .right ins R in T .right ins (g .0) (g .1);
 }
 
-module _ (s : Sheet) (e : ℕ) (memo : Memo) (M : Ready s memo) (idle : Idle memo) (lt : e < total s) where
+module _ (s : Sheet) (e : ℕ) (memo : Memo) (M : Ready s memo) (A : Alone s memo e) where
   -- it is settled already
-  pub settled-before : codeAt memo e < 6 → Settled s e memo memo
-  settled-before l = record {
+  pub settled-before : (o : Declared.Outcome) → Known memo e (Done o) → Settled s e memo memo o
+  settled-before o k = record {
     ready = M;
-    idle = idle;
-    settled = under-busy (codeAt memo e) l (idle-none memo idle e);
+    idle = A .idle;
+    settled = under-busy (codeAt memo e) (k .0) (idle-none memo (A .idle) e);
+    says = k .1;
     right = λ ins R. R;
   }
 
   -- after one attempt at it
-  module _ (last : Memo) (r : Work) (D : Done s memo last (λ ins. Memo.element (outcomes s ins) e) r) where
-    pub idle-after : Idle last
-    idle-after = D .kept .marks ∙ idle
+  module _ (last : Memo) (r : Work) (D : WorksOut s memo last (λ ins. Memo.element (outcomes s ins) e) r) where
+    idle-after : Idle last
+    idle-after = D .kept .marks ∙ A .idle
+
+    pub alone-after : Alone s last e
+    alone-after = record { idle = idle-after; element = A .element }
 
     -- every entry is right, since no element waits for this one
     attempt-right : (ins : List ℤ) → Right (outcomes s ins) (total s) memo → Right (outcomes s ins) (total s) last
-    attempt-right ins R = D .said ins R (record { waits = λ m h b k q. absurd (idle-none memo idle m b) }) .right
+    attempt-right ins R = D .said ins R (record { waits = λ m h b k q. absurd (idle-none memo (A .idle) m b) }) .right
 
     -- it is settled, or unknown still
-    pub attempted : codeAt last e < 6 → Settled s e memo last
-    attempted l = record {
+    pub attempted : (o : Declared.Outcome) → Known last e (Done o) → Settled s e memo last o
+    attempted o k = record {
       ready = ready-kept s memo last M (D .kept);
       idle = idle-after;
-      settled = under-busy (codeAt last e) l (idle-none last idle-after e);
+      settled = under-busy (codeAt last e) (k .0) (idle-none last idle-after e);
+      says = k .1;
       right = attempt-right;
     }
 
-    pub settled-after : (memo′ : Memo) → Settled s e last memo′ → Settled s e memo memo′
-    settled-after memo′ S = record { ready = S .ready; idle = S .idle; settled = S .settled; right = λ ins R. S .right ins (attempt-right ins R) }
+    pub settled-after : (memo′ : Memo) (o : Declared.Outcome) → Settled s e last memo′ o → Settled s e memo memo′ o
+    settled-after memo′ o S = record {
+      ready = S .ready;
+      idle = S .idle;
+      settled = S .settled;
+      says = S .says;
+      right = λ ins R. S .right ins (attempt-right ins R);
+    }
 
   -- it is marked, and put on the stack
-  module _ (late : 6 ≤ codeAt memo e) where
+  module _ (late : unknown ≤ codeAt memo e) where
     fresh : codeAt memo e ≡ unknown
     fresh = omega (arith, M .low e)
 
@@ -362,15 +361,15 @@ module _ (s : Sheet) (e : ℕ) (memo : Memo) (M : Ready s memo) (idle : Idle mem
 
     pub going-first : (stack : List ℕ) → length stack ≡ 4096 → Going s e marked marked (set stack 0 e) 1
     going-first stack sized = record {
-      ready = ready-noted s memo M e busy (pos 0) lt (omega arith) (λ l. M .opens e lt (omega (arith, fresh)));
+      ready = ready-noted s memo M e busy (pos 0) (A .element) (omega arith) (λ l. M .opens e (A .element) (omega (arith, fresh)));
       stacked = record {
         sized = simp length-set sized;
-        height = omega (arith, sum-store busyOne memo e unknown busy (pos 0) (in-codes s memo M e busy (pos 0) lt) fresh, idle);
-        element = λ j h. rw (only stack sized j h) lt;
-        marked = λ j h. rw (only stack sized j h) (code-same memo e busy (pos 0) (in-codes s memo M e busy (pos 0) lt));
+        height = omega (arith, sum-store busyOne memo e unknown busy (pos 0) (in-codes s memo M e busy (pos 0) (A .element)) fresh, A .idle);
+        element = λ j h. rw (only stack sized j h) (A .element);
+        marked = λ j h. rw (only stack sized j h) (code-same memo e busy (pos 0) (in-codes s memo M e busy (pos 0) (A .element)));
         found = λ m h b. decide m e (ℕ-discrete m e)
             (λ same. (0, omega arith, only stack sized 0 (omega arith) ∙ sym same))
-            (λ other. absurd (idle-none memo idle m (sym (code-other memo e busy (pos 0) m other) ∙ b)));
+            (λ other. absurd (idle-none memo (A .idle) m (sym (code-other memo e busy (pos 0) m other) ∙ b)));
         apart = λ i j l h q. omega arith;
       };
       first = only stack sized 0 (omega arith);
@@ -378,14 +377,21 @@ module _ (s : Sheet) (e : ℕ) (memo : Memo) (M : Ready s memo) (idle : Idle mem
       right = λ ins R. (R, record { link = λ j h k q. absurd (omega arith) });
     }
 
-    pub going-last : (memo′ : Memo) (stack : List ℕ) (high : ℕ) → Going s e marked memo′ stack high → high ≤ 0 → Settled s e memo memo′
-    going-last memo′ stack high G none = record {
-      ready = G .ready;
-      idle = omega (arith, G .stacked .height);
-      settled = G .settled (omega arith);
-      right = λ ins R.
-          G .right ins
-          (right-set (outcomes s ins) (element-grows s ins) (total s) memo (ready-sized s memo M) R e unknown busy (pos 0) lt fresh refl
-          (λ h. absurd (omega arith)) (λ h. absurd (omega arith)))
-          .0;
-    }
+    -- the stack is empty again
+    module _ (memo′ : Memo) (stack : List ℕ) (high : ℕ) (G : Going s e marked memo′ stack high) (none : high ≤ 0) where
+      -- the memo has its outcome, and does not answer that it has to be worked out first
+      pub last-known : (d : ℕ) {X : Type 0} → Known memo′ e (Deep d) → X
+      last-known d k = let l = G .settled (omega arith) in absurd (omega (arith, k .0, l))
+
+      pub going-last : (o : Declared.Outcome) → Known memo′ e (Done o) → Settled s e memo memo′ o
+      going-last o k = record {
+        ready = G .ready;
+        idle = omega (arith, G .stacked .height);
+        settled = G .settled (omega arith);
+        says = k .1;
+        right = λ ins R.
+            G .right ins
+            (right-set (outcomes s ins) (element-grows s ins) (total s) memo (ready-sized s memo M) R e unknown busy (pos 0) (A .element) fresh refl
+            (λ h. absurd (omega arith)))
+            .0;
+      }

@@ -8,14 +8,17 @@ use mathlib.Core.List.{List, [], _∷_}
 use lib.ListN.{length, getD, set, length-set}
 use lib.Seq.{getD-set-same, getD-set-other}
 use lib.IntN.{ℤ, pos}
-use Rattle.alpha.specs.Outcome.{Outcome, outside, value, divzero, overflow, loop}
-use Rattle.laws.specs.Under.{Under}
+use Rattle.alpha.specs.declared.Outcome as Declared
+use Rattle.alpha.specs.Outcome.{Outcome, loop}
+use Rattle.alpha.specs.Verdict.{outcomeOf, codeFor, valueFor}
 use Rattle.laws.specs.Coded.{decoded}
 use Rattle.laws.proofs.Growth.{under-loop}
 use Rattle.evaluate.specs.declared.Work.{Work}
-use Rattle.evaluate.specs.declared.Work.the-variants.{Outside, Value, DivZero, Overflow, Loop, Deep}
-use Rattle.evaluate.specs.Memo.{busy, unknown, Thing, Elements, Grows, element, Memo, codeAt, valueAt, sum, settledOne, busyOne, toDo, count}
-use Rattle.evaluate.specs.Memo.{Sized, Right, Waits, Says, Said, Kept, Wanted, noted, codeOf, valueOf}
+use Rattle.evaluate.specs.declared.Work.the-variants.{Done, Deep}
+use Rattle.evaluate.specs.Memo.{busy, unknown, Thing, Elements, Grows, element, Memo, codeAt, valueIn, valueAt, savedAt}
+use Rattle.evaluate.specs.Memo.{sum, settledOne, busyOne, toDo, count, Sized, Tells, Right, Waits, Says, Said, Kept, Wanted}
+use Rattle.evaluate.specs.Memo.{noted, codeOf, valueOf, stored}
+use Rattle.evaluate.proofs.Entries.{by-loop, decoded-coded, under-same, settled-low, answer-idle, answer-unmarked, answer-low, answer-to-do}
 
 pub decide {ℓ} : {X : Type ℓ} (m e : ℕ) → Dec (m ≡ e) → (m ≡ e → X) → (¬ (m ≡ e) → X) → X
 decide m e (yes p) f g = f p
@@ -30,11 +33,11 @@ module _ (memo : Memo) (e c : ℕ) (x : ℤ) where
   pub code-other : (m : ℕ) → ¬ (m ≡ e) → codeAt (noted memo e c x) m ≡ codeAt memo m
   code-other m n = getD-set-other (memo .codes) e m c 0 n
 
-  value-same : e < length (memo .values) → valueAt (noted memo e c x) e ≡ x
-  value-same h = getD-set-same (memo .values) e x (pos 0) h
+  pub value-same : e < length (memo .values) → valueAt (noted memo e c x) e ≡ x
+  value-same h = getD-set-same (memo .values) e x (valueIn 0) h
 
-  value-other : (m : ℕ) → ¬ (m ≡ e) → valueAt (noted memo e c x) m ≡ valueAt memo m
-  value-other m n = getD-set-other (memo .values) e m x (pos 0) n
+  pub value-other : (m : ℕ) → ¬ (m ≡ e) → valueAt (noted memo e c x) m ≡ valueAt memo m
+  value-other m n = getD-set-other (memo .values) e m x (valueIn 0) n
 
 -- a sum over the entries goes by the one that is stored
 pub sum-set : (w : ℕ → ℕ) (cs : List ℕ) (i c : ℕ) → i < length cs → sum w (set cs i c) + w (getD cs i 0) ≡ sum w cs + w c
@@ -47,48 +50,6 @@ sum-set w (d ∷ cs) (suc i) c h = let q : i < length cs = omega arith in omega 
 pub sum-store : (w : ℕ → ℕ) (memo : Memo) (e old c : ℕ) (x : ℤ) → e < length (memo .codes) → codeAt memo e ≡ old →
     sum w (noted memo e c x .codes) + w old ≡ sum w (memo .codes) + w c
 sum-store w memo e old c x h is = rw (← is) (sum-set w (memo .codes) e c h)
-
--- ---- what a code counts for
-
-settled-low : (c : ℕ) → c ≤ 3 → settledOne c ≡ 1
-settled-low zero h = refl
-settled-low (suc zero) h = refl
-settled-low (suc (suc zero)) h = refl
-settled-low (suc (suc (suc zero))) h = refl
-settled-low (suc (suc (suc (suc c)))) h = absurd (omega arith)
-
--- an answer's entry is not in progress
-answer-idle : (r : Work) → ¬ (codeOf r ≡ busy)
-answer-idle Outside h = omega arith
-answer-idle (Value x) h = omega arith
-answer-idle DivZero h = omega arith
-answer-idle Overflow h = omega arith
-answer-idle Loop h = omega arith
-answer-idle (Deep d) h = omega arith
-
-pub answer-unmarked : (r : Work) → busyOne (codeOf r) ≡ 0
-answer-unmarked Outside = refl
-answer-unmarked (Value x) = refl
-answer-unmarked DivZero = refl
-answer-unmarked Overflow = refl
-answer-unmarked Loop = refl
-answer-unmarked (Deep d) = refl
-
-answer-low : (r : Work) → codeOf r ≤ unknown
-answer-low Outside = omega arith
-answer-low (Value x) = omega arith
-answer-low DivZero = omega arith
-answer-low Overflow = omega arith
-answer-low Loop = omega arith
-answer-low (Deep d) = omega arith
-
-answer-to-do : (r : Work) → toDo (codeOf r) ≤ 2
-answer-to-do Outside = omega arith
-answer-to-do (Value x) = omega arith
-answer-to-do DivZero = omega arith
-answer-to-do Overflow = omega arith
-answer-to-do Loop = omega arith
-answer-to-do (Deep d) = omega arith
 
 -- ---- nothing stored, and one after another
 
@@ -126,55 +87,52 @@ sized-noted n memo e c x S = record { room = simp length-set (S .room); pairs = 
 
 -- ---- an element is marked, something is worked out, and the element's entry is stored
 
-module _ (memo : Memo) (e : ℕ) (x : ℤ) (in-memo : e < length (memo .codes)) (fresh : codeAt memo e ≡ unknown) (last : Memo)
-    (K : Kept (noted memo e busy x) last) where
+module _ (memo : Memo) (e : ℕ) (in-memo : e < length (memo .codes)) (fresh : codeAt memo e ≡ unknown) (last : Memo)
+    (K : Kept (noted memo e busy (pos 0)) last) where
   pub still-busy : codeAt last e ≡ busy
-  still-busy = K .still e (code-same memo e busy x in-memo)
+  still-busy = K .still e (code-same memo e busy (pos 0) in-memo)
 
   pub in-last : e < length (last .codes)
   in-last = let l : length (last .codes) ≡ length (memo .codes) = simp length-set at (K .long) in omega arith
 
-  marked-low : ((m : ℕ) → codeAt memo m ≤ unknown) → (m : ℕ) → codeAt (noted memo e busy x) m ≤ unknown
+  marked-low : ((m : ℕ) → codeAt memo m ≤ unknown) → (m : ℕ) → codeAt (noted memo e busy (pos 0)) m ≤ unknown
   marked-low l m = decide m e (ℕ-discrete m e)
-      (λ same. rw (same, code-same memo e busy x in-memo) (omega arith))
-      (λ other. rw (code-other memo e busy x m other) (l m))
+      (λ same. rw (same, code-same memo e busy (pos 0) in-memo) (omega arith))
+      (λ other. rw (code-other memo e busy (pos 0) m other) (l m))
 
   module _ (r : Work) where
-    abbrev stored : Memo
-    stored = noted last e (codeOf r) (valueOf r)
-
-    pub kept-stored : Kept memo stored
+    pub kept-stored : Kept memo (stored last e r)
     kept-stored = record {
       long = simp length-set (K .long ∙ simp length-set);
       paired = simp length-set (K .paired ∙ simp length-set);
       more = omega (
         arith,
-        sum-store settledOne memo e unknown busy x in-memo fresh,
+        sum-store settledOne memo e unknown busy (pos 0) in-memo fresh,
         K .more,
         sum-store settledOne last e busy (codeOf r) (valueOf r) in-last still-busy,
       );
       still = λ m h. decide m e (ℕ-discrete m e)
           (λ same. absurd (let b : codeAt memo e ≡ busy = rw same at h in omega (arith, b, fresh)))
-          (λ other. code-other last e (codeOf r) (valueOf r) m other ∙ K .still m (code-other memo e busy x m other ∙ h));
+          (λ other. code-other last e (codeOf r) (valueOf r) m other ∙ K .still m (code-other memo e busy (pos 0) m other ∙ h));
       idle = λ m h. decide m e (ℕ-discrete m e)
           (λ same. absurd (answer-idle r (sym (code-same last e (codeOf r) (valueOf r) in-last) ∙ rw same at h)))
-          (λ other. sym (code-other memo e busy x m other) ∙ K .idle m (sym (code-other last e (codeOf r) (valueOf r) m other) ∙ h));
+          (λ other. sym (code-other memo e busy (pos 0) m other) ∙ K .idle m (sym (code-other last e (codeOf r) (valueOf r) m other) ∙ h));
       opened = λ m h. decide m e (ℕ-discrete m e)
           (λ same. rw same (omega (arith, fresh)))
-          (λ other. let l = K .opened m (rw (code-other last e (codeOf r) (valueOf r) m other) at h) in rw (code-other memo e busy x m other) at l);
+          (λ other. let l = K .opened m (rw (code-other last e (codeOf r) (valueOf r) m other) at h) in rw (code-other memo e busy (pos 0) m other) at l);
       low = λ l m. decide m e (ℕ-discrete m e)
           (λ same. rw (same, code-same last e (codeOf r) (valueOf r) in-last) (answer-low r))
           (λ other. rw (code-other last e (codeOf r) (valueOf r) m other) (K .low (marked-low l) m));
       marks = omega (
         arith,
-        sum-store busyOne memo e unknown busy x in-memo fresh,
+        sum-store busyOne memo e unknown busy (pos 0) in-memo fresh,
         K .marks,
         sum-store busyOne last e busy (codeOf r) (valueOf r) in-last still-busy,
         answer-unmarked r,
       );
       less = omega (
         arith,
-        sum-store toDo memo e unknown busy x in-memo fresh,
+        sum-store toDo memo e unknown busy (pos 0) in-memo fresh,
         K .less,
         sum-store toDo last e busy (codeOf r) (valueOf r) in-last still-busy,
         answer-to-do r,
@@ -183,12 +141,8 @@ module _ (memo : Memo) (e : ℕ) (x : ℤ) (in-memo : e < length (memo .codes)) 
 
 -- an element that was wanted is still unknown where another entry is stored, or its own as unknown again
 pub wanted-stored : (n : ℕ) (last : Memo) (e : ℕ) (r : Work) → e < length (last .codes) → Wanted n last r →
-    Wanted n (noted last e (codeOf r) (valueOf r)) r
-wanted-stored n last e Outside h w = tt
-wanted-stored n last e (Value x) h w = tt
-wanted-stored n last e DivZero h w = tt
-wanted-stored n last e Overflow h w = tt
-wanted-stored n last e Loop h w = tt
+    Wanted n (stored last e r) r
+wanted-stored n last e (Done o) h w = tt
 wanted-stored n last e (Deep d) h w = (
   w .0,
   decide d e (ℕ-discrete d e)
@@ -196,21 +150,14 @@ wanted-stored n last e (Deep d) h w = (
       (λ other. code-other last e unknown (pos 0) d other ∙ w .1),
 )
 
+-- ---- what an outcome tells of a thing it tells at greater depths too
+pub tells-later : (f : Thing) → Grows f → (j k : ℕ) (o : Outcome) → j ≤ k → Tells f j o → Tells f k o
+tells-later f grows j k o h t =
+    record { is = under-same o (f k) (rw (t .is) at (grows j k h)) (λ l. t .stuck l k); stuck = t .stuck }
+
 -- ---- right entries
 
--- a settled outcome says all
-decoded-plain : (c : ℕ) (x : ℤ) (p : Outcome) → c ≤ 3 → Under (decoded c x) p → p ≡ decoded c x
-decoded-plain zero x p h u = u
-decoded-plain (suc zero) x p h u = u
-decoded-plain (suc (suc zero)) x p h u = u
-decoded-plain (suc (suc (suc zero))) x p h u = u
-decoded-plain (suc (suc (suc (suc c)))) x p h u = absurd (omega arith)
-
 module _ (out : Elements) (grows : (m : ℕ) → Grows (element out m)) (n : ℕ) where
-  -- an element that is settled at one depth is so at a greater one
-  pub later : (j k m c : ℕ) (x : ℤ) → j ≤ k → c ≤ 3 → out j m ≡ decoded c x → out k m ≡ decoded c x
-  later j k m c x h l e = decoded-plain c x (out k m) l (rw e at (grows m j k h))
-
   pub loop-down : (j k m : ℕ) → j ≤ k → out k m ≡ loop → out j m ≡ loop
   loop-down j k m h l = under-loop (out j m) (rw l at (grows m j k h))
 
@@ -226,18 +173,14 @@ module _ (out : Elements) (grows : (m : ℕ) → Grows (element out m)) (n : ℕ
     count-more : count memo ≤ count (noted memo e c x)
     count-more = omega (arith, sum-store settledOne memo e old c x in-codes is, un)
 
-    pub right-set : (c ≤ 3 → out (count (noted memo e c x)) e ≡ decoded c x) → (c ≡ 4 → (k : ℕ) → out k e ≡ loop) → Right out n (noted memo e c x)
-    right-set p q = record {
+    pub right-set : (c ≤ 4 → Tells (element out e) (count (noted memo e c x)) (decoded c x)) → Right out n (noted memo e c x)
+    right-set p = record {
       settled = λ m h s. decide m e (ℕ-discrete m e)
           (λ same. rw (same, code-same memo e c x in-codes, value-same memo e c x in-values) (p (rw (same, code-same memo e c x in-codes) at s)))
           (λ other.
           let code = code-other memo e c x m other in
           rw (code, value-other memo e c x m other)
-          (later (count memo) (count (noted memo e c x)) m (codeAt memo m) (valueAt memo m) count-more (rw code at s)
-          (R .settled m h (rw code at s))));
-      stuck = λ m h s. decide m e (ℕ-discrete m e)
-          (λ same. rw same (q (rw (same, code-same memo e c x in-codes) at s)))
-          (λ other. R .stuck m h (rw (code-other memo e c x m other) at s));
+          (tells-later (element out m) (grows m) (count memo) (count (noted memo e c x)) (savedAt memo m) count-more (R .settled m h (rw code at s))));
     }
 
   -- ---- waiting
@@ -258,17 +201,18 @@ module _ (out : Elements) (grows : (m : ℕ) → Grows (element out m)) (n : ℕ
 
   module _ (e : ℕ) (lt : e < n) (body : Thing) (start : out 0 e ≡ loop) (step : (k : ℕ) → out (suc k) e ≡ body k) where
     -- marked as in progress
-    module _ (memo : Memo) (S : Sized n memo) (fresh : codeAt memo e ≡ unknown) (x : ℤ) where
-      pub right-mark : Right out n memo → Right out n (noted memo e busy x)
-      right-mark R = right-set memo S R e unknown busy x lt fresh refl (λ h. absurd (omega arith)) (λ h. absurd (omega arith))
+    module _ (memo : Memo) (S : Sized n memo) (fresh : codeAt memo e ≡ unknown) where
+      pub right-mark : Right out n memo → Right out n (noted memo e busy (pos 0))
+      right-mark R = right-set memo S R e unknown busy (pos 0) lt fresh refl (λ h. absurd (omega arith))
 
-      pub waits-mark : Waits out n memo (element out e) → Waits out n (noted memo e busy x) body
+      pub waits-mark : Waits out n memo (element out e) → Waits out n (noted memo e busy (pos 0)) body
       waits-mark W = record {
         waits = λ m h b k q.
             let here : out (suc k) e ≡ loop = step k ∙ q in
             decide m e (ℕ-discrete m e)
             (λ same. rw same here)
-            (λ other. loop-down (suc k) (suc (suc k)) m (omega arith) (W .waits m h (rw (code-other memo e busy x m other) at b) (suc k) here));
+            (λ other.
+            loop-down (suc k) (suc (suc k)) m (omega arith) (W .waits m h (rw (code-other memo e busy (pos 0) m other) at b) (suc k) here));
       }
 
     -- its body was worked out: its entry is stored
@@ -276,48 +220,37 @@ module _ (out : Elements) (grows : (m : ℕ) → Grows (element out m)) (n : ℕ
       in-codes-last : e < length (last .codes)
       in-codes-last = omega (arith, S .room)
 
-      module _ (r : Work) (D : Said out n last body r) where
+      right-kept : (r : Work) → Right out n last →
+          (codeOf r ≤ 4 → Tells (element out e) (count (stored last e r)) (decoded (codeOf r) (valueOf r))) →
+          Right out n (stored last e r)
+      right-kept r R p = right-set last S R e busy (codeOf r) (valueOf r) lt b refl p
+
+      -- what tells of the body at a depth tells of the element at the next, and a loop at every depth
+      module _ (o : Declared.Outcome) (T : Tells body (count last) (outcomeOf o)) where
         abbrev kept : Memo
-        kept = noted last e (codeOf r) (valueOf r)
+        kept = stored last e (Done o)
 
-        one-more : codeOf r ≤ 3 → count kept ≡ suc (count last)
-        one-more h = omega (arith, sum-store settledOne last e busy (codeOf r) (valueOf r) in-codes-last b, settled-low (codeOf r) h)
+        loops : outcomeOf o ≡ loop → (k : ℕ) → out k e ≡ loop
+        loops l zero = start
+        loops l (suc k) = step k ∙ T .stuck l k
 
-        -- the outcome at the depth of the new count
-        settles : codeOf r ≤ 3 → (o : Outcome) → body (count last) ≡ o → out (count kept) e ≡ o
-        settles h o q = ap (λ k. out k e) (one-more h) ∙ step (count last) ∙ q
+        one-more : codeFor o ≤ 3 → count kept ≡ suc (count last)
+        one-more h = omega (arith, sum-store settledOne last e busy (codeFor o) (valueFor o) in-codes-last b, settled-low (codeFor o) h)
 
-        right-kept : (codeOf r ≤ 3 → out (count kept) e ≡ decoded (codeOf r) (valueOf r)) → (codeOf r ≡ 4 → (k : ℕ) → out k e ≡ loop) →
-            Right out n kept
-        right-kept p q = right-set last S (D .right) e busy (codeOf r) (valueOf r) lt b refl p q
+        element-tells : Tells (element out e) (count kept) (outcomeOf o)
+        element-tells = record {
+          is = by-loop (outcomeOf o)
+              (λ l. loops l (count kept) ∙ sym l)
+              (λ h. ap (λ k. out k e) (one-more h) ∙ step (count last) ∙ T .is);
+          stuck = loops;
+        }
 
-        -- a body that loops at every depth
-        loops : ((k : ℕ) → body k ≡ loop) → (k : ℕ) → out k e ≡ loop
-        loops q zero = start
-        loops q (suc k) = step k ∙ q k
-
-      -- an outcome that is settled at the new count
-      settled-said : (r : Work) (D : Said out n last body r) (h : codeOf r ≤ 3) (o : Outcome) → body (count last) ≡ o →
-          o ≡ decoded (codeOf r) (valueOf r) →
-          Right out n (noted last e (codeOf r) (valueOf r))
-      settled-said r D h o q is = right-kept r D (λ _. settles r D h o q ∙ is) (λ l. absurd (omega (arith, h, l)))
-
-      pub said-stored : (r : Work) → Said out n last body r → Said out n (noted last e (codeOf r) (valueOf r)) (element out e) r
+      pub said-stored : (r : Work) → Said out n last body r → Said out n (stored last e r) (element out e) r
       unfolding Says
-      said-stored Outside D =
-          record { right = settled-said Outside D (omega arith) outside (D .says) refl; says = settles Outside D (omega arith) outside (D .says) }
-      said-stored (Value v) D = record {
-        right = settled-said (Value v) D (omega arith) (value (v .v)) (D .says) refl;
-        says = settles (Value v) D (omega arith) (value (v .v))
-            (D .says);
-      }
-      said-stored DivZero D =
-          record { right = settled-said DivZero D (omega arith) divzero (D .says) refl; says = settles DivZero D (omega arith) divzero (D .says) }
-      said-stored Overflow D =
-          record { right = settled-said Overflow D (omega arith) overflow (D .says) refl; says = settles Overflow D (omega arith) overflow (D .says) }
-      said-stored Loop D =
-          record { right = right-kept Loop D (λ h. absurd (omega arith)) (λ h. loops Loop D (D .says)); says = loops Loop D (D .says) }
+      said-stored (Done o) D =
+          let T = element-tells o (D .says) in
+          record { right = right-kept (Done o) (D .right) (λ h. rw (decoded-coded (outcomeOf o)) T); says = T }
       said-stored (Deep d) D = record {
-        right = right-kept (Deep d) D (λ h. absurd (omega arith)) (λ h. absurd (omega arith));
+        right = right-kept (Deep d) (D .right) (λ h. absurd (omega arith));
         says = λ k l. loop-down k (suc k) e (omega arith) (step k ∙ D .says k l);
       }

@@ -1,7 +1,7 @@
 -- The ways through the evaluator of expressions, one for each kind of node: what is worked out of the tree at a place, from what was
 -- worked out of its operands. Assumes nothing.
 use mathlib.Core.Path.{_≡_, refl, sym, ap, _∙_, subst}
-use Prim.Native.Nat.{ℕ, zero, suc, _+_, _*_, _-_, _≤_, _<_}
+use Prim.Native.Nat.{ℕ, _+_, _-_}
 use native.Mathlib.Omega.{arith}
 use mathlib.Core.Bool.{true, _&&_}
 use mathlib.Core.List.{List}
@@ -11,7 +11,8 @@ use lib.IntN.{ℤ, natAbs}
 use lib.Dec.{eqb}
 use borrow.Author.Tests.{eqb-true}
 use Rattle.alpha.specs.declared.Int.{Int}
-use Rattle.alpha.specs.declared.Outcome as Outcomes
+use Rattle.alpha.specs.declared.Outcome as Declared
+use Rattle.alpha.specs.declared.Outcome.the-variants as Outcomes
 use Rattle.alpha.specs.Field.{field}
 use Rattle.alpha.specs.Sheet.{Expr, Exprs, Sheet, Point, Unary, Binary}
 use Rattle.alpha.specs.Sheet.{Expr.un, Expr.bin, Expr.ite, Expr.kase, Expr.restr, Expr.dep}
@@ -19,27 +20,29 @@ use Rattle.alpha.specs.Affine.{image}
 use Rattle.alpha.specs.Read.{unaryOf, binaryOf}
 use Rattle.alpha.specs.Shape.{fits}
 use Rattle.alpha.specs.Outcome.{Outcome, value, andThen, unary, binary, choose, isTrue, eval, outcome}
-use Rattle.laws.specs.At.{nodeLen, At}
+use Rattle.laws.specs.At.{codeOf, nodeRead, nodeEnd, At}
 use Rattle.laws.specs.Sheets.{headsOf, varsOf, sheetOf}
 use Rattle.laws.proofs.Tests.{&&-left, &&-right}
-use Rattle.laws.proofs.Shapes.{UnAt, BinAt, IteAt, KaseAt, RestrAt, DepAt, at-int, at-boo, at-un, at-bin, at-ite, at-kase, at-restr, at-dep}
+use Rattle.laws.proofs.Shapes.{UnAt, BinAt, IteAt, KaseAt, RestrAt, DepAt, at-int, at-boo, at-un, at-bin, at-ite}
 use Rattle.integer.specs.Range.{In32}
 use Rattle.integer.specs.Range as Range
 use Rattle.integer.proofs.Order.{within-32}
-use Rattle.affine.specs.declared.Map.{Map}
-use Rattle.affine.specs.Value.{pointOf, mapOf}
-use Rattle.affine.specs.Reading.{MapRead}
+use Rattle.affine.specs.Value.{pointOf}
+use Rattle.affine.specs.Reading.{ImageAt}
 use Rattle.affine.proofs.Meaning.{height-length, width-cols}
+use Rattle.tree.specs.declared.Class.the-variants.{Case, Restriction, Dependence}
+use Rattle.tree.specs.declared.LeafKind.the-variants.{Integer, Boolean}
+use Rattle.tree.specs.declared.OperatorKind.the-variants as Operators
+use Rattle.tree.specs.Classes.{classAt, leafCode, operatorCode}
 use Rattle.tree.specs.Ends.{EndsAt}
-use Rattle.domain.specs.Standing.{Unaries}
+use Rattle.tree.proofs.Classes.{case-at, restriction-at, dependence-at, coded-field}
 use Rattle.domain.specs.Holding.{firstHolding, Taken, Chooses}
-use Rattle.domain.proofs.Walks.{code-field}
 use Rattle.domain.proofs.Choices.{outcomeOf, first-outcome}
 use Rattle.evaluate.specs.declared.Work.{Work}
-use Rattle.evaluate.specs.declared.Work.the-variants.{Outside, Value, DivZero, Overflow, Loop, Deep}
+use Rattle.evaluate.specs.declared.Work.the-variants.{Done}
 use Rattle.evaluate.specs.declared.Worked.{Worked}
-use Rattle.evaluate.specs.Memo.{Thing, Memo, codeOf}
-use Rattle.evaluate.specs.Working.{workOf, expression, Done, ConstantRead, Evaluated, EvaluatesAt, Raised, RaisedAll}
+use Rattle.evaluate.specs.Memo.{Thing, Memo}
+use Rattle.evaluate.specs.Working.{expression, WorksOut, ConstantRead, Evaluated, EvaluatesAt}
 use Rattle.evaluate.proofs.Doing.{expression-grows, done-same, done-known, done-value, done-first, done-next}
 
 -- ---- what an expression's outcome is, by its operands'
@@ -81,7 +84,7 @@ imaged-is s f a z ins k = refl
 -- ---- no value where a value's case is ruled out
 
 abbrev None : Work → Type 0
-None r = (x : Int) → r ≡ Value x → ⊥
+None r = (x : Int) → r ≡ Done (Outcomes.Value x) → ⊥
 
 module _ (bs : List ℕ) (p : ℕ) (z : List Int) where
   abbrev sheet : Sheet
@@ -100,73 +103,69 @@ module _ (bs : List ℕ) (p : ℕ) (z : List Int) where
       Evaluated bs e q y memo last r
   evaluated-tree e f q y memo last r is E = subst (λ t. Evaluated bs t q y memo last r) (sym is) E
 
+  -- what stands after the node stands at the next place
+  after-node : (t : Expr) (k q : ℕ) → k ≡ nodeEnd (varsOf bs) bs p → At t (varsOf bs) bs (nodeEnd (varsOf bs) bs p) q → At t (varsOf bs) bs k q
+  after-node t k q next = subst (λ i. At t (varsOf bs) bs i q) (sym next)
+
   -- ---- constants
 
-  pub constant-small : 1 ≤ natAbs (field bs p) → natAbs (field bs p) < 3 → (e : Expr) (q : ℕ) → At e (varsOf bs) bs p q → In32 (field bs (p + 8))
-  constant-small low high e q h = go (natAbs (field bs p)) refl low high
-    where
-      go : (c : ℕ) → natAbs (field bs p) ≡ c → 1 ≤ c → c < 3 → In32 (field bs (p + 8))
-      go zero is l u = absurd (omega arith)
-      go (suc zero) is l u = within-32 (field bs (p + 8)) (at-int (varsOf bs) bs e p q h (code-field bs p e q 1 h is) .stands .fine)
-      go (suc (suc zero)) is l u =
-          let x = at-boo (varsOf bs) bs e p q h (code-field bs p e q 2 h is) in
-          rw (x .stands .field-is) (omega (arith, x .stands .high))
-      go (suc (suc (suc c))) is l u = absurd (omega arith)
+  -- a constant at p, whose second field has its value
+  pub record ConstantAt (e : Expr) (q : ℕ) : Type 0 where
+    pub value-is : (y : Point) (ins : List ℤ) (k : ℕ) → expression sheet ins e y k ≡ value (field bs (p + 8))
+    pub small : In32 (field bs (p + 8))
+    pub end : nodeEnd (varsOf bs) bs p ≡ q
 
-  module _ (low : 1 ≤ natAbs (field bs p)) (high : natAbs (field bs p) < 3) where
-    constant-is : (e : Expr) (q : ℕ) (y : Point) → At e (varsOf bs) bs p q → (ins : List ℤ) (k : ℕ) →
-        expression sheet ins e y k ≡ value (field bs (p + 8))
-    unfolding eval
-    constant-is e q y h ins k = go (natAbs (field bs p)) refl low high
-      where
-        go : (c : ℕ) → natAbs (field bs p) ≡ c → 1 ≤ c → c < 3 → expression sheet ins e y k ≡ value (field bs (p + 8))
-        go zero is l u = absurd (omega arith)
-        go (suc zero) is l u =
-            let x = at-int (varsOf bs) bs e p q h (code-field bs p e q 1 h is) in
-            ap (λ t. expression sheet ins t y k) (x .is) ∙ ap value (x .stands .is)
-        go (suc (suc zero)) is l u =
-            let x = at-boo (varsOf bs) bs e p q h (code-field bs p e q 2 h is) in
-            ap (λ t. expression sheet ins t y k) (x .is) ∙ ap value (sym (x .stands .field-is))
-        go (suc (suc (suc c))) is l u = absurd (omega arith)
+  pub integer-at : codeOf (nodeRead (varsOf bs) bs p) ≡ leafCode Integer → (e : Expr) (q : ℕ) → At e (varsOf bs) bs p q → ConstantAt e q
+  unfolding eval
+  integer-at code e q h =
+      let x = at-int (varsOf bs) bs e p q h (coded-field bs e p q h (leafCode Integer) code) in
+      record {
+        value-is = λ y ins k. ap (λ t. expression sheet ins t y k) (x .is) ∙ ap value (x .stands .is);
+        small = within-32 (field bs (p + 8)) (x .stands .fine);
+        end = x .end;
+      }
 
-    constant-ends : (e : Expr) (q : ℕ) → At e (varsOf bs) bs p q → q ≡ p + 16
-    constant-ends e q h = go (natAbs (field bs p)) refl low high
-      where
-        go : (c : ℕ) → natAbs (field bs p) ≡ c → 1 ≤ c → c < 3 → q ≡ p + 16
-        go zero is l u = absurd (omega arith)
-        go (suc zero) is l u = at-int (varsOf bs) bs e p q h (code-field bs p e q 1 h is) .end
-        go (suc (suc zero)) is l u = at-boo (varsOf bs) bs e p q h (code-field bs p e q 2 h is) .end
-        go (suc (suc (suc c))) is l u = absurd (omega arith)
+  pub boolean-at : codeOf (nodeRead (varsOf bs) bs p) ≡ leafCode Boolean → (e : Expr) (q : ℕ) → At e (varsOf bs) bs p q → ConstantAt e q
+  unfolding eval
+  boolean-at code e q h =
+      let x = at-boo (varsOf bs) bs e p q h (coded-field bs e p q h (leafCode Boolean) code) in
+      record {
+        value-is = λ y ins k. ap (λ t. expression sheet ins t y k) (x .is) ∙ ap value (sym (x .stands .field-is));
+        small = rw (x .stands .field-is) (omega (arith, x .stands .high));
+        end = x .end;
+      }
 
-    pub constant-way : (memo : Memo) (r : Worked) → ConstantRead bs p r → EvaluatesAt bs p z memo memo r
-    constant-way memo r c e q n h f =
-        let small : In32 (c .value .v) = rw (c .says) (constant-small low high e q h) in
-        let d = done-value sheet memo (c .value) small in
-        let is : (ins : List ℤ) (k : ℕ) → expression sheet ins e (pointOf n z) k ≡ value (c .value .v) =
-        λ ins k. constant-is e q (pointOf n z) h ins k ∙ ap value (sym (c .says)) in
-        record {
-          done =
-              rw (c .is) (done-same sheet memo memo (λ ins. expression sheet ins e (pointOf n z)) (λ ins k. value (c .value .v)) (Value (c .value)) is
-              d);
-          ends = λ x g. c .next ∙ sym (constant-ends e q h);
-        }
+  pub constant-way : ((e : Expr) (q : ℕ) → At e (varsOf bs) bs p q → ConstantAt e q) → (memo : Memo) (r : Worked) → ConstantRead bs p r →
+      EvaluatesAt bs p z memo memo r
+  constant-way constant memo r c e q n h f =
+      let x = constant e q h in
+      let d = done-value sheet memo (c .value) (rw (c .says) (x .small)) in
+      let is : (ins : List ℤ) (k : ℕ) → expression sheet ins e (pointOf n z) k ≡ value (c .value .v) =
+      λ ins k. x .value-is (pointOf n z) ins k ∙ ap value (sym (c .says)) in
+      record {
+        done =
+            rw (c .is)
+            (done-same sheet memo memo (λ ins. expression sheet ins e (pointOf n z)) (λ ins k. value (c .value .v)) (Done (Outcomes.Value (c .value)))
+            is d);
+        ends = λ v g. c .next ∙ x .end;
+      }
 
   -- ---- a unary operator
 
-  module _ (code : natAbs (field bs p) ≡ 3) where
+  module _ (code : codeOf (nodeRead (varsOf bs) bs p) ≡ operatorCode Operators.Unary) (k : ℕ) (next : k ≡ nodeEnd (varsOf bs) bs p) where
     here-one : (e : Expr) (q : ℕ) → At e (varsOf bs) bs p q → UnAt e (varsOf bs) bs p q
-    here-one e q h = at-un (varsOf bs) bs e p q h (code-field bs p e q 3 h code)
+    here-one e q h = at-un (varsOf bs) bs e p q h (coded-field bs e p q h (operatorCode Operators.Unary) code)
 
     fit-one : (e : Expr) (q n : ℕ) (h : At e (varsOf bs) bs p q) → fits e (headsOf bs) n ≡ true → fits (here-one e q h .child) (headsOf bs) n ≡ true
     unfolding fits
     fit-one e q n h f = rw (here-one e q h .is) at f
 
-    module _ (memo last : Memo) (a : Worked) (A : EvaluatesAt bs (p + 16) z memo last a) where
-      one-back : None (a .out) → EvaluatesAt bs p z memo last a
+    module _ (memo last : Memo) (a : Worked) (A : EvaluatesAt bs k z memo last a) where
+      pub one-back : None (a .out) → EvaluatesAt bs p z memo last a
       one-back lacks e q n h f =
           let x = here-one e q h in
           let y = pointOf n z in
-          let E = A (x .child) q n (x .below) (fit-one e q n h f) in
+          let E = A (x .child) q n (after-node (x .child) k q next (x .below)) (fit-one e q n h f) in
           let d =
           done-first sheet (λ ins. expression sheet ins (x .child) y) (λ ins. expression-grows sheet ins (x .child) y)
           (λ v ins k. unary (x .op) v) memo last (a .out) lacks (E .done) in
@@ -175,66 +174,42 @@ module _ (bs : List ℕ) (p : ℕ) (z : List Int) where
             ends = λ v g. absurd (lacks v g);
           })
 
-      one-way : (v : Int) (op : ℕ) (o : Outcomes.Outcome) → a .out ≡ Value v → op ≡ natAbs (field bs (p + 8)) →
+      pub one-way : (v : Int) (op : ℕ) (o : Declared.Outcome) → a .out ≡ Done (Outcomes.Value v) → op ≡ natAbs (field bs (p + 8)) →
           Range.Says o (unary (unaryOf op) (v .v)) →
-          EvaluatesAt bs p z memo last (record { out = workOf o; next = a .next })
+          EvaluatesAt bs p z memo last (record { out = Done o; next = a .next })
       one-way v op o is number says e q n h f =
           let x = here-one e q h in
           let y = pointOf n z in
-          let E = A (x .child) q n (x .below) (fit-one e q n h f) in
+          let E = A (x .child) q n (after-node (x .child) k q next (x .below)) (fit-one e q n h f) in
           let same : x .op ≡ unaryOf op = x .chosen .is ∙ ap unaryOf (sym number) in
           let said : Range.Says o (unary (x .op) (v .v)) = rw same says in
           let first = rw is at (E .done) in
           let d =
           done-next sheet (λ ins. expression sheet ins (x .child) y) (λ ins. expression-grows sheet ins (x .child) y) (λ w ins k. unary (x .op) w)
-          memo last last v (workOf o) first (done-known sheet last o (unary (x .op) (v .v)) said) in
+          memo last last v (Done o) first (done-known sheet last o (unary (x .op) (v .v)) said) in
           evaluated-tree e (un (x .op) (x .child)) q y memo last _ (x .is) (record {
-            done = done-same sheet memo last _ _ (workOf o) (λ ins k. one-is sheet ins y k (x .op) (x .child)) d;
+            done = done-same sheet memo last _ _ (Done o) (λ ins k. one-is sheet ins y k (x .op) (x .child)) d;
             ends = λ w g. E .ends v is;
           })
 
-      -- what the operator makes of its operand's answer
-      pub raised-way : (op : ℕ) → op ≡ natAbs (field bs (p + 8)) → (r : Work) → Raised op (a .out) r →
-          EvaluatesAt bs p z memo last (record { out = r; next = a .next })
-      raised-way op number r h = go (a .out) refl
-        where
-          with-out : (o : Work) → r ≡ o → EvaluatesAt bs p z memo last (record { out = o; next = a .next }) →
-              EvaluatesAt bs p z memo last (record { out = r; next = a .next })
-          with-out o e = subst (λ w. EvaluatesAt bs p z memo last (record { out = w; next = a .next })) (sym e)
-
-          back : (o : Work) → a .out ≡ o → (codeOf o ≡ 1 → ⊥) → EvaluatesAt bs p z memo last (record { out = r; next = a .next })
-          back o e none =
-              let lacks : None (a .out) = λ x is. none (ap codeOf (sym e ∙ is)) in
-              with-out (a .out) (h .other lacks) (one-back lacks)
-
-          go : (o : Work) → a .out ≡ o → EvaluatesAt bs p z memo last (record { out = r; next = a .next })
-          go (Value x) e =
-              let y = h .value x e in
-              with-out (workOf (y .out)) (y .is) (one-way x op (y .out) e number (y .says))
-          go Outside e = back Outside e (λ q. omega arith)
-          go DivZero e = back DivZero e (λ q. omega arith)
-          go Overflow e = back Overflow e (λ q. omega arith)
-          go Loop e = back Loop e (λ q. omega arith)
-          go (Deep d) e = back (Deep d) e (λ q. omega arith)
-
   -- ---- a binary operator
 
-  module _ (code : natAbs (field bs p) ≡ 4) where
+  module _ (code : codeOf (nodeRead (varsOf bs) bs p) ≡ operatorCode Operators.Binary) (k : ℕ) (next : k ≡ nodeEnd (varsOf bs) bs p) where
     here-two : (e : Expr) (q : ℕ) → At e (varsOf bs) bs p q → BinAt e (varsOf bs) bs p q
-    here-two e q h = at-bin (varsOf bs) bs e p q h (code-field bs p e q 4 h code)
+    here-two e q h = at-bin (varsOf bs) bs e p q h (coded-field bs e p q h (operatorCode Operators.Binary) code)
 
     fit-two : (e : Expr) (q n : ℕ) (h : At e (varsOf bs) bs p q) → fits e (headsOf bs) n ≡ true →
         fits (here-two e q h .left) (headsOf bs) n && fits (here-two e q h .right) (headsOf bs) n ≡ true
     unfolding fits
     fit-two e q n h f = rw (here-two e q h .is) at f
 
-    module _ (memo mid : Memo) (a : Worked) (A : EvaluatesAt bs (p + 16) z memo mid a) where
+    module _ (memo mid : Memo) (a : Worked) (A : EvaluatesAt bs k z memo mid a) where
       -- the left operand of any such tree
       left-done : (e : Expr) (q n : ℕ) (h : At e (varsOf bs) bs p q) → fits e (headsOf bs) n ≡ true →
           Evaluated bs (here-two e q h .left) (here-two e q h .middle) (pointOf n z) memo mid a
       left-done e q n h f =
           let x = here-two e q h in
-          A (x .left) (x .middle) n (x .before) (&&-left (fits (x .left) (headsOf bs) n) (fits (x .right) (headsOf bs) n) (fit-two e q n h f))
+          A (x .left) (x .middle) n (after-node (x .left) k (x .middle) next (x .before)) (&&-left (fits (x .left) (headsOf bs) n) (fits (x .right) (headsOf bs) n) (fit-two e q n h f))
 
       pub left-back : None (a .out) → EvaluatesAt bs p z memo mid a
       left-back lacks e q n h f =
@@ -247,7 +222,7 @@ module _ (bs : List ℕ) (p : ℕ) (z : List Int) where
             ends = λ v g. absurd (lacks v g);
           })
 
-      module _ (v : Int) (is : a .out ≡ Value v) (last : Memo) (b : Worked) (B : EvaluatesAt bs (a .next) z mid last b) where
+      module _ (v : Int) (is : a .out ≡ Done (Outcomes.Value v)) (last : Memo) (b : Worked) (B : EvaluatesAt bs (a .next) z mid last b) where
         right-done : (e : Expr) (q n : ℕ) (h : At e (varsOf bs) bs p q) → fits e (headsOf bs) n ≡ true →
             Evaluated bs (here-two e q h .right) q (pointOf n z) mid last b
         right-done e q n h f =
@@ -257,9 +232,9 @@ module _ (bs : List ℕ) (p : ℕ) (z : List Int) where
 
         -- the tree, from what follows the left operand's value
         both-done : (e : Expr) (q n : ℕ) (h : At e (varsOf bs) bs p q) (f : fits e (headsOf bs) n ≡ true) (r : Worked) →
-            Done sheet mid last (λ ins k. andThen (expression sheet ins (here-two e q h .right) (pointOf n z) k)
+            WorksOut sheet mid last (λ ins k. andThen (expression sheet ins (here-two e q h .right) (pointOf n z) k)
             (λ w. binary (here-two e q h .op) (v .v) w)) (r .out) →
-            ((w : Int) → r .out ≡ Value w → r .next ≡ q) → Evaluated bs e q (pointOf n z) memo last r
+            ((w : Int) → r .out ≡ Done (Outcomes.Value w) → r .next ≡ q) → Evaluated bs e q (pointOf n z) memo last r
         both-done e q n h f r d ends =
             let x = here-two e q h in
             let y = pointOf n z in
@@ -281,26 +256,26 @@ module _ (bs : List ℕ) (p : ℕ) (z : List Int) where
             (right-done e q n h f .done))
             (λ w g. absurd (lacks w g))
 
-        pub two-way : (w : Int) (op : ℕ) (o : Outcomes.Outcome) → b .out ≡ Value w → op ≡ natAbs (field bs (p + 8)) →
+        pub two-way : (w : Int) (op : ℕ) (o : Declared.Outcome) → b .out ≡ Done (Outcomes.Value w) → op ≡ natAbs (field bs (p + 8)) →
             Range.Says o (binary (binaryOf op) (v .v) (w .v)) →
-            EvaluatesAt bs p z memo last (record { out = workOf o; next = b .next })
+            EvaluatesAt bs p z memo last (record { out = Done o; next = b .next })
         two-way w op o has number says e q n h f =
             let x = here-two e q h in
             let y = pointOf n z in
             let same : x .op ≡ binaryOf op = x .chosen .is ∙ ap binaryOf (sym number) in
             let said : Range.Says o (binary (x .op) (v .v) (w .v)) = rw same says in
             let second = rw has at (right-done e q n h f .done) in
-            both-done e q n h f (record { out = workOf o; next = b .next })
+            both-done e q n h f (record { out = Done o; next = b .next })
             (done-next sheet (λ ins. expression sheet ins (x .right) y) (λ ins. expression-grows sheet ins (x .right) y)
-            (λ u ins k. binary (x .op) (v .v) u) mid last last w (workOf o) second
+            (λ u ins k. binary (x .op) (v .v) u) mid last last w (Done o) second
             (done-known sheet last o (binary (x .op) (v .v) (w .v)) said))
             (λ u g. right-done e q n h f .ends w has)
 
   -- ---- an if
 
-  module _ (code : natAbs (field bs p) ≡ 5) where
+  module _ (code : codeOf (nodeRead (varsOf bs) bs p) ≡ operatorCode Operators.If) (k : ℕ) (next : k ≡ nodeEnd (varsOf bs) bs p) where
     here-three : (e : Expr) (q : ℕ) → At e (varsOf bs) bs p q → IteAt e (varsOf bs) bs p q
-    here-three e q h = at-ite (varsOf bs) bs e p q h (code-field bs p e q 5 h code)
+    here-three e q h = at-ite (varsOf bs) bs e p q h (coded-field bs e p q h (operatorCode Operators.If) code)
 
     fit-three : (e : Expr) (q n : ℕ) (h : At e (varsOf bs) bs p q) → fits e (headsOf bs) n ≡ true →
         fits (here-three e q h .test) (headsOf bs) n && fits (here-three e q h .left) (headsOf bs) n && fits (here-three e q h .right) (headsOf bs) n
@@ -315,12 +290,12 @@ module _ (bs : List ℕ) (p : ℕ) (z : List Int) where
     abbrev arm : Expr → Point → ℤ → ℤ → List ℤ → Thing
     arm c y t x ins k = andThen (expression sheet ins c y k) (λ w. choose (isTrue t) x w)
 
-    module _ (memo one : Memo) (a : Worked) (A : EvaluatesAt bs (p + 8) z memo one a) where
+    module _ (memo one : Memo) (a : Worked) (A : EvaluatesAt bs k z memo one a) where
       test-done : (e : Expr) (q n : ℕ) (h : At e (varsOf bs) bs p q) → fits e (headsOf bs) n ≡ true →
           Evaluated bs (here-three e q h .test) (here-three e q h .middle) (pointOf n z) memo one a
       test-done e q n h f =
           let x = here-three e q h in
-          A (x .test) (x .middle) n (x .tested)
+          A (x .test) (x .middle) n (after-node (x .test) k (x .middle) next (x .tested))
           (&&-left (fits (x .test) (headsOf bs) n) (fits (x .left) (headsOf bs) n)
           (&&-left (fits (x .test) (headsOf bs) n && fits (x .left) (headsOf bs) n) (fits (x .right) (headsOf bs) n) (fit-three e q n h f)))
 
@@ -337,7 +312,7 @@ module _ (bs : List ℕ) (p : ℕ) (z : List Int) where
             ends = λ v g. absurd (lacks v g);
           })
 
-      module _ (t : Int) (tested : a .out ≡ Value t) (two : Memo) (b : Worked) (B : EvaluatesAt bs (a .next) z one two b) where
+      module _ (t : Int) (tested : a .out ≡ Done (Outcomes.Value t)) (two : Memo) (b : Worked) (B : EvaluatesAt bs (a .next) z one two b) where
         first-done : (e : Expr) (q n : ℕ) (h : At e (varsOf bs) bs p q) → fits e (headsOf bs) n ≡ true →
             Evaluated bs (here-three e q h .left) (here-three e q h .last) (pointOf n z) one two b
         first-done e q n h f =
@@ -349,8 +324,8 @@ module _ (bs : List ℕ) (p : ℕ) (z : List Int) where
 
         -- the tree, from what follows the test's value
         tested-done : (e : Expr) (q n : ℕ) (h : At e (varsOf bs) bs p q) (f : fits e (headsOf bs) n ≡ true) (last : Memo) (r : Worked) →
-            Done sheet one last (arms (here-three e q h .left) (here-three e q h .right) (pointOf n z) (t .v)) (r .out) →
-            ((w : Int) → r .out ≡ Value w → r .next ≡ q) → Evaluated bs e q (pointOf n z) memo last r
+            WorksOut sheet one last (arms (here-three e q h .left) (here-three e q h .right) (pointOf n z) (t .v)) (r .out) →
+            ((w : Int) → r .out ≡ Done (Outcomes.Value w) → r .next ≡ q) → Evaluated bs e q (pointOf n z) memo last r
         tested-done e q n h f last r d ends =
             let x = here-three e q h in
             let y = pointOf n z in
@@ -372,7 +347,7 @@ module _ (bs : List ℕ) (p : ℕ) (z : List Int) where
             two (b .out) lacks (first-done e q n h f .done))
             (λ w g. absurd (lacks w g))
 
-        module _ (u : Int) (has : b .out ≡ Value u) (last : Memo) (c : Worked) (C : EvaluatesAt bs (b .next) z two last c) where
+        module _ (u : Int) (has : b .out ≡ Done (Outcomes.Value u)) (last : Memo) (c : Worked) (C : EvaluatesAt bs (b .next) z two last c) where
           second-done : (e : Expr) (q n : ℕ) (h : At e (varsOf bs) bs p q) → fits e (headsOf bs) n ≡ true →
               Evaluated bs (here-three e q h .right) q (pointOf n z) two last c
           second-done e q n h f =
@@ -383,8 +358,8 @@ module _ (bs : List ℕ) (p : ℕ) (z : List Int) where
 
           -- the tree, from what follows the first arm's value
           armed-done : (e : Expr) (q n : ℕ) (h : At e (varsOf bs) bs p q) (f : fits e (headsOf bs) n ≡ true) (r : Worked) →
-              Done sheet two last (arm (here-three e q h .right) (pointOf n z) (t .v) (u .v)) (r .out) →
-              ((w : Int) → r .out ≡ Value w → r .next ≡ q) → Evaluated bs e q (pointOf n z) memo last r
+              WorksOut sheet two last (arm (here-three e q h .right) (pointOf n z) (t .v) (u .v)) (r .out) →
+              ((w : Int) → r .out ≡ Done (Outcomes.Value w) → r .next ≡ q) → Evaluated bs e q (pointOf n z) memo last r
           armed-done e q n h f r d ends =
               let x = here-three e q h in
               let y = pointOf n z in
@@ -403,23 +378,23 @@ module _ (bs : List ℕ) (p : ℕ) (z : List Int) where
               (second-done e q n h f .done))
               (λ w g. absurd (lacks w g))
 
-          pub three-way : (w : Int) (o : Outcomes.Outcome) → c .out ≡ Value w → Range.Says o (choose (isTrue (t .v)) (u .v) (w .v)) →
-              EvaluatesAt bs p z memo last (record { out = workOf o; next = c .next })
+          pub three-way : (w : Int) (o : Declared.Outcome) → c .out ≡ Done (Outcomes.Value w) → Range.Says o (choose (isTrue (t .v)) (u .v) (w .v)) →
+              EvaluatesAt bs p z memo last (record { out = Done o; next = c .next })
           three-way w o got says e q n h f =
               let x = here-three e q h in
               let y = pointOf n z in
               let second = rw got at (second-done e q n h f .done) in
-              armed-done e q n h f (record { out = workOf o; next = c .next })
+              armed-done e q n h f (record { out = Done o; next = c .next })
               (done-next sheet (λ ins. expression sheet ins (x .right) y) (λ ins. expression-grows sheet ins (x .right) y)
-              (λ v ins k. choose (isTrue (t .v)) (u .v) v) two last last w (workOf o) second
+              (λ v ins k. choose (isTrue (t .v)) (u .v) v) two last last w (Done o) second
               (done-known sheet last o (choose (isTrue (t .v)) (u .v) (w .v)) says))
               (λ v g. second-done e q n h f .ends w got)
 
   -- ---- a case
 
-  module _ (left : ℕ) (code : natAbs (field bs p) ≡ 6) (place : ℕ) (C : Chooses bs p left z place) where
+  module _ (left : ℕ) (class-is : classAt bs p ≡ Case) (place : ℕ) (C : Chooses bs p left z place) where
     here-case : (e : Expr) (q : ℕ) → At e (varsOf bs) bs p q → KaseAt e (varsOf bs) bs p q
-    here-case e q h = at-kase (varsOf bs) bs e p q h (code-field bs p e q 6 h code)
+    here-case e q h = case-at bs e p q h class-is
 
     taken : (e : Expr) (q n : ℕ) (h : At e (varsOf bs) bs p q) → fits e (headsOf bs) n ≡ true → Taken bs (here-case e q h .branches) n z place
     taken e q n h f = let x = here-case e q h in C .says (x .branches) q n (rw (x .is) at h) (rw (x .is) at f)
@@ -440,13 +415,13 @@ module _ (bs : List ℕ) (p : ℕ) (z : List Int) where
 
   -- ---- a restriction
 
-  pub restriction-way : (k : ℕ) → natAbs (field bs p) ≡ 7 → k ≡ nodeLen bs p → (memo last : Memo) (r : Worked) →
-      EvaluatesAt bs (p + k) z memo last r → EvaluatesAt bs p z memo last r
-  restriction-way k code long memo last r R e q n h f =
-      let x = at-restr (varsOf bs) bs e p q h (code-field bs p e q 7 h code) in
+  pub restriction-way : classAt bs p ≡ Restriction → (k : ℕ) → k ≡ nodeEnd (varsOf bs) bs p → (memo last : Memo) (r : Worked) →
+      EvaluatesAt bs k z memo last r → EvaluatesAt bs p z memo last r
+  restriction-way class-is k next memo last r R e q n h f =
+      let x = restriction-at bs e p q h class-is in
       let y = pointOf n z in
       let E =
-      R (x .child) q n (subst (λ i. At (x .child) (varsOf bs) bs (p + i) q) (sym long) (x .below))
+      R (x .child) q n (after-node (x .child) k q next (x .below))
       (&&-right (eqb (x .dim) n) (fits (x .child) (headsOf bs) n) (parts x)) in
       evaluated-tree e (restr (x .dim) (x .given) (x .child)) q y memo last r (x .is)
       (evaluated-same (restr (x .dim) (x .given) (x .child)) (x .child) q y y memo last r (restricted-is sheet (x .dim) (x .given) (x .child) y) E)
@@ -456,16 +431,16 @@ module _ (bs : List ℕ) (p : ℕ) (z : List Int) where
 
   -- ---- a dependence
 
-  pub image-way : (k : ℕ) (m : Map) (y : List Int) → natAbs (field bs p) ≡ 8 → k ≡ nodeLen bs p → MapRead bs (p + 8) m →
-      pointOf (m .height) y ≡ image (mapOf m .rows) (pointOf (m .width) z) →
-      (memo last : Memo) (r : Worked) → EvaluatesAt bs (p + k) y memo last r → EvaluatesAt bs p z memo last r
-  image-way k m y code long read is memo last r R e q n h f =
-      let x = at-dep (varsOf bs) bs e p q h (code-field bs p e q 8 h code) in
-      let map-is = read .is (x .by) (p + nodeLen bs p) (x .fields .read) in
+  pub image-way : classAt bs p ≡ Dependence → (k : ℕ) → k ≡ nodeEnd (varsOf bs) bs p → (y : List Int) → ImageAt bs (p + 8) z y →
+      (memo last : Memo) (r : Worked) → EvaluatesAt bs k y memo last r → EvaluatesAt bs p z memo last r
+  image-way class-is k next y i memo last r R e q n h f =
+      let x = dependence-at bs e p q h class-is in
+      let m = i .map in
+      let map-is = i .read .is (x .by) (x .fields .next) (x .fields .read) in
       let cols = eqb-true (x .by .cols) n (&&-left (eqb (x .by .cols) n) (fits (x .child) (headsOf bs) (length (x .by .rows))) (parts x)) in
       let point : pointOf (length (x .by .rows)) y ≡ image (x .by .rows) (pointOf n z) =
-      rw (height-length m map-is, width-cols m map-is, cols) at (is ∙ ap (λ w. image (w .rows) (pointOf (m .width) z)) map-is) in
-      let E = R (x .child) q (length (x .by .rows)) (subst (λ i. At (x .child) (varsOf bs) bs (p + i) q) (sym long) (x .below))
+      rw (height-length m map-is, width-cols m map-is, cols) at (i .is ∙ ap (λ w. image (w .rows) (pointOf (m .width) z)) map-is) in
+      let E = R (x .child) q (length (x .by .rows)) (after-node (x .child) k q next (x .below))
       (&&-right (eqb (x .by .cols) n) (fits (x .child) (headsOf bs) (length (x .by .rows))) (parts x)) in
       evaluated-tree e (dep (x .by) (x .child)) q (pointOf n z) memo last r (x .is)
       (evaluated-same (dep (x .by) (x .child)) (x .child) q (pointOf n z) (image (x .by .rows) (pointOf n z)) memo last r
@@ -474,28 +449,3 @@ module _ (bs : List ℕ) (p : ℕ) (z : List Int) where
     where
       parts : (x : DepAt e (varsOf bs) bs p q) → eqb (x .by .cols) n && fits (x .child) (headsOf bs) (length (x .by .rows)) ≡ true
       parts x = unfold fits in rw (x .is) at f
-
--- ---- unary operators one below another
-
-module _ (bs : List ℕ) (p many : ℕ) (U : Unaries bs p many) (o : Work) where
-  -- r is what those from operator k on make of the answer o of the tree below them
-  abbrev pub Up : ℕ → Work → Type 0
-  Up k r =
-      (z : List Int) (memo last : Memo) (next : ℕ) → EvaluatesAt bs (p + 16 * many) z memo last (record { out = o; next = next }) →
-      EvaluatesAt bs (p + 16 * k) z memo last (record { out = r; next = next })
-
-  pub up-on : (k : ℕ) → 0 < k → k ≤ many → (w : Work) → Up k w → (op : ℕ) → op ≡ natAbs (field bs (p + 16 * (k - 1) + 8)) →
-      (r : Work) → Raised op w r → Up (k - 1) r
-  up-on k more few w up op number r h z memo last next E =
-      let here = p + 16 * (k - 1) in
-      let code = U .each (k - 1) (omega arith) .code in
-      let place : p + 16 * k ≡ here + 16 = omega arith in
-      let below = subst (λ q. EvaluatesAt bs q z memo last (record { out = w; next = next })) place (up z memo last next E) in
-      raised-way bs here z code memo last (record { out = w; next = next }) below op number r h
-
-  -- all of them
-  pub up-all : (k : ℕ) → k ≤ 0 → (w : Work) → Up k w → (r : Work) → r ≡ w → RaisedAll bs p many o r
-  up-all k none w up r is z memo last next E =
-      let place : p + 16 * k ≡ p = omega arith in
-      let top = subst (λ q. EvaluatesAt bs q z memo last (record { out = w; next = next })) place (up z memo last next E) in
-      subst (λ x. EvaluatesAt bs p z memo last (record { out = x; next = next })) (sym is) top

@@ -8,8 +8,10 @@ use Rattle.alpha.specs.Sheet.{Sheet}
 use Rattle.alpha.specs.Holds.{variable}
 use Rattle.alpha.specs.Check.{total}
 use Rattle.alpha.specs.Outcome.{loop}
+use Rattle.alpha.specs.declared.Outcome.{Outcome}
 use Rattle.laws.specs.Sheets.{varsOf}
-use Rattle.evaluate.specs.Memo.{busy, Thing, Memo, codeAt, sum, busyOne, toDo, Right}
+use Rattle.integer.specs.Range as Range
+use Rattle.evaluate.specs.Memo.{busy, unknown, Thing, Memo, codeAt, savedAt, sum, busyOne, toDo, Right}
 use Rattle.evaluate.specs.Working.{elementAt, outcomes, expression, Ready}
 
 -- v is the variable of element e, by the table of places
@@ -53,9 +55,30 @@ pub record Turned (s : Sheet) (memo : Memo) (stack : List ℕ) (high : ℕ) (mem
 abbrev pub Idle : Memo → Type 0
 Idle memo = sum busyOne (memo .codes) ≡ 0
 
--- element e is settled, and every entry is right where every one was
-pub record Settled (s : Sheet) (e : ℕ) (memo memo′ : Memo) : Type 0 where
+-- element e, while none is in progress
+pub record Alone (s : Sheet) (memo : Memo) (e : ℕ) : Type 0 where
+  pub idle : Idle memo
+  pub element : e < total s
+
+-- an unknown one
+pub record Open (s : Sheet) (memo : Memo) (e : ℕ) : Type 0 where
+  pub alone : Alone s memo e
+  pub late : unknown ≤ codeAt memo e
+
+-- one in progress
+pub record Busy (s : Sheet) (memo : Memo) (e : ℕ) : Type 0 where
+  pub element : e < total s
+  pub marked : codeAt memo e ≡ busy
+
+-- a stack on which some element stands
+pub record Standing (s : Sheet) (memo : Memo) (stack : List ℕ) (high : ℕ) : Type 0 where
+  pub stacked : Stacked s memo stack high
+  pub some : 1 ≤ high
+
+-- element e is settled, with the outcome o, and every entry is right where every one was
+pub record Settled (s : Sheet) (e : ℕ) (memo memo′ : Memo) (o : Outcome) : Type 0 where
   pub ready : Ready s memo′
   pub idle : Idle memo′
   pub settled : codeAt memo′ e ≤ 4
+  pub says : Range.Says o (savedAt memo′ e)
   pub right : (ins : List ℤ) → Right (outcomes s ins) (total s) memo → Right (outcomes s ins) (total s) memo′

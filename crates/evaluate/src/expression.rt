@@ -1,49 +1,48 @@
 // The element evaluator and the expression evaluator, which call each other: the remaining depth falls, and then the remaining nodes.
-// Each operand's outcome is taken apart as a value, or else handed straight back; by its parts, since a copy as a whole would go through
-// memory. Assumes nothing.
+// Each operand's outcome is taken apart as a value, or else handed straight back. Assumes nothing.
+use super::Operand;
 use super::Work;
 use super::Worked;
-use super::memo::again;
-use super::memo::code_of;
 use super::memo::known;
+use super::memo::mark;
 use super::memo::note;
-use super::memo::raised;
-use super::memo::value_of;
-use super::memo::work_of;
 use alpha::Int;
+use alpha::Outcome;
 use domain::holding::holding;
-use domain::lower::lowered;
-use domain::lower::unaries;
 use points::Found;
 use sheet::table::body_place;
 use sheet::table::first_element;
 use sheet::table::record_place;
+use tree::Class;
+use tree::LeafKind;
+use tree::OperatorKind;
 use tree::ends::end_of;
+use tree::node::class_of;
+use tree::node::leaf_of;
 use tree::node::natural;
-use tree::node::node_len;
-ghost use mathlib.Core.Path.{_≡_};
-ghost use Prim.Native.Nat.{_+_, _≤_};
-ghost use lib.ListN.{length};
-ghost use lib.IntN.{natAbs};
-ghost use Rattle.alpha.specs.Field.{field};
+use tree::node::node_end;
+use tree::node::operator_of;
 ghost use Rattle.laws.specs.Sheets.{sheetOf};
-ghost use Rattle.tree.specs.Formed.{Formed};
-ghost use Rattle.tree.specs.Ends.{EndsKept};
-ghost use Rattle.domain.specs.Inside.{Inside};
+ghost use Rattle.tree.specs.declared.Class.the-variants as Class;
+ghost use Rattle.tree.specs.declared.LeafKind.the-variants as LeafKind;
+ghost use Rattle.tree.specs.declared.OperatorKind.the-variants as OperatorKind;
+ghost use Rattle.tree.specs.Standing.{NodedAs};
 ghost use Rattle.domain.specs.Held.{Held};
-ghost use Rattle.domain.specs.Standing.{Unaries};
-ghost use Rattle.evaluate.specs.Working.{memoOf, outcomes, Ready, Done, ElementIs, ConstantRead, RaisedAll, EvaluatesAt};
 ghost use Rattle.evaluate.specs.Memo as Memo;
-ghost use Rattle.evaluate.specs.Memo.{Small};
+ghost use Rattle.evaluate.specs.Memo.{memoOf};
+ghost use Rattle.evaluate.specs.Working.{outcomes, WorksOut, Setting, ElementIs, HeldAs, HeldLeaf, HeldOperator, ConstantRead, TakenApart, EvaluatesAt};
 
-// What was worked out, from its parts.
-fn handed(r: Worked) -> Worked
-    ensures { λ t. ⌜ t ≡ r ⌝ }
+// The value of an answer that has one.
+fn value_in(r: Work) -> Operand
+    ensures { λ p. ⌜ TakenApart r p ⌝ }
 {
-    let o = r.out;
-    let out = again(o);
-    let next = r.next;
-    Worked { out, next }
+    match r {
+        Work::Done(o) => match o {
+            Outcome::Value(x) => Operand::Value(x),
+            _ => Operand::NoValue,
+        },
+        Work::Deep(_) => Operand::NoValue,
+    }
 }
 
 // Element e, the one of variable v at z: what the memo has, or else what the body gives. Where no depth remains, it has to be worked
@@ -53,75 +52,86 @@ pub fn element(
     tab: &[usize; 102],
     inside: &[u8; 4096],
     ends: &[u16; 8192],
-    codes: &mut [u8; 4096],
-    values: &mut [i32; 4096],
+    memo: &mut [u64; 4096],
     v: usize,
     e: usize,
     z: [Int; 4],
     depth: usize,
 ) -> Work
-    requires { ⌜ Formed (now s) (now tab) × Inside (sheetOf (now s)) (now inside) × Ready (sheetOf (now s)) (memoOf (now codes) (now values)) × ElementIs (now s) v e z × EndsKept (now s) (now ends) ⌝ }
-    ensures { λ r. ⌜ Done (sheetOf (now (s .entry))) (memoOf (now (codes .entry)) (now (values .entry))) (memoOf (now (codes .exit)) (now (values .exit))) (λ ins. Memo.element (outcomes (sheetOf (now (s .entry))) ins) e) r ⌝ }
+    requires { ⌜ Setting (now s) (now tab) (now inside) (now ends) (memoOf (now memo)) × ElementIs (now s) v e z ⌝ }
+    ensures { λ r. ⌜ WorksOut (sheetOf (now (s .entry))) (memoOf (now (memo .entry))) (memoOf (now (memo .exit))) (λ ins. Memo.element (outcomes (sheetOf (now (s .entry))) ins) e) r ⌝ }
 {
-    let code = codes[e];
-    if code < 6 {
-        return known(code, integer::of32(values[e]));
-    }
+    let had = known(memo, e);
+    let Work::Deep(_) = had else {
+        return had;
+    };
     if depth < 1 {
-        return Work::Deep(e);
+        return had;
     }
-    note(codes, values, e, 5, integer::of(0));
+    mark(memo, e);
     let at = body_place(tab, v);
-    let r = expression(s, tab, inside, ends, codes, values, at, 2048, z, depth - 1);
+    let r = expression(s, tab, inside, ends, memo, at, 2048, z, depth - 1);
     let out = r.out;
-    note(codes, values, e, code_of(out), value_of(out));
-    again(out)
+    note(memo, e, out);
+    out
 }
 
-// The tree at `at`, of at most `left` nodes, at z, where it holds without a clash. Restrictions and dependences are passed on the way to
-// the first other node, which spares a call for each.
+// The tree at `at`, of at most `left` nodes, at z, where it holds without a clash.
 pub fn expression(
     s: &[u8],
     tab: &[usize; 102],
     inside: &[u8; 4096],
     ends: &[u16; 8192],
-    codes: &mut [u8; 4096],
-    values: &mut [i32; 4096],
+    memo: &mut [u64; 4096],
     at: usize,
     left: usize,
     z: [Int; 4],
     depth: usize,
 ) -> Worked
-    requires { ⌜ Formed (now s) (now tab) × Inside (sheetOf (now s)) (now inside) × Ready (sheetOf (now s)) (memoOf (now codes) (now values)) × Held (now s) at left z × (left ≤ 2048) × EndsKept (now s) (now ends) ⌝ }
-    ensures { λ r. ⌜ EvaluatesAt (now (s .entry)) at z (memoOf (now (codes .entry)) (now (values .entry))) (memoOf (now (codes .exit)) (now (values .exit))) r ⌝ }
+    requires { ⌜ Setting (now s) (now tab) (now inside) (now ends) (memoOf (now memo)) × Held (now s) at left z ⌝ }
+    ensures { λ r. ⌜ EvaluatesAt (now (s .entry)) at z (memoOf (now (memo .entry))) (memoOf (now (memo .exit))) r ⌝ }
 {
-    let mut p = at;
-    let mut n = left;
-    let mut y = z;
-    while natural(s, p) > 6 {
-        let lower = lowered(s, p, y);
-        y = lower;
-        p += node_len(s, p);
-        n -= 1;
-    }
-    match natural(s, p) {
-        0 => variable(s, tab, inside, ends, codes, values, p, n, y, depth),
-        1 | 2 => constant(s, p),
-        3 => one(s, tab, inside, ends, codes, values, p, n, y, depth),
-        4 => two(s, tab, inside, ends, codes, values, p, n, y, depth),
-        5 => three(s, tab, inside, ends, codes, values, p, n, y, depth),
-        _ => branch(s, tab, inside, ends, codes, values, p, n, y, depth),
+    let class = class_of(s, at);
+    match class {
+        Class::Leaf => leaf(s, tab, inside, ends, memo, at, left, z, depth),
+        Class::Operator => operator(s, tab, inside, ends, memo, at, left, z, depth),
+        Class::Case => branch(s, tab, inside, ends, memo, at, left, z, depth),
+        Class::Restriction => restriction(s, tab, inside, ends, memo, at, left, z, depth),
+        Class::Dependence => dependence(s, tab, inside, ends, memo, at, left, z, depth),
     }
 }
 
 // A constant.
 fn constant(s: &[u8], at: usize) -> Worked
-    requires { ⌜ at + 16 ≤ length (now s) ⌝ }
+    requires { ⌜ NodedAs (now s) at Class.Leaf ⌝ }
     ensures { λ r. ⌜ ConstantRead (now (s .entry)) at r ⌝ }
 {
     Worked {
-        out: Work::Value(integer::number_at(s, at + 8)),
-        next: at + 16,
+        out: Work::Done(Outcome::Value(integer::number_at(s, at + 8))),
+        next: node_end(s, at),
+    }
+}
+
+// A leaf.
+fn leaf(
+    s: &[u8],
+    tab: &[usize; 102],
+    inside: &[u8; 4096],
+    ends: &[u16; 8192],
+    memo: &mut [u64; 4096],
+    at: usize,
+    left: usize,
+    z: [Int; 4],
+    depth: usize,
+) -> Worked
+    requires { ⌜ Setting (now s) (now tab) (now inside) (now ends) (memoOf (now memo)) × HeldAs Class.Leaf (now s) at left z ⌝ }
+    ensures { λ r. ⌜ EvaluatesAt (now (s .entry)) at z (memoOf (now (memo .entry))) (memoOf (now (memo .exit))) r ⌝ }
+{
+    let kind = leaf_of(s, at);
+    match kind {
+        LeafKind::Variable => variable(s, tab, inside, ends, memo, at, left, z, depth),
+        LeafKind::Integer => constant(s, at),
+        LeafKind::Boolean => constant(s, at),
     }
 }
 
@@ -131,69 +141,79 @@ fn variable(
     tab: &[usize; 102],
     inside: &[u8; 4096],
     ends: &[u16; 8192],
-    codes: &mut [u8; 4096],
-    values: &mut [i32; 4096],
+    memo: &mut [u64; 4096],
     at: usize,
     left: usize,
     z: [Int; 4],
     depth: usize,
 ) -> Worked
-    requires { ⌜ Formed (now s) (now tab) × Inside (sheetOf (now s)) (now inside) × Ready (sheetOf (now s)) (memoOf (now codes) (now values)) × Held (now s) at left z × (left ≤ 2048) × (natAbs (field (now s) at) ≡ 0) × EndsKept (now s) (now ends) ⌝ }
-    ensures { λ r. ⌜ EvaluatesAt (now (s .entry)) at z (memoOf (now (codes .entry)) (now (values .entry))) (memoOf (now (codes .exit)) (now (values .exit))) r ⌝ }
+    requires { ⌜ Setting (now s) (now tab) (now inside) (now ends) (memoOf (now memo)) × HeldLeaf LeafKind.Variable (now s) at left z ⌝ }
+    ensures { λ r. ⌜ EvaluatesAt (now (s .entry)) at z (memoOf (now (memo .entry))) (memoOf (now (memo .exit))) r ⌝ }
 {
     let v = natural(s, at + 8);
-    let next = at + 16;
+    let next = node_end(s, at);
     let found = points::index(s, record_place(tab, v), z);
     let Found::At(i) = found else {
         return Worked {
-            out: Work::Outside,
+            out: Work::Done(Outcome::Outside),
             next,
         };
     };
     let e = first_element(tab, v) + i;
-    let o = element(s, tab, inside, ends, codes, values, v, e, z, depth);
-    let out = again(o);
+    let out = element(s, tab, inside, ends, memo, v, e, z, depth);
     Worked { out, next }
 }
 
-// What `many` unary operators one below another from `at` on make of their operand's answer, the lowest first.
-fn raised_all(s: &[u8], at: usize, many: usize, o: Work) -> Work
-    requires { ⌜ Unaries (now s) at many × Small o ⌝ }
-    ensures { λ r. ⌜ RaisedAll (now (s .entry)) at many o r ⌝ }
+// An operator.
+fn operator(
+    s: &[u8],
+    tab: &[usize; 102],
+    inside: &[u8; 4096],
+    ends: &[u16; 8192],
+    memo: &mut [u64; 4096],
+    at: usize,
+    left: usize,
+    z: [Int; 4],
+    depth: usize,
+) -> Worked
+    requires { ⌜ Setting (now s) (now tab) (now inside) (now ends) (memoOf (now memo)) × HeldAs Class.Operator (now s) at left z ⌝ }
+    ensures { λ r. ⌜ EvaluatesAt (now (s .entry)) at z (memoOf (now (memo .entry))) (memoOf (now (memo .exit))) r ⌝ }
 {
-    let mut out = again(o);
-    let mut k = many;
-    while 0 < k {
-        k -= 1;
-        out = raised(natural(s, at + 16 * k + 8), out);
+    let kind = operator_of(s, at);
+    match kind {
+        OperatorKind::Unary => one(s, tab, inside, ends, memo, at, left, z, depth),
+        OperatorKind::Binary => two(s, tab, inside, ends, memo, at, left, z, depth),
+        OperatorKind::If => three(s, tab, inside, ends, memo, at, left, z, depth),
     }
-    again(out)
 }
 
-// Unary operators, which are passed on the way down and applied on the way up: that spares a call for each.
+// A unary operator.
 fn one(
     s: &[u8],
     tab: &[usize; 102],
     inside: &[u8; 4096],
     ends: &[u16; 8192],
-    codes: &mut [u8; 4096],
-    values: &mut [i32; 4096],
+    memo: &mut [u64; 4096],
     at: usize,
     left: usize,
     z: [Int; 4],
     depth: usize,
 ) -> Worked
-    requires { ⌜ Formed (now s) (now tab) × Inside (sheetOf (now s)) (now inside) × Ready (sheetOf (now s)) (memoOf (now codes) (now values)) × Held (now s) at left z × (left ≤ 2048) × (natAbs (field (now s) at) ≡ 3) × EndsKept (now s) (now ends) ⌝ }
-    ensures { λ r. ⌜ EvaluatesAt (now (s .entry)) at z (memoOf (now (codes .entry)) (now (values .entry))) (memoOf (now (codes .exit)) (now (values .exit))) r ⌝ }
+    requires { ⌜ Setting (now s) (now tab) (now inside) (now ends) (memoOf (now memo)) × HeldOperator OperatorKind.Unary (now s) at left z ⌝ }
+    ensures { λ r. ⌜ EvaluatesAt (now (s .entry)) at z (memoOf (now (memo .entry))) (memoOf (now (memo .exit))) r ⌝ }
 {
-    let k = unaries(s, at);
-    let below = at + 16 * k;
     let n = left - 1;
-    let a = expression(s, tab, inside, ends, codes, values, below, n, z, depth);
+    let from = node_end(s, at);
+    let a = expression(s, tab, inside, ends, memo, from, n, z, depth);
     let o = a.out;
-    let out = raised_all(s, at, k, o);
-    let next = a.next;
-    Worked { out, next }
+    let p = value_in(o);
+    let Operand::Value(x) = p else {
+        return a;
+    };
+    Worked {
+        out: Work::Done(integer::unary(natural(s, at + 8), x)),
+        next: a.next,
+    }
 }
 
 // A binary operator: the left operand, then the right one.
@@ -202,30 +222,32 @@ fn two(
     tab: &[usize; 102],
     inside: &[u8; 4096],
     ends: &[u16; 8192],
-    codes: &mut [u8; 4096],
-    values: &mut [i32; 4096],
+    memo: &mut [u64; 4096],
     at: usize,
     left: usize,
     z: [Int; 4],
     depth: usize,
 ) -> Worked
-    requires { ⌜ Formed (now s) (now tab) × Inside (sheetOf (now s)) (now inside) × Ready (sheetOf (now s)) (memoOf (now codes) (now values)) × Held (now s) at left z × (left ≤ 2048) × (natAbs (field (now s) at) ≡ 4) × EndsKept (now s) (now ends) ⌝ }
-    ensures { λ r. ⌜ EvaluatesAt (now (s .entry)) at z (memoOf (now (codes .entry)) (now (values .entry))) (memoOf (now (codes .exit)) (now (values .exit))) r ⌝ }
+    requires { ⌜ Setting (now s) (now tab) (now inside) (now ends) (memoOf (now memo)) × HeldOperator OperatorKind.Binary (now s) at left z ⌝ }
+    ensures { λ r. ⌜ EvaluatesAt (now (s .entry)) at z (memoOf (now (memo .entry))) (memoOf (now (memo .exit))) r ⌝ }
 {
     let n = left - 1;
-    let first = expression(s, tab, inside, ends, codes, values, at + 16, n, z, depth);
+    let from = node_end(s, at);
+    let first = expression(s, tab, inside, ends, memo, from, n, z, depth);
     let o = first.out;
-    let Work::Value(x) = o else {
-        return handed(first);
+    let p = value_in(o);
+    let Operand::Value(x) = p else {
+        return first;
     };
     let middle = first.next;
-    let second = expression(s, tab, inside, ends, codes, values, middle, n, z, depth);
-    let p = second.out;
-    let Work::Value(y) = p else {
-        return handed(second);
+    let second = expression(s, tab, inside, ends, memo, middle, n, z, depth);
+    let u = second.out;
+    let q = value_in(u);
+    let Operand::Value(y) = q else {
+        return second;
     };
     Worked {
-        out: work_of(integer::binary(natural(s, at + 8), x, y)),
+        out: Work::Done(integer::binary(natural(s, at + 8), x, y)),
         next: second.next,
     }
 }
@@ -236,36 +258,39 @@ fn three(
     tab: &[usize; 102],
     inside: &[u8; 4096],
     ends: &[u16; 8192],
-    codes: &mut [u8; 4096],
-    values: &mut [i32; 4096],
+    memo: &mut [u64; 4096],
     at: usize,
     left: usize,
     z: [Int; 4],
     depth: usize,
 ) -> Worked
-    requires { ⌜ Formed (now s) (now tab) × Inside (sheetOf (now s)) (now inside) × Ready (sheetOf (now s)) (memoOf (now codes) (now values)) × Held (now s) at left z × (left ≤ 2048) × (natAbs (field (now s) at) ≡ 5) × EndsKept (now s) (now ends) ⌝ }
-    ensures { λ r. ⌜ EvaluatesAt (now (s .entry)) at z (memoOf (now (codes .entry)) (now (values .entry))) (memoOf (now (codes .exit)) (now (values .exit))) r ⌝ }
+    requires { ⌜ Setting (now s) (now tab) (now inside) (now ends) (memoOf (now memo)) × HeldOperator OperatorKind.If (now s) at left z ⌝ }
+    ensures { λ r. ⌜ EvaluatesAt (now (s .entry)) at z (memoOf (now (memo .entry))) (memoOf (now (memo .exit))) r ⌝ }
 {
     let n = left - 1;
-    let test = expression(s, tab, inside, ends, codes, values, at + 8, n, z, depth);
+    let from = node_end(s, at);
+    let test = expression(s, tab, inside, ends, memo, from, n, z, depth);
     let o = test.out;
-    let Work::Value(t) = o else {
-        return handed(test);
+    let p = value_in(o);
+    let Operand::Value(t) = p else {
+        return test;
     };
     let middle = test.next;
-    let then = expression(s, tab, inside, ends, codes, values, middle, n, z, depth);
-    let p = then.out;
-    let Work::Value(x) = p else {
-        return handed(then);
+    let then = expression(s, tab, inside, ends, memo, middle, n, z, depth);
+    let u = then.out;
+    let q = value_in(u);
+    let Operand::Value(x) = q else {
+        return then;
     };
     let last = then.next;
-    let other = expression(s, tab, inside, ends, codes, values, last, n, z, depth);
-    let q = other.out;
-    let Work::Value(y) = q else {
-        return handed(other);
+    let other = expression(s, tab, inside, ends, memo, last, n, z, depth);
+    let w = other.out;
+    let r = value_in(w);
+    let Operand::Value(y) = r else {
+        return other;
     };
     Worked {
-        out: work_of(integer::choose(integer::is_true(t), x, y)),
+        out: Work::Done(integer::choose(integer::is_true(t), x, y)),
         next: other.next,
     }
 }
@@ -276,21 +301,60 @@ fn branch(
     tab: &[usize; 102],
     inside: &[u8; 4096],
     ends: &[u16; 8192],
-    codes: &mut [u8; 4096],
-    values: &mut [i32; 4096],
+    memo: &mut [u64; 4096],
     at: usize,
     left: usize,
     z: [Int; 4],
     depth: usize,
 ) -> Worked
-    requires { ⌜ Formed (now s) (now tab) × Inside (sheetOf (now s)) (now inside) × Ready (sheetOf (now s)) (memoOf (now codes) (now values)) × Held (now s) at left z × (left ≤ 2048) × (natAbs (field (now s) at) ≡ 6) × EndsKept (now s) (now ends) ⌝ }
-    ensures { λ r. ⌜ EvaluatesAt (now (s .entry)) at z (memoOf (now (codes .entry)) (now (values .entry))) (memoOf (now (codes .exit)) (now (values .exit))) r ⌝ }
+    requires { ⌜ Setting (now s) (now tab) (now inside) (now ends) (memoOf (now memo)) × HeldAs Class.Case (now s) at left z ⌝ }
+    ensures { λ r. ⌜ EvaluatesAt (now (s .entry)) at z (memoOf (now (memo .entry))) (memoOf (now (memo .exit))) r ⌝ }
 {
-    let taken = holding(s, tab, inside, ends, at, left, z);
     let n = left - 1;
-    let r = expression(s, tab, inside, ends, codes, values, taken, n, z, depth);
-    let o = r.out;
-    let out = again(o);
+    let taken = holding(s, tab, inside, ends, at, left, z);
+    let r = expression(s, tab, inside, ends, memo, taken, n, z, depth);
+    let out = r.out;
     let end = end_of(s, ends, at, left);
     Worked { out, next: end }
+}
+
+// A restriction: its child at the same point.
+fn restriction(
+    s: &[u8],
+    tab: &[usize; 102],
+    inside: &[u8; 4096],
+    ends: &[u16; 8192],
+    memo: &mut [u64; 4096],
+    at: usize,
+    left: usize,
+    z: [Int; 4],
+    depth: usize,
+) -> Worked
+    requires { ⌜ Setting (now s) (now tab) (now inside) (now ends) (memoOf (now memo)) × HeldAs Class.Restriction (now s) at left z ⌝ }
+    ensures { λ r. ⌜ EvaluatesAt (now (s .entry)) at z (memoOf (now (memo .entry))) (memoOf (now (memo .exit))) r ⌝ }
+{
+    let n = left - 1;
+    let child = node_end(s, at);
+    expression(s, tab, inside, ends, memo, child, n, z, depth)
+}
+
+// A dependence: its child at the image of the point.
+fn dependence(
+    s: &[u8],
+    tab: &[usize; 102],
+    inside: &[u8; 4096],
+    ends: &[u16; 8192],
+    memo: &mut [u64; 4096],
+    at: usize,
+    left: usize,
+    z: [Int; 4],
+    depth: usize,
+) -> Worked
+    requires { ⌜ Setting (now s) (now tab) (now inside) (now ends) (memoOf (now memo)) × HeldAs Class.Dependence (now s) at left z ⌝ }
+    ensures { λ r. ⌜ EvaluatesAt (now (s .entry)) at z (memoOf (now (memo .entry))) (memoOf (now (memo .exit))) r ⌝ }
+{
+    let n = left - 1;
+    let y = affine::image_at(s, at + 8, z);
+    let child = node_end(s, at);
+    expression(s, tab, inside, ends, memo, child, n, y, depth)
 }

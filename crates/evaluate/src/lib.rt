@@ -1,6 +1,7 @@
 // The outcomes of elements, each worked out once. An element is worked out by its body, an expression by its operands and by the
 // elements that it names; the memo has what is settled, and marks what is in progress. Assumes nothing.
 use alpha::Int;
+use alpha::Outcome;
 
 pub mod expression;
 pub mod memo;
@@ -8,11 +9,7 @@ pub mod settle;
 
 // An outcome; or that element `Deep` has to be worked out first.
 pub enum Work {
-    Outside,
-    Value(Int),
-    DivZero,
-    Overflow,
-    Loop,
+    Done(Outcome),
     Deep(usize),
 }
 
@@ -20,4 +17,10 @@ pub enum Work {
 pub struct Worked {
     pub out: Work,
     pub next: usize,
+}
+
+// An answer, taken apart: its value, or that it has none.
+pub enum Operand {
+    Value(Int),
+    NoValue,
 }

@@ -1,105 +1,77 @@
-// The memo's entries, looked up and stored, and answers. Assumes nothing.
+// The memo: an entry for each element by its number, its code in the low three bits and its value above them, counted from the least
+// 32-bit number. Only `packed` and `known` know this. Assumes nothing.
 use super::Work;
 use alpha::Int;
 use alpha::Outcome;
 ghost use mathlib.Core.Path.{_≡_};
 ghost use Prim.Native.Nat.{_≤_, _<_};
-ghost use lib.ListN.{length, set};
-ghost use Rattle.integer.specs.Range.{In32};
-ghost use Rattle.evaluate.specs.Memo as Memo;
-ghost use Rattle.evaluate.specs.Memo.{Small};
-ghost use Rattle.evaluate.specs.Working.{entryOf, workOf, Raised};
+ghost use lib.IntN.{pos};
+ghost use Rattle.laws.specs.Coded.{decoded};
+ghost use Rattle.integer.specs.Range.{In32, Says};
+ghost use Rattle.evaluate.specs.Memo.{busy, unknown, codeIn, valueIn, memoOf, noted, stored, Small, Known};
 
-// What an entry that is not unknown says: an element in progress is LOOP.
-pub fn known(code: u8, x: Int) -> Work
+// The marks of an element in progress and of an unknown one, which are no outcome's code.
+const BUSY: u8 = 5;
+
+const UNKNOWN: u8 = 6;
+
+// The entry of a code and a value.
+fn packed(code: u8, x: Int) -> u64
+    requires { ⌜ (code ≤ unknown) × In32 (x .v) ⌝ }
+    ensures { λ r. ⌜ (codeIn r ≡ code) × (valueIn r ≡ x .v) ⌝ }
+{
+    let above = integer::size(integer::add(x, integer::of(2147483648)));
+    above * 8 + code as u64
+}
+
+// The outcome with a code and a value: every code past 3 is LOOP.
+fn outcome(code: u8, x: Int) -> Outcome
     requires { ⌜ In32 (x .v) ⌝ }
-    ensures { λ r. ⌜ (r ≡ entryOf code x) × Small r ⌝ }
+    ensures { λ o. ⌜ Says o (decoded code (x .v)) ⌝ }
 {
     match code {
-        0 => Work::Outside,
-        1 => Work::Value(x),
-        2 => Work::DivZero,
-        3 => Work::Overflow,
-        _ => Work::Loop,
+        0 => Outcome::Outside,
+        1 => Outcome::Value(x),
+        2 => Outcome::DivZero,
+        3 => Outcome::Overflow,
+        _ => Outcome::Loop,
     }
 }
 
-// Stores the entry of element e.
-pub fn note(codes: &mut [u8; 4096], values: &mut [i32; 4096], e: usize, code: u8, x: Int)
-    requires { ⌜ (e < 4096) × (length (now codes) ≡ 4096) × (length (now values) ≡ 4096) × In32 (x .v) ⌝ }
-    ensures { λ _. ⌜ (now (codes .exit) ≡ set (now (codes .entry)) e code) × (now (values .exit) ≡ set (now (values .entry)) e (x .v)) ⌝ }
+// What the memo says of element e: its outcome, LOOP where it is in progress, or that it has to be worked out first.
+pub fn known(memo: &[u64; 4096], e: usize) -> Work
+    requires { ⌜ e < 4096 ⌝ }
+    ensures { λ r. ⌜ Known (memoOf (now (memo .entry))) e r ⌝ }
 {
-    codes[e] = code;
-    values[e] = integer::to32(x);
-}
-
-// The code of an answer's entry.
-pub fn code_of(r: Work) -> u8
-    ensures { λ c. ⌜ c ≡ Memo.codeOf r ⌝ }
-{
-    match r {
-        Work::Outside => 0,
-        Work::Value(_) => 1,
-        Work::DivZero => 2,
-        Work::Overflow => 3,
-        Work::Loop => 4,
-        Work::Deep(_) => 6,
+    let entry = memo[e];
+    let code = (entry % 8) as u8;
+    if BUSY < code {
+        return Work::Deep(e);
     }
+    let above = (entry / 8 % 4294967296) as usize;
+    let x = integer::sub(integer::of_usize(above), integer::of(2147483648));
+    Work::Done(outcome(code, x))
 }
 
-// Its value.
-pub fn value_of(r: Work) -> Int
-    requires { ⌜ Small r ⌝ }
-    ensures { λ x. ⌜ (x .v ≡ Memo.valueOf r) × In32 (x .v) ⌝ }
+// Stores an answer at element e: its outcome, or that it is unknown still.
+pub fn note(memo: &mut [u64; 4096], e: usize, r: Work)
+    requires { ⌜ (e < 4096) × Small r ⌝ }
+    ensures { λ _. ⌜ memoOf (now (memo .exit)) ≡ stored (memoOf (now (memo .entry))) e r ⌝ }
 {
     match r {
-        Work::Outside => integer::of(0),
-        Work::Value(x) => x,
-        Work::DivZero => integer::of(0),
-        Work::Overflow => integer::of(0),
-        Work::Loop => integer::of(0),
-        Work::Deep(_) => integer::of(0),
+        Work::Done(o) => {
+            memo[e] = packed(alpha::code(o), alpha::value(o));
+        }
+        Work::Deep(_) => {
+            memo[e] = packed(UNKNOWN, integer::of(0));
+        }
     }
 }
 
-// The same answer, from its parts: a copy as a whole would go through memory.
-pub fn again(r: Work) -> Work
-    ensures { λ t. ⌜ t ≡ r ⌝ }
+// Marks element e as in progress.
+pub fn mark(memo: &mut [u64; 4096], e: usize)
+    requires { ⌜ e < 4096 ⌝ }
+    ensures { λ _. ⌜ memoOf (now (memo .exit)) ≡ noted (memoOf (now (memo .entry))) e busy (pos 0) ⌝ }
 {
-    match r {
-        Work::Outside => Work::Outside,
-        Work::Value(x) => Work::Value(x),
-        Work::DivZero => Work::DivZero,
-        Work::Overflow => Work::Overflow,
-        Work::Loop => Work::Loop,
-        Work::Deep(e) => Work::Deep(e),
-    }
-}
-
-// What an operator gives, as an answer.
-pub fn work_of(o: Outcome) -> Work
-    ensures { λ r. ⌜ r ≡ workOf o ⌝ }
-{
-    match o {
-        Outcome::Outside => Work::Outside,
-        Outcome::Value(x) => Work::Value(x),
-        Outcome::DivZero => Work::DivZero,
-        Outcome::Overflow => Work::Overflow,
-        Outcome::Loop => Work::Loop,
-    }
-}
-
-// What the unary operator of the number `op` makes of its operand's answer.
-pub fn raised(op: usize, r: Work) -> Work
-    requires { ⌜ (op ≤ 1) × Small r ⌝ }
-    ensures { λ t. ⌜ Raised op r t ⌝ }
-{
-    match r {
-        Work::Outside => Work::Outside,
-        Work::Value(x) => work_of(integer::unary(op, x)),
-        Work::DivZero => Work::DivZero,
-        Work::Overflow => Work::Overflow,
-        Work::Loop => Work::Loop,
-        Work::Deep(e) => Work::Deep(e),
-    }
+    memo[e] = packed(BUSY, integer::of(0));
 }

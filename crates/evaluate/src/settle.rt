@@ -3,24 +3,21 @@
 use super::Work;
 use super::expression::element;
 use super::expression::expression;
-use super::memo::again;
-use super::memo::code_of;
+use super::memo::known;
+use super::memo::mark;
 use super::memo::note;
-use super::memo::value_of;
 use alpha::Int;
+use alpha::Outcome;
 use sheet::table::body_place;
 use sheet::table::first_element;
 use sheet::table::record_place;
-ghost use mathlib.Core.Path.{_≡_};
-ghost use Prim.Native.Nat.{_≤_, _<_};
+ghost use Prim.Native.Nat.{_<_};
 ghost use Rattle.alpha.specs.Check.{total};
 ghost use Rattle.laws.specs.Sheets.{sheetOf};
 ghost use Rattle.tree.specs.Formed.{Formed};
-ghost use Rattle.tree.specs.Ends.{EndsKept};
-ghost use Rattle.domain.specs.Inside.{Inside};
-ghost use Rattle.evaluate.specs.Memo.{busy, codeAt};
-ghost use Rattle.evaluate.specs.Working.{memoOf, Ready, Done, ElementIs};
-ghost use Rattle.evaluate.specs.Settling.{Owns, bodyOf, Stacked, Turned, Idle, Settled};
+ghost use Rattle.evaluate.specs.Memo.{memoOf};
+ghost use Rattle.evaluate.specs.Working.{WorksOut, Setting, ElementIs};
+ghost use Rattle.evaluate.specs.Settling.{Owns, bodyOf, Turned, Alone, Open, Busy, Standing, Settled};
 
 const DEPTH: usize = 4;
 
@@ -51,19 +48,17 @@ fn body(
     tab: &[usize; 102],
     inside: &[u8; 4096],
     ends: &[u16; 8192],
-    codes: &mut [u8; 4096],
-    values: &mut [i32; 4096],
+    memo: &mut [u64; 4096],
     e: usize,
 ) -> Work
-    requires { ⌜ Formed (now s) (now tab) × Inside (sheetOf (now s)) (now inside) × Ready (sheetOf (now s)) (memoOf (now codes) (now values)) × (e < total (sheetOf (now s))) × (codeAt (memoOf (now codes) (now values)) e ≡ busy) × EndsKept (now s) (now ends) ⌝ }
-    ensures { λ r. ⌜ Done (sheetOf (now (s .entry))) (memoOf (now (codes .entry)) (now (values .entry))) (memoOf (now (codes .exit)) (now (values .exit))) (bodyOf (sheetOf (now (s .entry))) e) r ⌝ }
+    requires { ⌜ Setting (now s) (now tab) (now inside) (now ends) (memoOf (now memo)) × Busy (sheetOf (now s)) (memoOf (now memo)) e ⌝ }
+    ensures { λ r. ⌜ WorksOut (sheetOf (now (s .entry))) (memoOf (now (memo .entry))) (memoOf (now (memo .exit))) (bodyOf (sheetOf (now (s .entry))) e) r ⌝ }
 {
     let v = owner(s, tab, e);
     let z = point_of(s, tab, v, e);
     let at = body_place(tab, v);
-    let r = expression(s, tab, inside, ends, codes, values, at, 2048, z, DEPTH);
-    let out = r.out;
-    again(out)
+    let r = expression(s, tab, inside, ends, memo, at, 2048, z, DEPTH);
+    r.out
 }
 
 // One turn: the element on top of the stack is settled and taken off, or one that it waits for comes on top of it. Answers the stack's
@@ -73,68 +68,72 @@ fn turn(
     tab: &[usize; 102],
     inside: &[u8; 4096],
     ends: &[u16; 8192],
-    codes: &mut [u8; 4096],
-    values: &mut [i32; 4096],
+    memo: &mut [u64; 4096],
     stack: &mut [u16; 4096],
     high: usize,
 ) -> usize
-    requires { ⌜ Formed (now s) (now tab) × Inside (sheetOf (now s)) (now inside) × Ready (sheetOf (now s)) (memoOf (now codes) (now values)) × Stacked (sheetOf (now s)) (memoOf (now codes) (now values)) (now stack) high × (1 ≤ high) × EndsKept (now s) (now ends) ⌝ }
-    ensures { λ r. ⌜ Turned (sheetOf (now (s .entry))) (memoOf (now (codes .entry)) (now (values .entry))) (now (stack .entry)) high (memoOf (now (codes .exit)) (now (values .exit))) (now (stack .exit)) r ⌝ }
+    requires { ⌜ Setting (now s) (now tab) (now inside) (now ends) (memoOf (now memo)) × Standing (sheetOf (now s)) (memoOf (now memo)) (now stack) high ⌝ }
+    ensures { λ r. ⌜ Turned (sheetOf (now (s .entry))) (memoOf (now (memo .entry))) (now (stack .entry)) high (memoOf (now (memo .exit))) (now (stack .exit)) r ⌝ }
 {
     let top = stack[high - 1] as usize;
-    let r = body(s, tab, inside, ends, codes, values, top);
+    let r = body(s, tab, inside, ends, memo, top);
     if let Work::Deep(d) = r {
-        note(codes, values, d, 5, integer::of(0));
+        mark(memo, d);
         stack[high] = d as u16;
         return high + 1;
     }
-    note(codes, values, top, code_of(r), value_of(r));
+    note(memo, top, r);
     high - 1
 }
 
-// Element e, which is unknown, is worked out, and what it waits for before it.
+// Element e, which is unknown, is worked out, and what it waits for before it: the memo has its outcome then.
 fn settle_deep(
     s: &[u8],
     tab: &[usize; 102],
     inside: &[u8; 4096],
     ends: &[u16; 8192],
-    codes: &mut [u8; 4096],
-    values: &mut [i32; 4096],
+    memo: &mut [u64; 4096],
     e: usize,
-)
-    requires { ⌜ Formed (now s) (now tab) × Inside (sheetOf (now s)) (now inside) × Ready (sheetOf (now s)) (memoOf (now codes) (now values)) × Idle (memoOf (now codes) (now values)) × (e < total (sheetOf (now s))) × (6 ≤ codeAt (memoOf (now codes) (now values)) e) × EndsKept (now s) (now ends) ⌝ }
-    ensures { λ _. ⌜ Settled (sheetOf (now (s .entry))) e (memoOf (now (codes .entry)) (now (values .entry))) (memoOf (now (codes .exit)) (now (values .exit))) ⌝ }
+) -> Outcome
+    requires { ⌜ Setting (now s) (now tab) (now inside) (now ends) (memoOf (now memo)) × Open (sheetOf (now s)) (memoOf (now memo)) e ⌝ }
+    ensures { λ o. ⌜ Settled (sheetOf (now (s .entry))) e (memoOf (now (memo .entry))) (memoOf (now (memo .exit))) o ⌝ }
 {
     let mut stack = [0u16; 4096];
-    note(codes, values, e, 5, integer::of(0));
+    mark(memo, e);
     stack[0] = e as u16;
     let mut high = 1;
     while 0 < high {
-        high = turn(s, tab, inside, ends, codes, values, &mut stack, high);
+        high = turn(s, tab, inside, ends, memo, &mut stack, high);
     }
+    let r = known(memo, e);
+    let Work::Done(o) = r else {
+        return Outcome::Loop;
+    };
+    o
 }
 
-// Element e is worked out, if it is not settled already: most need no stack.
+// The outcome of element e, which is worked out if it is not settled already: most need no stack.
 pub fn settle(
     s: &[u8],
     tab: &[usize; 102],
     inside: &[u8; 4096],
     ends: &[u16; 8192],
-    codes: &mut [u8; 4096],
-    values: &mut [i32; 4096],
+    memo: &mut [u64; 4096],
     e: usize,
-)
-    requires { ⌜ Formed (now s) (now tab) × Inside (sheetOf (now s)) (now inside) × Ready (sheetOf (now s)) (memoOf (now codes) (now values)) × Idle (memoOf (now codes) (now values)) × (e < total (sheetOf (now s))) × EndsKept (now s) (now ends) ⌝ }
-    ensures { λ _. ⌜ Settled (sheetOf (now (s .entry))) e (memoOf (now (codes .entry)) (now (values .entry))) (memoOf (now (codes .exit)) (now (values .exit))) ⌝ }
+) -> Outcome
+    requires { ⌜ Setting (now s) (now tab) (now inside) (now ends) (memoOf (now memo)) × Alone (sheetOf (now s)) (memoOf (now memo)) e ⌝ }
+    ensures { λ o. ⌜ Settled (sheetOf (now (s .entry))) e (memoOf (now (memo .entry))) (memoOf (now (memo .exit))) o ⌝ }
 {
-    if codes[e] < 6 {
-        return;
+    let had = known(memo, e);
+    if let Work::Done(o) = had {
+        return o;
     }
     let v = owner(s, tab, e);
     let z = point_of(s, tab, v, e);
-    element(s, tab, inside, ends, codes, values, v, e, z, DEPTH + 1);
-    if codes[e] < 6 {
-        return;
+    element(s, tab, inside, ends, memo, v, e, z, DEPTH + 1);
+    let has = known(memo, e);
+    if let Work::Done(o) = has {
+        return o;
     }
-    settle_deep(s, tab, inside, ends, codes, values, e);
+    settle_deep(s, tab, inside, ends, memo, e)
 }

@@ -1,4 +1,4 @@
--- The point of a number, coordinate by coordinate from the last to the first: what the loop of `point` keeps. Assumes nothing.
+-- The point of a number, coordinate by coordinate from the last to the first: what the loop of `point_in` keeps. Assumes nothing.
 use mathlib.Core.Path.{_≡_, refl, sym, ap, _∙_}
 use Prim.Native.Nat.{ℕ, zero, suc, _+_, _*_, _-_, _/_, _%_, _≤_, _<_}
 use native.Mathlib.Nat.{mul-le-mul-right, mod-lt, div-le-self, div-add-mod'}
@@ -11,8 +11,8 @@ use Rattle.alpha.specs.Sheet.{Range}
 use Rattle.alpha.specs.Box.{side, size, pointAt}
 use Rattle.alpha.specs.declared.Int.{Int}
 use Rattle.affine.specs.Value.{pointOf, Padded}
-use Rattle.sheet.specs.Record.{boxAt}
-use Rattle.points.specs.Number.{rangeAt}
+use Rattle.sheet.specs.Record.{rangeAt, boxAt}
+use Rattle.points.specs.Number.{PointIn}
 use Rattle.points.proofs.Steps.{horner, moved-down}
 
 -- ---- one coordinate more: the point numbered m of the others, d of their boxes further on
@@ -100,13 +100,13 @@ module _ {bs : List ℕ} {start i n left p j : ℕ} {x0 x1 x2 x3 : Int} where
 
   -- after: all are done, and the number is less than one box
   pub making-end : left ≡ 0 → i < size (boxAt bs start n) → Making bs start i n left p j (x0 ∷ x1 ∷ x2 ∷ x3 ∷ []) →
-      (pointOf n (x0 ∷ x1 ∷ x2 ∷ x3 ∷ []) ≡ pointAt (boxAt bs start n) i) × Padded n (x0 ∷ x1 ∷ x2 ∷ x3 ∷ [])
+      PointIn bs start n i (x0 ∷ x1 ∷ x2 ∷ x3 ∷ [])
   making-end none below h =
       let all : h .k ≡ n = omega (arith, h .count) in
       let here : p ≡ start = omega (arith, h .place) in
       let box-is : size (boxAt bs p (h .k)) ≡ size (boxAt bs start n) = rw (all, here) refl in
       let is : h .m ≡ i = first j (size (boxAt bs p (h .k))) (h .m) (h .whole) (omega (arith, box-is)) in
-      (rw (all, here, is) at (h .made), rw all at (h .padded))
+      record { is = rw (all, here, is) at (h .made); rest = rw all at (h .padded) }
     where
       first : (q s m : ℕ) → i ≡ q * s + m → i < s → m ≡ i
       first zero s m e b = omega arith

@@ -1,4 +1,4 @@
--- What the loops of `index` and `point` keep, and that the numbers of a range are small.
+-- The ranges that the loops of `index_in` and `point_in` go through, and what these loops keep.
+pub mod Ranges
 pub mod Steps
-pub mod Small
 pub mod Coordinates

@@ -14,10 +14,11 @@ use Rattle.alpha.specs.Box.{within, side, size, inBox, index}
 use Rattle.alpha.specs.declared.Int.{Int}
 use Rattle.affine.specs.Value.{at, pointOf}
 use Rattle.affine.proofs.Several.{several-same, below-four}
-use Rattle.sheet.specs.Record.{boxAt, Ranges}
+use Rattle.sheet.specs.Record.{rangeAt, boxAt, Ranges}
+use Rattle.sheet.proofs.Boxes.{ranges-first, ranges-rest}
 use Rattle.laws.proofs.Order.{within-among}
 use Rattle.laws.proofs.Boxes.{size-pos}
-use Rattle.points.specs.Number.{rangeAt, digitIn, numberFrom, numberIn}
+use Rattle.points.specs.Number.{digitIn, numberFrom, numberIn}
 use Rattle.points.specs.declared.Found.{Found}
 use Rattle.points.specs.declared.Found.the-variants.{At, Off}
 
@@ -46,33 +47,6 @@ numberFrom-none box z = go (inBox box z)
 
 pub numberFrom-end : (e : ℕ) → numberFrom e [] [] ≡ At e
 numberFrom-end e = ap At (omega arith)
-
--- ---- ranges one after another
-
-pub ranges-at : (bs : List ℕ) (p n k : ℕ) → k < n → Ranges bs p n → Ranges bs (p + 16 * k) 1
-ranges-at bs p n k l h =
-    record {
-      there = omega (arith, h .there);
-      low = λ i j. rw (place i j) (h .low k l);
-      high = λ i j. rw (place i j) (h .high k l);
-    }
-  where
-    place : (i : ℕ) → i < 1 → p + 16 * k + 16 * i ≡ p + 16 * k
-    place i j = omega arith
-
-ranges-head : (bs : List ℕ) (p n : ℕ) → Ranges bs p (suc n) → Ranges bs p 1
-ranges-head bs p n h = let here : p + 16 * 0 ≡ p = omega arith in rw here at (ranges-at bs p (suc n) 0 (omega arith) h)
-
-ranges-tail : (bs : List ℕ) (p n : ℕ) → Ranges bs p (suc n) → Ranges bs (p + 16) n
-ranges-tail bs p n h =
-    record {
-      there = omega (arith, h .there);
-      low = λ i l. rw (next i) at (h .low (suc i) (omega arith));
-      high = λ i l. rw (next i) at (h .high (suc i) (omega arith));
-    }
-  where
-    next : (i : ℕ) → p + 16 * suc i ≡ p + 16 + 16 * i
-    next i = omega arith
 
 -- ---- coordinates that move up to the front of four
 
@@ -143,8 +117,7 @@ module _ {bs : List ℕ} {asked : Found} {z : List Int} {p e : ℕ} where
   kept-off (suc n) l h d = sym (step-off bs p e n (at z 0) _ d) ∙ h .number
 
   pub kept-head : (n : ℕ) → 0 < n → Kept bs asked z p e n → Ranges bs p 1
-  kept-head zero l h = absurd (omega arith)
-  kept-head (suc n) l h = ranges-head bs p n (h .ranges)
+  kept-head n l h = ranges-first bs p n l (h .ranges)
 
 module _ {bs : List ℕ} {asked : Found} {x0 x1 x2 x3 : Int} {p e : ℕ} where
   more : (n i : ℕ) → Kept bs asked (x0 ∷ x1 ∷ x2 ∷ x3 ∷ []) p e (suc n) → digitIn (rangeAt bs p) (x0 .v) ≡ At i →
@@ -160,7 +133,7 @@ module _ {bs : List ℕ} {asked : Found} {x0 x1 x2 x3 : Int} {p e : ℕ} where
             ∙ ap (numberFrom e (boxAt bs p (suc n))) (sym (moved-down n x0 x1 x2 x3 x3 (omega (arith, h .few))))
             ∙ h .number;
         low = omega (arith, mul-le-mul-right rest i-low, mul-assoc (e + 1) w rest, h .low);
-        ranges = ranges-tail bs p n (h .ranges);
+        ranges = rw (sub-one (suc n)) at (ranges-rest bs p (suc n) (omega arith) (h .ranges));
         few = omega (arith, h .few);
       }
 

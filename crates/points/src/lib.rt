@@ -1,14 +1,15 @@
-// Points of the variables' boxes: the number of a point, and the point of a number, the last coordinate fastest. A box is read where its
-// record stands. Assumes nothing.
+// Points of boxes: the number of a point, and the point of a number, the last coordinate fastest. A box is read where its ranges stand:
+// `index_in` and `point_in` take the place of the first and how many there are, `index` and `point` a variable's record. Assumes nothing.
 use alpha::Int;
+use sheet::range::side;
 ghost use mathlib.Core.Path.{_≡_};
 ghost use Prim.Native.Nat.{_≤_, _<_};
-ghost use lib.IntN.{pos, natAbs, _+ℤ_, _-ℤ_};
-ghost use Rattle.alpha.specs.Box.{side, size};
+ghost use lib.IntN.{pos, _+ℤ_};
+ghost use Rattle.alpha.specs.Box.{size};
 ghost use Rattle.alpha.specs.Field.{field};
 ghost use Rattle.affine.specs.Value.{pointOf};
-ghost use Rattle.sheet.specs.Record.{dimensionAt, Recorded, Ranges};
-ghost use Rattle.points.specs.Number.{rangeAt, boxOf, digitIn, numberIn, PointAt};
+ghost use Rattle.sheet.specs.Record.{rangeAt, boxAt, dimensionAt, Recorded, Ranges};
+ghost use Rattle.points.specs.Number.{boxOf, digitIn, numberIn, Boxed, PointIn, PointAt};
 
 // The number of a point in a box, or that it is not in the box.
 pub enum Found {
@@ -24,24 +25,6 @@ pub fn dimension(s: &[u8], place: usize) -> usize
     integer::to_usize(integer::number_at(s, place + 24))
 }
 
-// How far x lies from lo, where both are small.
-fn above(x: Int, lo: Int) -> usize
-    requires { ⌜ (natAbs (x .v) ≤ 32768) × (natAbs (lo .v) ≤ 32768) ⌝ }
-    ensures { λ n. ⌜ (n ≡ natAbs (x .v -ℤ lo .v)) × (n ≤ 65536) ⌝ }
-{
-    integer::to_usize(integer::sub(x, lo))
-}
-
-// How many numbers the range at p has.
-fn width(s: &[u8], p: usize) -> usize
-    requires { ⌜ Ranges (now s) p 1 ⌝ }
-    ensures { λ n. ⌜ (n ≡ side (rangeAt (now (s .entry)) p)) × (n ≤ 65537) ⌝ }
-{
-    let lo = integer::number_at(s, p);
-    let hi = integer::number_at(s, p + 8);
-    above(hi, lo) + 1
-}
-
 // Where x stands in the range at p.
 fn digit(s: &[u8], p: usize, x: Int) -> Found
     requires { ⌜ Ranges (now s) p 1 ⌝ }
@@ -50,20 +33,20 @@ fn digit(s: &[u8], p: usize, x: Int) -> Found
     let lo = integer::number_at(s, p);
     let hi = integer::number_at(s, p + 8);
     if integer::within(x, lo, hi) {
-        Found::At(above(x, lo))
+        Found::At(integer::to_usize(integer::sub(x, lo)))
     } else {
         Found::Off
     }
 }
 
-// The number of z in the box of the record at `place`. x0 is the next coordinate, and the later ones move up one by one: z is read at fixed
-// places only, so that the compiler keeps the coordinates in registers and does not copy z in memory.
-pub fn index(s: &[u8], place: usize, z: [Int; 4]) -> Found
-    requires { ⌜ Recorded (now s) place × (size (boxOf (now s) place) ≤ 4096) ⌝ }
-    ensures { λ r. ⌜ r ≡ numberIn (boxOf (now (s .entry)) place) (pointOf (dimensionAt (now (s .entry)) place) z) ⌝ }
+// The number of z in the box of the n ranges from `at` on. x0 is the next coordinate, and the later ones move up one by one: z is read at
+// fixed places only, so that the compiler keeps the coordinates in registers and does not copy z in memory.
+pub fn index_in(s: &[u8], at: usize, n: usize, z: [Int; 4]) -> Found
+    requires { ⌜ Boxed (now s) at n ⌝ }
+    ensures { λ r. ⌜ r ≡ numberIn (boxAt (now (s .entry)) at n) (pointOf n z) ⌝ }
 {
-    let mut left = dimension(s, place);
-    let mut p = place + 32;
+    let mut left = n;
+    let mut p = at;
     let mut e: usize = 0;
     let mut x0 = z[0];
     let mut x1 = z[1];
@@ -74,7 +57,7 @@ pub fn index(s: &[u8], place: usize, z: [Int; 4]) -> Found
         let Found::At(i) = d else {
             return Found::Off;
         };
-        e = e * width(s, p) + i;
+        e = e * side(s, p) + i;
         x0 = x1;
         x1 = x2;
         x2 = x3;
@@ -82,6 +65,14 @@ pub fn index(s: &[u8], place: usize, z: [Int; 4]) -> Found
         left -= 1;
     }
     Found::At(e)
+}
+
+// The number of z in the box of the record at `place`.
+pub fn index(s: &[u8], place: usize, z: [Int; 4]) -> Found
+    requires { ⌜ Recorded (now s) place × (size (boxOf (now s) place) ≤ 4096) ⌝ }
+    ensures { λ r. ⌜ r ≡ numberIn (boxOf (now (s .entry)) place) (pointOf (dimensionAt (now (s .entry)) place) z) ⌝ }
+{
+    index_in(s, place + 32, dimension(s, place), z)
 }
 
 // The number that lies n above the least of the range at p.
@@ -92,15 +83,15 @@ fn nth(s: &[u8], p: usize, n: usize) -> Int
     integer::add(integer::number_at(s, p), integer::of_usize(n))
 }
 
-// The point with the number i in the box of the record at `place`, from its last coordinate to its first. x0 is the one found last, and those
-// found before move down one by one: the compiler keeps them in registers.
-pub fn point(s: &[u8], place: usize, i: usize) -> [Int; 4]
-    requires { ⌜ Recorded (now s) place × (size (boxOf (now s) place) ≤ 4096) × (i < size (boxOf (now s) place)) ⌝ }
-    ensures { λ z. ⌜ PointAt (now (s .entry)) place i z ⌝ }
+// The point with the number i in the box of the n ranges from `at` on, from its last coordinate to its first. x0 is the one found last, and
+// those found before move down one by one: the compiler keeps them in registers.
+pub fn point_in(s: &[u8], at: usize, n: usize, i: usize) -> [Int; 4]
+    requires { ⌜ Boxed (now s) at n × (i < size (boxAt (now s) at n)) ⌝ }
+    ensures { λ z. ⌜ PointIn (now (s .entry)) at n i z ⌝ }
 {
     let zero = integer::of(0);
-    let mut left = dimension(s, place);
-    let mut p = place + 32 + 16 * left;
+    let mut left = n;
+    let mut p = at + 16 * n;
     let mut j = i;
     let mut x0 = zero;
     let mut x1 = zero;
@@ -108,13 +99,23 @@ pub fn point(s: &[u8], place: usize, i: usize) -> [Int; 4]
     let mut x3 = zero;
     while left > 0 {
         p -= 16;
-        let w = width(s, p);
+        let w = side(s, p);
         x3 = x2;
         x2 = x1;
         x1 = x0;
-        x0 = nth(s, p, j % w);
-        j = j / w;
+        let low = j % w;
+        let high = j / w;
+        x0 = nth(s, p, low);
+        j = high;
         left -= 1;
     }
     [x0, x1, x2, x3]
+}
+
+// The point with the number i in the box of the record at `place`.
+pub fn point(s: &[u8], place: usize, i: usize) -> [Int; 4]
+    requires { ⌜ Recorded (now s) place × (size (boxOf (now s) place) ≤ 4096) × (i < size (boxOf (now s) place)) ⌝ }
+    ensures { λ z. ⌜ PointAt (now (s .entry)) place i z ⌝ }
+{
+    point_in(s, place + 32, dimension(s, place), i)
 }

@@ -7,19 +7,18 @@ use native.Mathlib.Omega.{arith}
 use mathlib.Core.Bool.{Bool, true, false}
 use mathlib.Core.List.{List, [], _∷_}
 use lib.ListN.{length, getD, replicate, length-set, length-replicate}
-use lib.Seq.{getD-set-same, getD-set-other}
 use lib.IntN.{ℤ, pos}
 use lib.Dec.{eqb}
 use borrow.Author.Tests.{eq-eqb, ne-eqb}
-use Rattle.alpha.specs.Pick.{ifb}
+use Rattle.alpha.specs.declared.Outcome.the-variants.{Outside, Value}
 use Rattle.alpha.specs.Sheet.{Range, Sheet, Point}
 use Rattle.alpha.specs.Affine.{meetsAll}
-use Rattle.alpha.specs.Box.{size, inBox, pointAt}
+use Rattle.alpha.specs.Box.{size, inBox, index, pointAt}
 use Rattle.alpha.specs.Holds.{variable, isInput, inDomain}
 use Rattle.alpha.specs.Answer.{accepted}
 use Rattle.alpha.specs.Check.{Element, total, check}
 use Rattle.alpha.specs.Ask.{before, numberOf}
-use Rattle.alpha.specs.Outcome.{value, loop, inputsBefore}
+use Rattle.alpha.specs.Outcome.{Outcome, outside, value, inputsBefore}
 use Rattle.laws.specs.Coded.{decoded}
 use Rattle.laws.specs.Sheets.{sheetOf}
 use Rattle.laws.proofs.Tests.{ifb-true, ifb-false}
@@ -32,51 +31,27 @@ use Rattle.domain.specs.Inside.{Inside, bit}
 use Rattle.domain.specs.declared.Standing.the-variants.{Holds}
 use Rattle.domain.specs.Standing.{standing}
 use Rattle.domain.proofs.Records.{VariableLaid}
-use Rattle.evaluate.specs.Memo.{busy, unknown, Memo, codeAt, valueAt, sum, busyOne, count, Right, noted}
+use Rattle.evaluate.specs.declared.Work.{Work}
+use Rattle.evaluate.specs.declared.Work.the-variants.{Done, Deep}
+use Rattle.evaluate.specs.Memo.{element, Memo, codeIn, codeAt, savedAt, memoOf, sum, busyOne, count, Tells, Right, codeOf, valueOf, stored}
 use Rattle.evaluate.specs.Working.{elementAt, outcomes, Bodied, Ready}
 use Rattle.evaluate.specs.Settling.{Idle}
-use Rattle.evaluate.proofs.Stores.{decide, code-same, code-other}
-use Rattle.run.specs.Starting.{codeFrom, valueFrom, startCode, entryPlace, Started}
+use Rattle.evaluate.proofs.Entries.{unmarked, answer-idle, answer-low, codes-many, values-many, entry-code}
+use Rattle.evaluate.proofs.Stores.{decide, code-same, code-other, value-same, value-other}
+use Rattle.run.specs.Starting.{firstAnswer, entryPlace, startAnswer, Started}
 
 -- ---- by the byte
 
-module _ (memo : Memo) (e : ℕ) (input : Bool) (byte : ℕ) (ins : List ℤ) (i : ℕ) where
-  noted-same : (c : ℕ) (x : ℤ) → c ≡ codeFrom input byte → x ≡ valueFrom input byte ins i →
-      noted memo e c x ≡ noted memo e (codeFrom input byte) (valueFrom input byte ins i)
-  noted-same c x f g = rw (f, g)
-
-  pub outside-noted : (byte ≡ 1 → ⊥) → noted memo e 0 (pos 0) ≡ noted memo e (codeFrom input byte) (valueFrom input byte ins i)
-  outside-noted n =
-      let t = ne-eqb byte 1 n in
-      noted-same 0 (pos 0) (sym (ifb-false (eqb byte 1) _ _ t)) (sym (ifb-false (eqb byte 1) _ _ t))
+module _ (byte : ℕ) (input : Bool) (x : ℤ) (m : ℕ) where
+  pub outside-first : (byte ≡ 1 → ⊥) → Done Outside ≡ firstAnswer (eqb byte 1) input x m
+  outside-first n = sym (ifb-false (eqb byte 1) _ _ (ne-eqb byte 1 n))
 
   module _ (is : byte ≡ 1) where
-    pub input-noted : input ≡ true → noted memo e 1 (getD ins i (pos 0)) ≡ noted memo e (codeFrom input byte) (valueFrom input byte ins i)
-    input-noted b =
-        let t = eq-eqb byte 1 is in
-        noted-same 1 (getD ins i (pos 0)) (sym (ifb-true (eqb byte 1) _ _ t ∙ ifb-true input _ _ b)) (sym (ifb-true (eqb byte 1) _ _ t ∙ ifb-true input _ _ b))
+    pub input-first : input ≡ true → Done (Value (record { v = x })) ≡ firstAnswer (eqb byte 1) input x m
+    input-first b = sym (ifb-true (eqb byte 1) _ _ (eq-eqb byte 1 is) ∙ ifb-true input _ _ b)
 
-    pub other-noted : input ≡ false → noted memo e unknown (pos 0) ≡ noted memo e (codeFrom input byte) (valueFrom input byte ins i)
-    other-noted b =
-        let t = eq-eqb byte 1 is in
-        noted-same unknown (pos 0) (sym (ifb-true (eqb byte 1) _ _ t ∙ ifb-false input _ _ b)) (sym (ifb-true (eqb byte 1) _ _ t ∙ ifb-false input _ _ b))
-
--- what is stored is no mark
-code-low : (input : Bool) (byte : ℕ) → codeFrom input byte ≤ unknown
-code-low input byte = go (eqb byte 1) input
-  where
-    go : (b i : Bool) → ifb b (λ _. ifb i (λ _. 1) (λ _. unknown)) (λ _. 0) ≤ unknown
-    go true true = omega arith
-    go true false = omega arith
-    go false i = omega arith
-
-code-idle : (input : Bool) (byte : ℕ) → codeFrom input byte ≡ busy → ⊥
-code-idle input byte = go (eqb byte 1) input
-  where
-    go : (b i : Bool) → ifb b (λ _. ifb i (λ _. 1) (λ _. unknown)) (λ _. 0) ≡ busy → ⊥
-    go true true e = omega arith
-    go true false e = omega arith
-    go false i e = omega arith
+    pub other-first : input ≡ false → Deep m ≡ firstAnswer (eqb byte 1) input x m
+    other-first b = sym (ifb-true (eqb byte 1) _ _ (eq-eqb byte 1 is) ∙ ifb-false input _ _ b)
 
 -- ---- tables of zeros
 
@@ -85,15 +60,18 @@ getD-zeros zero m x = refl
 getD-zeros (suc n) zero x = refl
 getD-zeros (suc n) (suc m) x = getD-zeros n m x
 
-pub started-none : (s : Sheet) (ins : List ℤ) → Started s ins (record { codes = replicate 4096 0; values = replicate 4096 (pos 0) }) 0
+pub started-none : (s : Sheet) (ins : List ℤ) → Started s ins (memoOf (replicate 4096 0)) 0
 started-none s ins = record {
-  codes-long = length-replicate {A = ℕ} 4096 0;
-  values-long = length-replicate 4096 (pos 0);
-  low = λ m. let z = getD-zeros {X = ℕ} 4096 m 0 in omega (arith, z);
-  idle = λ m b. let z = getD-zeros {X = ℕ} 4096 m 0 in omega (arith, z, b);
+  codes-long = codes-many (replicate 4096 0) ∙ length-replicate {A = ℕ} 4096 0;
+  values-long = values-many (replicate 4096 0) ∙ length-replicate {A = ℕ} 4096 0;
+  low = λ m. let z = zeros m in omega (arith, z);
+  idle = λ m b. let z = zeros m in omega (arith, z, b);
   code = λ m h. absurd (omega arith);
-  value = λ m h one. absurd (omega arith);
+  value = λ m h. absurd (omega arith);
 }
+  where
+    zeros : (m : ℕ) → codeAt (memoOf (replicate 4096 0)) m ≡ 0
+    zeros m = entry-code (replicate 4096 0) m ∙ ap codeIn (getD-zeros {X = ℕ} 4096 m 0)
 
 -- a table that keeps no end
 pub no-end-kept : (bs : List ℕ) → EndsKept bs (replicate 8192 0)
@@ -122,41 +100,32 @@ module _ (bs tab : List ℕ) (v i : ℕ) (h : VariableLaid bs tab v) (low : i < 
   in-box : inBox box (pointAt box i) ≡ true
   in-box = pointAt-inBox box i (readBox-ordered box (h .box-read)) low
 
-  byte-is : getD inside e 0 ≡ bit (meetsAll (variable sheet v .declared) (pointAt box i))
-  byte-is =
+  -- its byte says whether it lies in its declared domain
+  domain-is : eqb (getD inside e 0) 1 ≡ inDomain (variable sheet v) (pointAt box i)
+  domain-is =
       let n : numberOf sheet v (pointAt box i) ≡ e = omega (arith, index-pointAt box i low) in
-      rw n at (I .says v (pointAt box i) (h .known) in-box)
-
-  code-is : codeFrom (isInput (variable sheet v)) (getD inside e 0) ≡ startCode sheet (elementAt sheet e)
-  code-is =
-      ap (codeFrom (isInput (variable sheet v))) byte-is ∙ go (meetsAll (variable sheet v .declared) (pointAt box i)) refl
-      ∙ ap (startCode sheet) (sym element-is)
+      ap (λ b. eqb b 1) (rw n at (I .says v (pointAt box i) (h .known) in-box)) ∙ go (meetsAll (variable sheet v .declared) (pointAt box i)) refl
     where
-      go : (b : Bool) → meetsAll (variable sheet v .declared) (pointAt box i) ≡ b →
-          codeFrom (isInput (variable sheet v)) (bit b) ≡ startCode sheet (record { who = v; at = pointAt box i })
-      go true m = sym (ifb-true (inDomain (variable sheet v) (pointAt box i)) _ _ (rw (in-box, m) refl))
-      go false m = sym (ifb-false (inDomain (variable sheet v) (pointAt box i)) _ _ (rw (in-box, m) refl))
+      go : (b : Bool) → meetsAll (variable sheet v .declared) (pointAt box i) ≡ b → eqb (bit b) 1 ≡ inDomain (variable sheet v) (pointAt box i)
+      go true m = sym (rw (in-box, m) refl)
+      go false m = sym (rw (in-box, m) refl)
 
-  -- an input's value is its entry
-  value-is : (ins : List ℤ) (input : Bool) (byte : ℕ) → codeFrom input byte ≡ 1 →
-      valueFrom input byte ins (inputsBefore sheet v + i) ≡ getD ins (entryPlace sheet (elementAt sheet e)) (pos 0)
-  value-is ins input byte c = go (eqb byte 1) input c ∙ ap (λ n. getD ins n (pos 0)) place
-    where
-      place : inputsBefore sheet v + i ≡ entryPlace sheet (elementAt sheet e)
-      place = ap (λ n. inputsBefore sheet v + n) (sym (index-pointAt box i low)) ∙ ap (entryPlace sheet) (sym element-is)
-
-      go : (b j : Bool) → ifb b (λ _. ifb j (λ _. 1) (λ _. unknown)) (λ _. 0) ≡ 1 →
-          ifb b (λ _. ifb j (λ _. getD ins (inputsBefore sheet v + i) (pos 0)) (λ _. pos 0)) (λ _. pos 0) ≡ getD ins (inputsBefore sheet v + i) (pos 0)
-      go true true q = refl
-      go true false q = absurd (omega arith)
-      go false j q = absurd (omega arith)
+  answer-is : (ins : List ℤ) →
+      firstAnswer (eqb (getD inside e 0) 1) (isInput (variable sheet v)) (getD ins (inputsBefore sheet v + i) (pos 0)) e
+      ≡ startAnswer sheet ins (elementAt sheet e) e
+  answer-is ins =
+      let place : inputsBefore sheet v + i ≡ inputsBefore sheet v + index box (pointAt box i) =
+      ap (λ n. inputsBefore sheet v + n) (sym (index-pointAt box i low)) in
+      ap (λ b. firstAnswer b (isInput (variable sheet v)) (getD ins (inputsBefore sheet v + i) (pos 0)) e) domain-is
+      ∙ ap (λ n. firstAnswer (inDomain (variable sheet v) (pointAt box i)) (isInput (variable sheet v)) (getD ins n (pos 0)) e) place
+      ∙ ap (λ x. startAnswer sheet ins x e) (sym element-is)
 
   module _ (ins : List ℤ) (memo : Memo) (S : Started sheet ins memo e) (input : Bool) (same : input ≡ isInput (variable sheet v)) where
-    abbrev code : ℕ
-    code = codeFrom input (getD inside e 0)
+    abbrev answer : Work
+    answer = firstAnswer (eqb (getD inside e 0) 1) input (getD ins (inputsBefore sheet v + i) (pos 0)) e
 
-    abbrev number : ℤ
-    number = valueFrom input (getD inside e 0) ins (inputsBefore sheet v + i)
+    is-first : answer ≡ startAnswer sheet ins (elementAt sheet e) e
+    is-first = ap (λ b. firstAnswer (eqb (getD inside e 0) 1) b (getD ins (inputsBefore sheet v + i) (pos 0)) e) same ∙ answer-is ins
 
     in-codes : e < length (memo .codes)
     in-codes = omega (arith, S .codes-long, h .few)
@@ -168,25 +137,22 @@ module _ (bs tab : List ℕ) (v i : ℕ) (h : VariableLaid bs tab v) (low : i < 
     upto : (m : ℕ) → m < before sheet v + (i + 1) → (m ≡ e → ⊥) → m < e
     upto m l n = omega (arith, n)
 
-    pub started-next : Started sheet ins (noted memo e code number) (before sheet v + (i + 1))
+    pub started-next : Started sheet ins (stored memo e answer) (before sheet v + (i + 1))
     started-next = record {
       codes-long = simp length-set (S .codes-long);
       values-long = simp length-set (S .values-long);
       low = λ m. decide m e (ℕ-discrete m e)
-          (λ is. rw (is, code-same memo e code number in-codes) (code-low input (getD inside e 0)))
-          (λ other. rw (code-other memo e code number m other) (S .low m));
+          (λ is. rw (is, code-same memo e (codeOf answer) (valueOf answer) in-codes) (answer-low answer))
+          (λ other. rw (code-other memo e (codeOf answer) (valueOf answer) m other) (S .low m));
       idle = λ m b. decide m e (ℕ-discrete m e)
-          (λ is. code-idle input (getD inside e 0) (sym (code-same memo e code number in-codes) ∙ rw is at b))
-          (λ other. S .idle m (sym (code-other memo e code number m other) ∙ b));
+          (λ is. answer-idle answer (sym (code-same memo e (codeOf answer) (valueOf answer) in-codes) ∙ rw is at b))
+          (λ other. S .idle m (sym (code-other memo e (codeOf answer) (valueOf answer) m other) ∙ b));
       code = λ m l. decide m e (ℕ-discrete m e)
-          (λ is. rw is (code-same memo e code number in-codes ∙ ap (λ b. codeFrom b (getD inside e 0)) same ∙ code-is))
-          (λ other. code-other memo e code number m other ∙ S .code m (upto m l other));
-      value = λ m l one. decide m e (ℕ-discrete m e)
-          (λ is. rw is (getD-set-same (memo .values) e number (pos 0) in-values
-          ∙ value-is ins input (getD inside e 0) (sym (code-same memo e code number in-codes) ∙ rw is at one)))
-          (λ other.
-          getD-set-other (memo .values) e m number (pos 0) other
-          ∙ S .value m (upto m l other) (sym (code-other memo e code number m other) ∙ one));
+          (λ is. rw is (code-same memo e (codeOf answer) (valueOf answer) in-codes ∙ ap codeOf is-first))
+          (λ other. code-other memo e (codeOf answer) (valueOf answer) m other ∙ S .code m (upto m l other));
+      value = λ m l. decide m e (ℕ-discrete m e)
+          (λ is. rw is (value-same memo e (codeOf answer) (valueOf answer) in-values ∙ ap valueOf is-first))
+          (λ other. value-other memo e (codeOf answer) (valueOf answer) m other ∙ S .value m (upto m l other));
     }
 
 pub started-at : (s : Sheet) (ins : List ℤ) (memo : Memo) (m n : ℕ) → m ≡ n → Started s ins memo m → Started s ins memo n
@@ -199,15 +165,6 @@ sum-none : (w : ℕ → ℕ) (cs : List ℕ) → ((m : ℕ) → w (getD cs m 0) 
 unfolding sum
 sum-none w [] h = refl
 sum-none w (c ∷ cs) h = let here : w c ≡ 0 = h 0 in omega (arith, sum-none w cs (λ m. h (suc m)))
-
-unmarked : (c : ℕ) → (c ≡ busy → ⊥) → busyOne c ≡ 0
-unmarked zero n = refl
-unmarked (suc zero) n = refl
-unmarked (suc (suc zero)) n = refl
-unmarked (suc (suc (suc zero))) n = refl
-unmarked (suc (suc (suc (suc zero)))) n = refl
-unmarked (suc (suc (suc (suc (suc zero))))) n = absurd (n refl)
-unmarked (suc (suc (suc (suc (suc (suc c)))))) n = refl
 
 -- each body holds in its variable's declared domain, and no case of it clashes there
 abbrev Covered : Sheet → Type 0
@@ -223,39 +180,45 @@ module _ (s : Sheet) (ins : List ℤ) (memo : Memo) (few : total s ≤ 4096) (S 
   pub started-idle : Idle memo
   started-idle = sum-none busyOne (memo .codes) (λ m. unmarked (codeAt memo m) (S .idle m))
 
-  -- what a code before the run says of its element
+  -- what is stored before the run, case by case
   module _ (m : ℕ) (lt : m < total s) where
     abbrev here : Element
     here = elementAt s m
 
-    cases : {X : Type 0} → (inDomain (variable s (here .who)) (here .at) ≡ false → codeAt memo m ≡ 0 → X) →
-        (inDomain (variable s (here .who)) (here .at) ≡ true → isInput (variable s (here .who)) ≡ true → codeAt memo m ≡ 1 → X) →
-        (inDomain (variable s (here .who)) (here .at) ≡ true → isInput (variable s (here .who)) ≡ false → codeAt memo m ≡ unknown → X) → X
-    cases {X = X} f g k = go (inDomain (variable s (here .who)) (here .at)) (isInput (variable s (here .who))) refl refl (S .code m lt)
+    first-cases : (P : Work → Type 0) →
+        (inDomain (variable s (here .who)) (here .at) ≡ false → P (Done Outside)) →
+        (inDomain (variable s (here .who)) (here .at) ≡ true → isInput (variable s (here .who)) ≡ true →
+        P (Done (Value (record { v = getD ins (entryPlace s here) (pos 0) })))) →
+        (inDomain (variable s (here .who)) (here .at) ≡ true → isInput (variable s (here .who)) ≡ false → P (Deep m)) → P (startAnswer s ins here m)
+    first-cases P f g k = go (inDomain (variable s (here .who)) (here .at)) (isInput (variable s (here .who))) refl refl
       where
         go : (d i : Bool) → inDomain (variable s (here .who)) (here .at) ≡ d → isInput (variable s (here .who)) ≡ i →
-            codeAt memo m ≡ ifb d (λ _. ifb i (λ _. 1) (λ _. unknown)) (λ _. 0) → X
-        go false i p q e = f p e
-        go true true p q e = g p q e
-        go true false p q e = k p q e
+            P (firstAnswer d i (getD ins (entryPlace s here) (pos 0)) m)
+        go false i p q = f p
+        go true true p q = g p q
+        go true false p q = k p q
 
     bodied : Covered s → 4 < codeAt memo m → Bodied s here
-    bodied covered u = cases (λ d c. absurd (omega (arith, c, u))) (λ d i c. absurd (omega (arith, c, u)))
-        (λ d i c.
+    bodied covered u =
+        first-cases (λ r. 4 < codeOf r → Bodied s here) (λ d l. absurd (omega arith)) (λ d i l. absurd (omega arith))
+        (λ d i l.
         let known = number-of-element s m (record { who = 0; at = [] }) lt .known in
         record { known = known; domain = d; no-input = i; clear = covered (here .who) (here .at) known i d })
+        (rw (S .code m lt) at u)
 
-    settled : codeAt memo m ≤ 3 → outcomes s ins (count memo) m ≡ decoded (codeAt memo m) (valueAt memo m)
-    settled l = cases
-        (λ d c. outcome-outside s ins (count memo) (here .who) (here .at) d ∙ sym (ap (λ n. decoded n (valueAt memo m)) c))
-        (λ d i c. outcome-input s ins (count memo) (here .who) (here .at) d i ∙ ap value (sym (S .value m lt c)) ∙ sym (ap (λ n. decoded n (valueAt memo m)) c))
-        (λ d i c. absurd (omega (arith, c, l)))
-
-    stuck : codeAt memo m ≡ 4 → (k : ℕ) → outcomes s ins k m ≡ loop
-    stuck four k = cases (λ d c. absurd (omega (arith, c, four))) (λ d i c. absurd (omega (arith, c, four))) (λ d i c. absurd (omega (arith, c, four)))
+    settled : codeAt memo m ≤ 4 → Tells (element (outcomes s ins) m) (count memo) (savedAt memo m)
+    settled l =
+        rw (S .code m lt, S .value m lt)
+        (first-cases (λ r. codeOf r ≤ 4 → Tells (element (outcomes s ins) m) (count memo) (decoded (codeOf r) (valueOf r)))
+        (λ d l. always outside (λ k. outcome-outside s ins k (here .who) (here .at) d))
+        (λ d i l. always (value (getD ins (entryPlace s here) (pos 0))) (λ k. outcome-input s ins k (here .who) (here .at) d i))
+        (λ d i l. absurd (omega arith)) (rw (S .code m lt) at l))
+      where
+        always : (o : Outcome) → ((k : ℕ) → outcomes s ins k m ≡ o) → Tells (element (outcomes s ins) m) (count memo) o
+        always o is = record { is = is (count memo); stuck = λ l k. is k ∙ l }
 
   pub started-ready : Covered s → Ready s memo
   started-ready covered = record { codes-long = S .codes-long; values-long = S .values-long; few = few; low = S .low; opens = λ m lt u. bodied m lt covered u }
 
   pub started-right : Right (outcomes s ins) (total s) memo
-  started-right = record { settled = λ m lt l. settled m lt l; stuck = λ m lt four k. stuck m lt four k }
+  started-right = record { settled = λ m lt l. settled m lt l }

@@ -1,16 +1,17 @@
 -- The tables: an entry of the memo that is settled is its element's outcome, and the stretches one after another are the tables.
 -- Assumes nothing.
 use mathlib.Core.Path.{_≡_, refl, sym, ap, _∙_, subst}
-use Prim.Native.Nat.{ℕ, zero, suc, _+_, _-_, _≤_, _<_}
+use Prim.Native.Nat.{ℕ, _+_, _-_, _≤_, _<_}
 use native.Mathlib.Decide.{ℕ-discrete, decLt}
 use native.Mathlib.Omega.{arith}
 use mathlib.Core.List.{List, [], _∷_, _++_}
 use lib.ListN.{length, getD, set, take, drop, length-set, length-append, length-drop, List·getD-append}
 use lib.Seq.{getD-set-same, getD-set-other, length-take-le, getD-append-add, getD-take, getD-drop}
 use lib.IntN.{ℤ, pos}
-use lib.Dec.{eqb}
-use borrow.Author.Tests.{eq-eqb, ne-eqb}
-use Rattle.alpha.specs.Pick.{ifb}
+use mir.Syntax.{w32}
+use mir.Val.{toZ, ofZ, SFits}
+use mir.Facts.{toZ-ofZ}
+use Rattle.alpha.specs.declared.Outcome as Declared
 use Rattle.alpha.specs.Sheet.{Sheet}
 use Rattle.alpha.specs.Box.{size}
 use Rattle.alpha.specs.Holds.{variable}
@@ -18,29 +19,21 @@ use Rattle.alpha.specs.Check.{total}
 use Rattle.alpha.specs.Ask.{before}
 use Rattle.alpha.specs.Outcome.{deepest}
 use Rattle.alpha.specs.Run.{codeOf, valueOf, outcomeAt}
-use Rattle.laws.specs.Coded.{decoded}
-use Rattle.laws.proofs.Tests.{ifb-true, ifb-false}
-use Rattle.evaluate.specs.Memo.{Memo, codeAt, valueAt, sum, settledOne, count, Right}
+use Rattle.alpha.specs.Verdict.{outcomeOf, codeFor, valueFor}
+use Rattle.integer.specs.Range.{In32}
+use Rattle.evaluate.specs.Memo.{element, Memo, savedAt, sum, settledOne, count, Right}
 use Rattle.evaluate.specs.Working.{elementAt, outcomes, Ready}
 use Rattle.evaluate.specs.Settling.{Idle, Settled}
-use Rattle.evaluate.proofs.Stores.{decide, later}
+use Rattle.evaluate.proofs.Entries.{settled-one}
+use Rattle.evaluate.proofs.Stores.{decide, tells-later}
 use Rattle.evaluate.proofs.Doing.{element-grows}
-use Rattle.run.specs.Filling.{valueWith, Advances, Shows, FillsVariable, FillsAll}
+use Rattle.run.specs.Filling.{Advances, Shows, FillsVariable, FillsAll}
 
-pub value-some : (memo : Memo) (e : ℕ) → codeAt memo e ≡ 1 → valueAt memo e ≡ valueWith memo e
-value-some memo e is = sym (ifb-true (eqb (codeAt memo e) 1) _ _ (eq-eqb (codeAt memo e) 1 is))
-
-pub value-none : (memo : Memo) (e : ℕ) → (codeAt memo e ≡ 1 → ⊥) → pos 0 ≡ valueWith memo e
-value-none memo e n = sym (ifb-false (eqb (codeAt memo e) 1) _ _ (ne-eqb (codeAt memo e) 1 n))
+-- a number of 32 bits is kept whole
+pub kept32 : (y x : ℤ) → In32 x → y ≡ x → toZ w32 (ofZ w32 y) ≡ x
+kept32 y x h e = let f : SFits w32 x = record { sfits = h } in rw e (toZ-ofZ f)
 
 -- ---- a settled entry is its element's outcome
-
-settled-one : (c : ℕ) → settledOne c ≤ 1
-settled-one zero = omega arith
-settled-one (suc zero) = omega arith
-settled-one (suc (suc zero)) = omega arith
-settled-one (suc (suc (suc zero))) = omega arith
-settled-one (suc (suc (suc (suc c)))) = omega arith
 
 -- no more are settled than there are
 count-few : (cs : List ℕ) → sum settledOne cs ≤ length cs
@@ -48,48 +41,14 @@ unfolding sum
 count-few [] = omega arith
 count-few (c ∷ cs) = omega (arith, settled-one c, count-few cs)
 
--- the code and the value of an outcome with a code up to 3
-decoded-code : (c : ℕ) (x : ℤ) → c ≤ 4 → codeOf (decoded c x) ≡ c
-decoded-code zero x h = refl
-decoded-code (suc zero) x h = refl
-decoded-code (suc (suc zero)) x h = refl
-decoded-code (suc (suc (suc zero))) x h = refl
-decoded-code (suc (suc (suc (suc zero)))) x h = refl
-decoded-code (suc (suc (suc (suc (suc c))))) x h = absurd (omega arith)
-
-decoded-value : (c : ℕ) (x : ℤ) → valueOf (decoded c x) ≡ ifb (eqb c 1) (λ _. x) (λ _. pos 0)
-decoded-value zero x = refl
-decoded-value (suc zero) x = refl
-decoded-value (suc (suc zero)) x = refl
-decoded-value (suc (suc (suc zero))) x = refl
-decoded-value (suc (suc (suc (suc c)))) x = sym (ifb-false (eqb (suc (suc (suc (suc c)))) 1) _ _ (ne-eqb (suc (suc (suc (suc c)))) 1 (λ e. omega arith)))
-
-module _ (s : Sheet) (ins : List ℤ) (memo : Memo) (M : Ready s memo) (R : Right (outcomes s ins) (total s) memo) (m : ℕ) (lt : m < total s)
-    (low : codeAt memo m ≤ 4) where
-  outcome-is : outcomeAt s ins (elementAt s m) ≡ decoded (codeAt memo m) (valueAt memo m)
-  outcome-is = go (codeAt memo m) refl low
-    where
-      few : count memo ≤ deepest
-      few = omega (arith, count-few (memo .codes), M .codes-long)
-
-      plain : (c : ℕ) → codeAt memo m ≡ c → c ≤ 3 → outcomeAt s ins (elementAt s m) ≡ decoded c (valueAt memo m)
-      plain c is l =
-          later (outcomes s ins) (element-grows s ins) (total s) (count memo) deepest m c (valueAt memo m) few l
-          (rw is at (R .settled m lt (omega (arith, is, l))))
-
-      go : (c : ℕ) → codeAt memo m ≡ c → c ≤ 4 → outcomeAt s ins (elementAt s m) ≡ decoded c (valueAt memo m)
-      go (suc (suc (suc (suc zero)))) is l = R .stuck m lt is deepest
-      go (suc (suc (suc (suc (suc c))))) is l = absurd (omega arith)
-      go zero is l = plain zero is (omega arith)
-      go (suc zero) is l = plain (suc zero) is (omega arith)
-      go (suc (suc zero)) is l = plain (suc (suc zero)) is (omega arith)
-      go (suc (suc (suc zero))) is l = plain (suc (suc (suc zero))) is (omega arith)
-
-  pub settled-code : codeAt memo m ≡ codeOf (outcomeAt s ins (elementAt s m))
-  settled-code = sym (ap codeOf outcome-is ∙ decoded-code (codeAt memo m) (valueAt memo m) low)
-
-  pub settled-value : valueWith memo m ≡ valueOf (outcomeAt s ins (elementAt s m))
-  settled-value = sym (ap valueOf outcome-is ∙ decoded-value (codeAt memo m) (valueAt memo m))
+-- the outcome of a settled element is the run's
+settled-outcome : (s : Sheet) (ins : List ℤ) (e : ℕ) (memo memo′ : Memo) (o : Declared.Outcome) → Settled s e memo memo′ o →
+    Right (outcomes s ins) (total s) memo′ → e < total s → outcomeOf o ≡ outcomeAt s ins (elementAt s e)
+settled-outcome s ins e memo memo′ o S R lt =
+    let few : count memo′ ≤ deepest = omega (arith, count-few (memo′ .codes), S .ready .codes-long) in
+    let tells = tells-later (element (outcomes s ins) e) (element-grows s ins e) (count memo′) deepest (savedAt memo′ e) few
+    (R .settled e lt (S .settled)) in
+    S .says .is ∙ sym (tells .is)
 
 -- ---- the stretch of one variable
 
@@ -106,8 +65,8 @@ advances-none s memo M I = record { ready = M; idle = I; right = λ ins R. R }
 pub advances-on : (s : Sheet) (memo memo′ memo″ : Memo) → Advances s memo memo′ → Advances s memo′ memo″ → Advances s memo memo″
 advances-on s memo memo′ memo″ A B = record { ready = B .ready; idle = B .idle; right = λ ins R. B .right ins (A .right ins R) }
 
-pub advances-settled : (s : Sheet) (e : ℕ) (memo memo′ : Memo) → Settled s e memo memo′ → Advances s memo memo′
-advances-settled s e memo memo′ S = record { ready = S .ready; idle = S .idle; right = S .right }
+pub advances-settled : (s : Sheet) (e : ℕ) (memo memo′ : Memo) (o : Declared.Outcome) → Settled s e memo memo′ o → Advances s memo memo′
+advances-settled s e memo memo′ o S = record { ready = S .ready; idle = S .idle; right = S .right }
 
 module _ (s : Sheet) (v : ℕ) (memo : Memo) where
   abbrev stretch : ℕ
@@ -118,30 +77,25 @@ module _ (s : Sheet) (v : ℕ) (memo : Memo) where
   fills-none codes values M I c w = record { advances = advances-none s memo M I; codes-long = c; values-long = w; shows = λ ins R j h. absurd (omega arith) }
 
   pub fills-next : (memo′ memo″ : Memo) (codes : List ℕ) (values : List ℤ) (i : ℕ) → FillsBelow s v memo memo′ codes values i → i < stretch →
-      before s v + i < total s →
-      Settled s (before s v + i) memo′ memo″ → (codes′ : List ℕ) (values′ : List ℤ) → codes′ ≡ set codes i (codeAt memo″ (before s v + i)) →
-      values′ ≡ set values i (valueWith memo″ (before s v + i)) →
-      FillsBelow s v memo memo″ codes′ values′ (i + 1)
-  fills-next memo′ memo″ codes values i F low lt S codes′ values′ ce ve = rw (ce, ve) (record {
-    advances = advances-on s memo memo′ memo″ (F .advances) (advances-settled s (before s v + i) memo′ memo″ S);
+      before s v + i < total s → (o : Declared.Outcome) →
+      Settled s (before s v + i) memo′ memo″ o → (codes′ : List ℕ) (values′ : List ℤ) → codes′ ≡ set codes i (codeFor o) →
+      values′ ≡ set values i (valueFor o) → FillsBelow s v memo memo″ codes′ values′ (i + 1)
+  fills-next memo′ memo″ codes values i F low lt o S codes′ values′ ce ve = rw (ce, ve) (record {
+    advances = advances-on s memo memo′ memo″ (F .advances) (advances-settled s (before s v + i) memo′ memo″ o S);
     codes-long = simp length-set (F .codes-long);
     values-long = simp length-set (F .values-long);
     shows = λ ins R j h. decide j i (ℕ-discrete j i)
         (λ same.
-        let R″ = S .right ins (F .advances .right ins R) in
+        let is = settled-outcome s ins (before s v + i) memo′ memo″ o S (S .right ins (F .advances .right ins R)) lt in
         rw same (record {
-          code =
-              getD-set-same codes i (codeAt memo″ (before s v + i)) 0 (omega (arith, F .codes-long))
-              ∙ settled-code s ins memo″ (S .ready) R″ (before s v + i) lt (S .settled);
-          value =
-              getD-set-same values i (valueWith memo″ (before s v + i)) (pos 0) (omega (arith, F .values-long))
-              ∙ settled-value s ins memo″ (S .ready) R″ (before s v + i) lt (S .settled);
+          code = getD-set-same codes i (codeFor o) 0 (omega (arith, F .codes-long)) ∙ ap codeOf is;
+          value = getD-set-same values i (valueFor o) (pos 0) (omega (arith, F .values-long)) ∙ ap valueOf is;
         }))
         (λ other.
         let old = F .shows ins R j (under j h other) in
         record {
-          code = getD-set-other codes i j (codeAt memo″ (before s v + i)) 0 other ∙ old .code;
-          value = getD-set-other values i j (valueWith memo″ (before s v + i)) (pos 0) other ∙ old .value;
+          code = getD-set-other codes i j (codeFor o) 0 other ∙ old .code;
+          value = getD-set-other values i j (valueFor o) (pos 0) other ∙ old .value;
         });
   })
     where

@@ -1,7 +1,8 @@
 -- The input list's part for one variable. Assumes nothing.
-use Prim.Native.Nat.{ℕ}
+use mathlib.Core.Path.{_≡_}
+use Prim.Native.Nat.{ℕ, _<_}
 use mathlib.Core.List.{List}
-use lib.ListN.{take, drop}
+use lib.ListN.{length, take, drop}
 use lib.IntN.{ℤ}
 use Rattle.alpha.specs.Pick.{ifb}
 use Rattle.alpha.specs.Answer.{Answer, accepted}
@@ -9,7 +10,8 @@ use Rattle.alpha.specs.Sheet.{Sheet}
 use Rattle.alpha.specs.Box.{size}
 use Rattle.alpha.specs.Holds.{variable, isInput}
 use Rattle.alpha.specs.Outcome.{inputsBefore}
-use Rattle.alpha.specs.Run.{entriesOf}
+use Rattle.alpha.specs.Run.{inputCount, entriesOf}
+use Rattle.laws.specs.Sheets.{varsOf, sheetOf}
 
 -- an input has an entry for each point of its box, any other variable has none
 abbrev pub inputSize : Sheet → ℕ → ℕ
@@ -21,3 +23,8 @@ entriesAt s ins v =
     ifb (isInput (variable s v))
     (λ _. entriesOf (variable s v .head .sort) (inputsBefore s v) (take (size (variable s v .head .box)) (drop (inputsBefore s v) ins)))
     (λ _. accepted tt)
+
+-- variable v, and an input list of the length that the sheet needs
+pub record InputsOf (bs : List ℕ) (ins : List ℤ) (v : ℕ) : Type 0 where
+  pub known : v < varsOf bs
+  pub many : length ins ≡ inputCount (sheetOf bs)

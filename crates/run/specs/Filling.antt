@@ -4,21 +4,18 @@ use Prim.Native.Nat.{ℕ, _+_, _≤_, _<_}
 use mathlib.Core.List.{List}
 use lib.ListN.{length, getD}
 use lib.IntN.{ℤ, pos}
-use lib.Dec.{eqb}
-use Rattle.alpha.specs.Pick.{ifb}
+use Rattle.alpha.specs.declared.Outcome as Declared
 use Rattle.alpha.specs.Sheet.{Sheet}
 use Rattle.alpha.specs.Box.{size}
 use Rattle.alpha.specs.Holds.{variable}
 use Rattle.alpha.specs.Check.{total}
 use Rattle.alpha.specs.Run.{codeOf, valueOf, outcomeAt}
 use Rattle.alpha.specs.Ask.{before}
-use Rattle.evaluate.specs.Memo.{Memo, codeAt, valueAt, Right}
+use Rattle.laws.specs.Sheets.{varsOf, sheetOf}
+use Rattle.integer.specs.Range as Range
+use Rattle.evaluate.specs.Memo.{Memo, Right}
 use Rattle.evaluate.specs.Working.{elementAt, outcomes, Ready}
 use Rattle.evaluate.specs.Settling.{Idle}
-
--- an entry's value where it has one
-abbrev pub valueWith : Memo → ℕ → ℤ
-valueWith memo e = ifb (eqb (codeAt memo e) 1) (λ _. valueAt memo e) (λ _. pos 0)
 
 -- what the memo becomes while tables are filled from it
 pub record Advances (s : Sheet) (memo memo′ : Memo) : Type 0 where
@@ -46,3 +43,24 @@ pub record FillsAll (s : Sheet) (memo : Memo) (n : ℕ) (codes codes′ : List �
   pub shows : (ins : List ℤ) → Right (outcomes s ins) (total s) memo → (m : ℕ) → m < n → Shows s ins codes′ values′ m m
   pub codes-stay : (m : ℕ) → n ≤ m → getD codes′ m 0 ≡ getD codes m 0
   pub values-stay : (m : ℕ) → n ≤ m → getD values′ m (pos 0) ≡ getD values m (pos 0)
+
+-- ---- what is required
+
+-- an outcome is put at i of two tables, which have room there
+pub record Puts (o : Declared.Outcome) (codes : List ℕ) (values : List ℤ) (i : ℕ) : Type 0 where
+  pub small : Range.Small o
+  pub in-codes : i < length codes
+  pub in-values : i < length values
+
+-- the two parts are the stretch of variable v, and no element is in progress
+pub record Stretch (bs : List ℕ) (memo : Memo) (v : ℕ) (codes : List ℕ) (values : List ℤ) : Type 0 where
+  pub idle : Idle memo
+  pub known : v < varsOf bs
+  pub codes-long : length codes ≡ size (variable (sheetOf bs) v .head .box)
+  pub values-long : length values ≡ size (variable (sheetOf bs) v .head .box)
+
+-- both tables have an entry for each element, and none is in progress
+pub record Room (s : Sheet) (memo : Memo) (codes : List ℕ) (values : List ℤ) : Type 0 where
+  pub idle : Idle memo
+  pub in-codes : total s ≤ length codes
+  pub in-values : total s ≤ length values

@@ -1,41 +1,24 @@
 // The tables: each element is settled, and its code and value are put into its variable's stretch. Assumes nothing.
+use alpha::Outcome;
 use evaluate::settle::settle;
 use sheet::table::first_element;
 use sheet::table::variable_count;
-use tree::ends::keep_all;
 ghost use mathlib.Core.Path.{_≡_};
-ghost use Prim.Native.Nat.{_≤_, _<_};
-ghost use lib.ListN.{length, getD, set};
-ghost use Rattle.alpha.specs.Box.{size};
+ghost use lib.ListN.{set};
 ghost use Rattle.alpha.specs.Check.{total};
-ghost use Rattle.alpha.specs.Holds.{variable};
-ghost use Rattle.laws.specs.Sheets.{varsOf, sheetOf};
-ghost use Rattle.tree.specs.Formed.{Formed};
-ghost use Rattle.tree.specs.Ends.{EndsKept};
-ghost use Rattle.domain.specs.Inside.{Inside};
-ghost use Rattle.evaluate.specs.Working.{memoOf, Ready};
-ghost use Rattle.evaluate.specs.Settling.{Idle};
-ghost use Rattle.run.specs.Filling.{valueWith, FillsVariable, FillsAll};
+ghost use Rattle.alpha.specs.Verdict.{codeFor, valueFor};
+ghost use Rattle.laws.specs.Sheets.{sheetOf};
+ghost use Rattle.evaluate.specs.Memo.{memoOf};
+ghost use Rattle.evaluate.specs.Working.{Setting};
+ghost use Rattle.run.specs.Filling.{Puts, Stretch, Room, FillsVariable, FillsAll};
 
-// Puts the entry of element e, which is settled, at i: a value only where it has one.
-fn put(
-    known: &[u8; 4096],
-    found: &[i32; 4096],
-    e: usize,
-    codes: &mut [u8],
-    values: &mut [i32],
-    i: usize,
-)
-    requires { ⌜ (e < 4096) × (length (now known) ≡ 4096) × (length (now found) ≡ 4096) × (i < length (now codes)) × (i < length (now values)) ⌝ }
-    ensures { λ _. ⌜ (now (codes .exit) ≡ set (now (codes .entry)) i (getD (now (known .entry)) e 0)) × (now (values .exit) ≡ set (now (values .entry)) i (valueWith (memoOf (now (known .entry)) (now (found .entry))) e)) ⌝ }
+// Puts an outcome's code and value at i.
+fn put(o: Outcome, codes: &mut [u8], values: &mut [i32], i: usize)
+    requires { ⌜ Puts o (now codes) (now values) i ⌝ }
+    ensures { λ _. ⌜ (now (codes .exit) ≡ set (now (codes .entry)) i (codeFor o)) × (now (values .exit) ≡ set (now (values .entry)) i (valueFor o)) ⌝ }
 {
-    let code = known[e];
-    codes[i] = code;
-    if code == 1 {
-        values[i] = found[e];
-    } else {
-        values[i] = 0;
-    }
+    codes[i] = alpha::code(o);
+    values[i] = integer::to32(alpha::value(o));
 }
 
 // Fills the stretch of variable v.
@@ -44,22 +27,21 @@ fn fill(
     tab: &[usize; 102],
     inside: &[u8; 4096],
     ends: &[u16; 8192],
-    known: &mut [u8; 4096],
-    found: &mut [i32; 4096],
+    memo: &mut [u64; 4096],
     v: usize,
     codes: &mut [u8],
     values: &mut [i32],
 )
-    requires { ⌜ Formed (now s) (now tab) × Inside (sheetOf (now s)) (now inside) × Ready (sheetOf (now s)) (memoOf (now known) (now found)) × Idle (memoOf (now known) (now found)) × (v < varsOf (now s)) × (length (now codes) ≡ size (variable (sheetOf (now s)) v .head .box)) × (length (now values) ≡ size (variable (sheetOf (now s)) v .head .box)) × EndsKept (now s) (now ends) ⌝ }
-    ensures { λ _. ⌜ FillsVariable (sheetOf (now (s .entry))) v (memoOf (now (known .entry)) (now (found .entry))) (memoOf (now (known .exit)) (now (found .exit))) (now (codes .exit)) (now (values .exit)) ⌝ }
+    requires { ⌜ Setting (now s) (now tab) (now inside) (now ends) (memoOf (now memo)) × Stretch (now s) (memoOf (now memo)) v (now codes) (now values) ⌝ }
+    ensures { λ _. ⌜ FillsVariable (sheetOf (now (s .entry))) v (memoOf (now (memo .entry))) (memoOf (now (memo .exit))) (now (codes .exit)) (now (values .exit)) ⌝ }
 {
     let first = first_element(tab, v);
     let n = codes.len();
     let mut i = 0;
     while i < n {
         let e = first + i;
-        settle(s, tab, inside, ends, known, found, e);
-        put(known, found, e, codes, values, i);
+        let o = settle(s, tab, inside, ends, memo, e);
+        put(o, codes, values, i);
         i += 1;
     }
 }
@@ -69,16 +51,14 @@ pub fn fill_all(
     s: &[u8],
     tab: &[usize; 102],
     inside: &[u8; 4096],
-    known: &mut [u8; 4096],
-    found: &mut [i32; 4096],
+    ends: &[u16; 8192],
+    memo: &mut [u64; 4096],
     codes: &mut [u8],
     values: &mut [i32],
 )
-    requires { ⌜ Formed (now s) (now tab) × Inside (sheetOf (now s)) (now inside) × Ready (sheetOf (now s)) (memoOf (now known) (now found)) × Idle (memoOf (now known) (now found)) × (total (sheetOf (now s)) ≤ length (now codes)) × (total (sheetOf (now s)) ≤ length (now values)) ⌝ }
-    ensures { λ _. ⌜ FillsAll (sheetOf (now (s .entry))) (memoOf (now (known .entry)) (now (found .entry))) (total (sheetOf (now (s .entry)))) (now (codes .entry)) (now (codes .exit)) (now (values .entry)) (now (values .exit)) ⌝ }
+    requires { ⌜ Setting (now s) (now tab) (now inside) (now ends) (memoOf (now memo)) × Room (sheetOf (now s)) (memoOf (now memo)) (now codes) (now values) ⌝ }
+    ensures { λ _. ⌜ FillsAll (sheetOf (now (s .entry))) (memoOf (now (memo .entry))) (total (sheetOf (now (s .entry)))) (now (codes .entry)) (now (codes .exit)) (now (values .entry)) (now (values .exit)) ⌝ }
 {
-    let mut ends = [0u16; 8192];
-    keep_all(s, tab, &mut ends);
     let n = variable_count(tab);
     let mut v = 0;
     while v < n {
@@ -88,9 +68,8 @@ pub fn fill_all(
             s,
             tab,
             inside,
-            &ends,
-            known,
-            found,
+            ends,
+            memo,
             v,
             &mut codes[from..to],
             &mut values[from..to],

@@ -6,14 +6,14 @@ use tree::Ruling;
 use tree::variable::kind_of;
 use tree::variable::sort_of;
 ghost use mathlib.Core.Path.{_≡_};
-ghost use Prim.Native.Nat.{ℕ, _+_, _≤_, _<_};
+ghost use Prim.Native.Nat.{_+_, _≤_, _<_};
 ghost use lib.ListN.{length};
 ghost use Rattle.alpha.specs.Outcome.{inputsBefore};
 ghost use Rattle.alpha.specs.Run as Run;
 ghost use Rattle.laws.specs.Sheets.{varsOf, sheetOf};
 ghost use Rattle.tree.specs.Ruled.{ruled};
 ghost use Rattle.tree.specs.Formed.{Formed};
-ghost use Rattle.run.specs.Entries.{inputSize, entriesAt};
+ghost use Rattle.run.specs.Entries.{inputSize, entriesAt, InputsOf};
 
 // How many entries the list has for variable v: one for each point of an input's box.
 fn input_size(s: &[u8], tab: &[usize; 102], v: usize) -> usize
@@ -60,7 +60,7 @@ fn bits(part: &[i32], first: usize) -> Ruling
 
 // The entries of variable v.
 fn entries_of(s: &[u8], tab: &[usize; 102], ins: &[i32], v: usize) -> Ruling
-    requires { ⌜ Formed (now s) (now tab) × (v < varsOf (now s)) × (length (now ins) ≡ Run.inputCount (sheetOf (now s))) ⌝ }
+    requires { ⌜ Formed (now s) (now tab) × InputsOf (now s) (now ins) v ⌝ }
     ensures { λ r. ⌜ ruled r ≡ entriesAt (sheetOf (now (s .entry))) (now (ins .entry)) v ⌝ }
 {
     if kind_of(s, tab, v) != 0 {

@@ -7,7 +7,7 @@ use inputs::inputs;
 use sheet::too_long;
 use start::start;
 use tree::Ruling;
-ghost use mathlib.Core.Path.{_≡_};
+use tree::ends::keep_all;
 ghost use Rattle.alpha.specs.Promise.{Runs};
 
 mod fill;
@@ -41,9 +41,10 @@ pub fn run(s: &[u8], ins: &[i32], codes: &mut [u8], values: &mut [i32]) -> Verdi
     if values.len() < total {
         return Verdict::Refused(Refusal::Room(total));
     }
-    let mut known = [0u8; 4096];
-    let mut found = [0i32; 4096];
-    start(s, &tab, &inside, ins, &mut known, &mut found);
-    fill_all(s, &tab, &inside, &mut known, &mut found, codes, values);
+    let mut ends = [0u16; 8192];
+    keep_all(s, &tab, &mut ends);
+    let mut memo = [0u64; 4096];
+    start(s, &tab, &inside, ins, &mut memo);
+    fill_all(s, &tab, &inside, &ends, &mut memo, codes, values);
     Verdict::Accepted(total)
 }

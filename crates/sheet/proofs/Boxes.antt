@@ -13,11 +13,10 @@ use Rattle.laws.proofs.Boxes.{size-pos, size-bound}
 use Rattle.integer.proofs.Order.{within-true}
 use Rattle.alpha.specs.Answer.{accepted, next, NUMBER}
 use Rattle.alpha.specs.Field.{field}
-use Rattle.alpha.specs.Sheet.{Range}
 use Rattle.alpha.specs.Box.{within, side, size}
 use Rattle.alpha.specs.Read.{got, repeat, number, range}
 use Rattle.sheet.specs.Place.{placeAfter}
-use Rattle.sheet.specs.Record.{boxAt, Ranges, capped}
+use Rattle.sheet.specs.Record.{rangeAt, boxAt, Ranges, capped}
 use Rattle.sheet.proofs.Places.{after-gave, pure-after, passing-passed, passing-gives}
 use Rattle.sheet.proofs.Readers.{any-next, next-accepted, range-place}
 
@@ -32,10 +31,6 @@ high-size (pos m) (negsuc n) k e = absurd (let z : _≡_ {A = ℕ} 0 1 = cc in o
 high-size (negsuc m) (negsuc n) k e = let h = leb-true n m (within-true (negsuc m) (pos 32767) (negsuc n) e .0) in omega arith
 
 -- ---- ranges that were read
-
--- the range at p
-abbrev pub rangeAt : List ℕ → ℕ → Range
-rangeAt bs p = record { lo = field bs p; hi = field bs (p + 8) }
 
 -- a range that was read
 record RangeRead (bs : List ℕ) (p q : ℕ) : Type 0 where

@@ -15,10 +15,14 @@ use Rattle.sheet.specs.declared.Pass.{Pass}
 use Rattle.sheet.specs.declared.Pass.the-variants.{To}
 use Rattle.sheet.specs.Place.{placeAfter, passed}
 
+-- the range at p
+abbrev pub rangeAt : List ℕ → ℕ → Range
+rangeAt bs p = record { lo = field bs p; hi = field bs (p + 8) }
+
 -- the n ranges from p on
 unfoldable pub boxAt : List ℕ → ℕ → ℕ → List Range
 boxAt bs p zero = []
-boxAt bs p (suc n) = record { lo = field bs p; hi = field bs (p + 8) } ∷ boxAt bs (p + 16) n
+boxAt bs p (suc n) = rangeAt bs p ∷ boxAt bs (p + 16) n
 
 -- the dimension that the record at p says
 abbrev pub dimensionAt : List ℕ → ℕ → ℕ
@@ -46,7 +50,7 @@ pub record Ranges (bs : List ℕ) (p n : ℕ) : Type 0 where
 
 -- r is how many numbers the range at p has, and small
 pub record Side (bs : List ℕ) (p r : ℕ) : Type 0 where
-  pub is : r ≡ side (record { lo = field bs p; hi = field bs (p + 8) })
+  pub is : r ≡ side (rangeAt bs p)
   pub small : r ≤ 65537
 
 -- a number of points, and 4,097 for any over 4,096
@@ -64,6 +68,11 @@ pub record Known (bs tab : List ℕ) (k : ℕ) : Type 0 where
   pub sized : length tab ≡ 102
   pub few : k ≤ 32
   pub recorded : (i : ℕ) → i < k → Recorded bs (getD tab i 0)
+
+-- and there is at least one
+pub record KnownSome (bs tab : List ℕ) (n : ℕ) : Type 0 where
+  pub some : 1 ≤ n
+  pub known : Known bs tab n
 
 -- how many points the boxes of these records hold
 abbrev pub points : List Head → ℕ

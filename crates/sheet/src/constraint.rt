@@ -6,11 +6,10 @@ use super::field::count_at;
 use super::field::free_field;
 use super::field::numbers;
 ghost use mathlib.Core.Path.{_≡_};
-ghost use Prim.Native.Nat.{ℕ, _≤_};
 ghost use lib.ListN.{take};
 ghost use Rattle.alpha.specs.Read as Read;
 ghost use Rattle.sheet.specs.Place.{placeAfter, passed};
-ghost use Rattle.sheet.specs.Record.{Known, headsAt};
+ghost use Rattle.sheet.specs.Record.{KnownSome, headsAt};
 
 // A row: n coefficients, then the constant.
 fn row(s: &[u8], at: usize, n: usize) -> Pass
@@ -70,7 +69,7 @@ pub fn constraints(s: &[u8], at: usize, count: usize, n: usize) -> Pass
 
 // A declared constraint: the number of one of n variables, then a constraint of that variable's dimension.
 fn declared(s: &[u8], tab: &[usize; 102], at: usize, n: usize) -> Pass
-    requires { ⌜ (1 ≤ n) × Known (now s) (now tab) n ⌝ }
+    requires { ⌜ KnownSome (now s) (now tab) n ⌝ }
     ensures { λ r. ⌜ passed r ≡ placeAfter (Read.declared (headsAt (now (s .entry)) (take n (now (tab .entry)))) (now (s .entry)) at) ⌝ }
 {
     let r = choice_field(s, at, n - 1);
@@ -85,7 +84,7 @@ fn declared(s: &[u8], tab: &[usize; 102], at: usize, n: usize) -> Pass
 
 // So many declared constraints.
 pub fn declarations(s: &[u8], tab: &[usize; 102], at: usize, count: usize, n: usize) -> Pass
-    requires { ⌜ (1 ≤ n) × Known (now s) (now tab) n ⌝ }
+    requires { ⌜ KnownSome (now s) (now tab) n ⌝ }
     ensures { λ r. ⌜ passed r ≡ placeAfter (Read.repeat count (Read.declared (headsAt (now (s .entry)) (take n (now (tab .entry))))) (now (s .entry)) at) ⌝ }
 {
     let mut p = at;

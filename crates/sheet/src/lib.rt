@@ -12,19 +12,19 @@ use table::first_element;
 use table::note;
 use variable::heads;
 ghost use mathlib.Core.Path.{_≡_};
-ghost use Prim.Native.Nat.{ℕ, _≤_};
 ghost use lib.ListN.{length, take};
 ghost use lib.Dec.{ltb};
 ghost use Rattle.alpha.specs.Verdict.{told};
 ghost use Rattle.sheet.specs.Place.{placeAfter, passed};
-ghost use Rattle.sheet.specs.Record.{Known, headsAt};
-ghost use Rattle.sheet.specs.Section.{secondSection, thirdSection};
+ghost use Rattle.sheet.specs.Record.{KnownSome, headsAt};
+ghost use Rattle.sheet.specs.Section.{VariableCount, secondSection, thirdSection};
 ghost use Rattle.sheet.specs.Table.{Reads};
 
 mod constraint;
 mod field;
 mod name;
 mod node;
+pub mod range;
 pub mod table;
 mod variable;
 
@@ -46,7 +46,7 @@ fn verdict(r: Pass) -> Verdict
 
 // The second section: 0 to 256 declared constraints of n variables.
 fn second_section(s: &[u8], tab: &[usize; 102], at: usize, n: usize) -> Pass
-    requires { ⌜ (1 ≤ n) × Known (now s) (now tab) n ⌝ }
+    requires { ⌜ KnownSome (now s) (now tab) n ⌝ }
     ensures { λ r. ⌜ passed r ≡ placeAfter (secondSection (headsAt (now (s .entry)) (take n (now (tab .entry)))) (now (s .entry)) at) ⌝ }
 {
     let r = count_field(s, at, 0, 256);
@@ -58,7 +58,7 @@ fn second_section(s: &[u8], tab: &[usize; 102], at: usize, n: usize) -> Pass
 
 // The third section: 0 to 2,048 nodes, where there are n variables.
 fn third_section(s: &[u8], at: usize, n: usize) -> Pass
-    requires { ⌜ (1 ≤ n) × (n ≤ 32) ⌝ }
+    requires { ⌜ VariableCount n ⌝ }
     ensures { λ r. ⌜ passed r ≡ placeAfter (thirdSection n (now (s .entry)) at) ⌝ }
 {
     let r = count_field(s, at, 0, 2048);

@@ -1,7 +1,7 @@
 // Names, judged and compared where they stand in the sheet, byte for byte. Assumes nothing.
 ghost use mathlib.Core.Path.{_≡_};
 ghost use mathlib.Core.Bool.{_&&_};
-ghost use Prim.Native.Nat.{ℕ, _+_, _≤_};
+ghost use Prim.Native.Nat.{_+_, _≤_};
 ghost use lib.ListN.{length, take};
 ghost use lib.Dec.{leb};
 ghost use Rattle.alpha.specs.Field.{letter, zeros, nameTail, nameForm, sameBytes, eight};

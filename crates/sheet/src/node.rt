@@ -7,13 +7,15 @@ use super::field::choice_field;
 use super::field::count_at;
 use super::field::count_field;
 use super::field::number_field;
+use alpha::Refusal;
 ghost use mathlib.Core.Path.{_≡_};
-ghost use Prim.Native.Nat.{ℕ, _≤_};
+ghost use Prim.Native.Nat.{_≤_};
 ghost use lib.ListN.{getD};
 ghost use lib.IntN.{pos, negℤ};
 ghost use Rattle.alpha.specs.Sheet.{Node, Node.nIf};
 ghost use Rattle.alpha.specs.Read as Read;
 ghost use Rattle.sheet.specs.Place.{placeAfter, passed};
+ghost use Rattle.sheet.specs.Section.{VariableCount};
 
 // A restriction: its dimension, its number of constraints, the constraints.
 fn restriction(s: &[u8], at: usize) -> Pass
@@ -56,7 +58,7 @@ fn constant(s: &[u8], at: usize) -> Pass
 
 // The fields of a node by its code, where there are so many variables.
 fn node_fields(s: &[u8], at: usize, code: usize, variables: usize) -> Pass
-    requires { ⌜ (code ≤ 8) × (1 ≤ variables) × (variables ≤ 32) ⌝ }
+    requires { ⌜ (code ≤ 8) × VariableCount variables ⌝ }
     ensures { λ r. ⌜ passed r ≡ placeAfter (getD (Read.nodes variables) code (Read.pure nIf) (now (s .entry)) at) ⌝ }
 {
     match code {
@@ -68,13 +70,15 @@ fn node_fields(s: &[u8], at: usize, code: usize, variables: usize) -> Pass
         5 => Pass::To(at),
         6 => count_field(s, at, 1, 64),
         7 => restriction(s, at),
-        _ => dependence(s, at),
+        8 => dependence(s, at),
+        // No code is left: that this answers the contract rests on the requirement.
+        _ => Pass::Refused(Refusal::Number(at)),
     }
 }
 
 // A node: its code, then its fields.
 fn node(s: &[u8], at: usize, variables: usize) -> Pass
-    requires { ⌜ (1 ≤ variables) × (variables ≤ 32) ⌝ }
+    requires { ⌜ VariableCount variables ⌝ }
     ensures { λ r. ⌜ passed r ≡ placeAfter (Read.node variables (now (s .entry)) at) ⌝ }
 {
     let r = choice_field(s, at, 8);
@@ -86,7 +90,7 @@ fn node(s: &[u8], at: usize, variables: usize) -> Pass
 
 // So many nodes.
 pub fn nodes(s: &[u8], at: usize, count: usize, variables: usize) -> Pass
-    requires { ⌜ (1 ≤ variables) × (variables ≤ 32) ⌝ }
+    requires { ⌜ VariableCount variables ⌝ }
     ensures { λ r. ⌜ passed r ≡ placeAfter (Read.repeat count (Read.node variables) (now (s .entry)) at) ⌝ }
 {
     let mut p = at;

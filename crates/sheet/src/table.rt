@@ -3,7 +3,7 @@
 // number of variables, the places of the second and third section, the number of nodes, and 69 to 101 the places of the bodies.
 // Assumes nothing.
 ghost use mathlib.Core.Path.{_≡_};
-ghost use Prim.Native.Nat.{ℕ, _+_, _<_, _≤_};
+ghost use Prim.Native.Nat.{_+_, _<_, _≤_};
 ghost use lib.ListN.{length, getD, set};
 ghost use Rattle.sheet.specs.Table.{noted};
 

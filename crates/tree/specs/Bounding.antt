@@ -1,8 +1,9 @@
 -- What the walk that judges REACH answers: the place after the tree, or that something in it passes 2^40. Assumes nothing.
 use mathlib.Core.Path.{_≡_}
-use Prim.Native.Nat.{ℕ, zero, suc, _+_, _*_}
+use Prim.Native.Nat.{ℕ, zero, suc, _+_, _*_, _≤_}
 use mathlib.Core.Bool.{Bool, true, false, _&&_}
 use mathlib.Core.List.{List}
+use lib.ListN.{length}
 use lib.Dec.{leb}
 use Rattle.alpha.specs.Sheet.{Expr, Exprs}
 use Rattle.alpha.specs.Reach.{limit, rowReach, reach, reachAll}
@@ -25,6 +26,15 @@ boundedAt false q = Beyond
 abbrev pub reachedAt : Bool → ℕ → Reached
 reachedAt true n = Within n
 reachedAt false n = Past
+
+-- a row of n coefficients, and k constraints of n coefficients, are there at p
+pub record RowThere (bs : List ℕ) (p n : ℕ) : Type 0 where
+  pub few : n ≤ 4
+  pub there : p + (8 * n + 8) ≤ length bs
+
+pub record ConstraintsThere (bs : List ℕ) (p k n : ℕ) : Type 0 where
+  pub few : n ≤ 4
+  pub there : p + k * (16 + 8 * n) ≤ length bs
 
 -- the rows of k constraints of n coefficients, which stand from p on, pass no limit where the coordinates reach r
 unfoldable pub constraintsReach : ℕ → ℕ → ℕ → List ℕ → ℕ → Bool

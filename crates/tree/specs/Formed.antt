@@ -57,6 +57,11 @@ pub record BodiesPlaced (bs tab : List ℕ) : Type 0 where
   pub ends : (v : ℕ) → v < varsOf bs → getD tab (69 + v + 1) 0 ≡ variable (sheetOf bs) v .end
   pub body : (v : ℕ) → v < varsOf bs → isInput (variable (sheetOf bs) v) ≡ false → BodyStands bs (variable (sheetOf bs) v)
 
+-- there is a variable v
+pub record PlacedVariable (bs tab : List ℕ) (v : ℕ) : Type 0 where
+  pub placed : BodiesPlaced bs tab
+  pub known : v < varsOf bs
+
 -- the answer of SHAPE, and what it leaves where it passes
 pub record ShapesAll (bs tab′ : List ℕ) (r : Ruling) : Type 0 where
   pub answer : ruled r ≡ only (shapedOf bs)

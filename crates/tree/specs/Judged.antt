@@ -1,7 +1,7 @@
 -- What the walk that judges SHAPE answers: where the tree ends and how many nodes are left, or that there is no tree there that fits.
 -- Assumes nothing.
 use mathlib.Core.Path.{_≡_}
-use Prim.Native.Nat.{ℕ}
+use Prim.Native.Nat.{ℕ, _≤_}
 use mathlib.Core.Bool.{Bool}
 use mathlib.Core.List.{List}
 use lib.ListN.{length}
@@ -11,6 +11,7 @@ use Rattle.alpha.specs.Read.{node}
 use Rattle.alpha.specs.Shape.{Parsed, tree, ill, branches, exprAt, fits, allFit}
 use Rattle.laws.specs.Heads.{InRow}
 use Rattle.laws.specs.Sheets.{headsOf, varsOf}
+use Rattle.tree.specs.Prepared.{Prepared}
 use Rattle.tree.specs.declared.Shaped.{Shaped}
 use Rattle.tree.specs.declared.Shaped.the-variants.{Fits, Bad}
 
@@ -19,6 +20,19 @@ pub record Flat (bs : List ℕ) (p left : ℕ) : Type 0 where
   pub nodes : List Node
   pub many : length nodes ≡ left
   pub stand : InRow nodes (node (varsOf bs)) bs p (length bs)
+
+-- what a walk that judges SHAPE requires: `left` nodes stand from p on, and depth and dimension are within their limits
+pub record Judgeable (bs tab : List ℕ) (p left deep want : ℕ) : Type 0 where
+  pub prepared : Prepared bs tab
+  pub flat : Flat bs p left
+  pub shallow : deep ≤ 32
+  pub narrow : want ≤ 4
+
+-- the same of the bodies of the variables from number v on
+pub record BodiesLeft (bs tab : List ℕ) (v p left : ℕ) : Type 0 where
+  pub prepared : Prepared bs tab
+  pub known : v ≤ varsOf bs
+  pub flat : Flat bs p left
 
 -- what was parsed, judged by a test
 abbrev pub judged : {A : Type 0} → (A → Bool) → Parsed A → Shaped

@@ -51,3 +51,8 @@ pub record StandingAll (vars : ℕ) (bs : List ℕ) (p left n : ℕ) : Type 0 wh
   pub few : nodeCounts trees ≤ left
   pub most : left ≤ 2048
   pub many : branchCount trees ≡ n
+
+-- and there is one at least
+pub record StandingSome (vars : ℕ) (bs : List ℕ) (p left n : ℕ) : Type 0 where
+  pub all : StandingAll vars bs p left n
+  pub some : 1 ≤ n

@@ -6,11 +6,10 @@ use super::variable::kind_of;
 use sheet::table::body_place;
 use sheet::table::variable_count;
 ghost use mathlib.Core.Path.{_≡_};
-ghost use Prim.Native.Nat.{_<_};
 ghost use Rattle.laws.specs.Sheets.{varsOf};
 ghost use Rattle.tree.specs.Standing.{Standing, StandingAll};
 ghost use Rattle.tree.specs.Ends.{EndsAt, EndsKept, AllEnd};
-ghost use Rattle.tree.specs.Formed.{BodiesPlaced};
+ghost use Rattle.tree.specs.Formed.{BodiesPlaced, PlacedVariable};
 
 const PLACES: usize = 8192;
 
@@ -59,7 +58,7 @@ fn keep_trees(s: &[u8], at: usize, left: usize, many: usize, ends: &mut [u16; 81
 
 // The same of the body of variable v. An input has none.
 fn keep_body(s: &[u8], tab: &[usize; 102], v: usize, ends: &mut [u16; 8192])
-    requires { ⌜ BodiesPlaced (now s) (now tab) × (v < varsOf (now s)) × EndsKept (now s) (now ends) ⌝ }
+    requires { ⌜ PlacedVariable (now s) (now tab) v × EndsKept (now s) (now ends) ⌝ }
     ensures { λ _. ⌜ EndsKept (now (s .entry)) (now (ends .exit)) ⌝ }
 {
     if kind_of(s, tab, v) != 0 {

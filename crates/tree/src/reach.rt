@@ -11,19 +11,18 @@ use affine::map_read;
 use affine::row_reach;
 use affine::row_read;
 ghost use mathlib.Core.Path.{_≡_};
-ghost use Prim.Native.Nat.{_+_, _*_, _≤_};
-ghost use lib.ListN.{length};
+ghost use Prim.Native.Nat.{_≤_};
 ghost use lib.Dec.{leb};
 ghost use Rattle.alpha.specs.Reach.{limit, rowReach};
 ghost use Rattle.affine.specs.Reading.{rowFields};
 ghost use Rattle.laws.specs.Sheets.{varsOf};
 ghost use Rattle.tree.specs.declared.Class.the-variants.{Restriction};
 ghost use Rattle.tree.specs.Standing.{Noded, NodedAs, Standing, StandingAll};
-ghost use Rattle.tree.specs.Bounding.{constraintsReach, NodeReached, TreeBounded, TreesBounded};
+ghost use Rattle.tree.specs.Bounding.{RowThere, ConstraintsThere, constraintsReach, NodeReached, TreeBounded, TreesBounded};
 
 // The row of n coefficients at `at` passes no limit where the coordinates reach `around`.
 pub fn row_within(s: &[u8], at: usize, n: usize, around: u64) -> bool
-    requires { ⌜ (n ≤ 4) × (at + (8 * n + 8) ≤ length (now s)) × (1 ≤ around) ⌝ }
+    requires { ⌜ RowThere (now s) at n × (1 ≤ around) ⌝ }
     ensures { λ r. ⌜ r ≡ leb (rowReach around (rowFields n (now (s .entry)) at)) limit ⌝ }
 {
     match row_reach(row_read(s, at, n), around) {
@@ -34,7 +33,7 @@ pub fn row_within(s: &[u8], at: usize, n: usize, around: u64) -> bool
 
 // So do the rows of `count` constraints of n coefficients.
 fn constraints_within(s: &[u8], at: usize, count: usize, n: usize, around: u64) -> bool
-    requires { ⌜ (n ≤ 4) × (at + count * (16 + 8 * n) ≤ length (now s)) × (1 ≤ around) ⌝ }
+    requires { ⌜ ConstraintsThere (now s) at count n × (1 ≤ around) ⌝ }
     ensures { λ r. ⌜ r ≡ constraintsReach around n count (now (s .entry)) at ⌝ }
 {
     let step = 16 + 8 * n;

@@ -24,7 +24,7 @@ ghost use Rattle.laws.specs.Heads.{declaredLen};
 ghost use Rattle.laws.specs.Sheets.{rawOf, headsOf, varsOf, sheetOf};
 ghost use Rattle.tree.specs.Prepared.{Prepared};
 ghost use Rattle.tree.specs.Ruled.{ruled, declaredPasses};
-ghost use Rattle.tree.specs.Formed.{BodiesPlaced, DeclaredRead};
+ghost use Rattle.tree.specs.Formed.{BodiesPlaced, PlacedVariable, DeclaredRead};
 
 // The reach at the top of each body and for declared constraints.
 const TOP: u64 = 32768;
@@ -69,7 +69,7 @@ fn declared_within(s: &[u8], tab: &[usize; 102], v: usize) -> bool
 
 // The declared constraints of variable v and its body pass no limit. An input has no body.
 fn reach_right(s: &[u8], tab: &[usize; 102], v: usize) -> bool
-    requires { ⌜ BodiesPlaced (now s) (now tab) × (v < varsOf (now s)) ⌝ }
+    requires { ⌜ PlacedVariable (now s) (now tab) v ⌝ }
     ensures { λ r. ⌜ r ≡ reached (variable (sheetOf (now (s .entry))) v) ⌝ }
 {
     if !declared_within(s, tab, v) {

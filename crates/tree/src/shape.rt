@@ -18,7 +18,7 @@ ghost use Rattle.laws.specs.Sheets.{headsOf, varsOf};
 ghost use Rattle.tree.specs.declared.Class.the-variants.{Leaf};
 ghost use Rattle.tree.specs.Standing.{Noded, NodedAs};
 ghost use Rattle.tree.specs.Prepared.{Prepared};
-ghost use Rattle.tree.specs.Judged.{Flat, Judges, treeJudged, treesJudged};
+ghost use Rattle.tree.specs.Judged.{Judgeable, Judges, treeJudged, treesJudged};
 
 // The dimension of the leaf at `at`: a variable's own, and none of a constant.
 fn leaf_dimension(s: &[u8], tab: &[usize; 102], at: usize) -> usize
@@ -72,7 +72,7 @@ pub fn shape(
     deep: usize,
     want: usize,
 ) -> Shaped
-    requires { ⌜ Prepared (now s) (now tab) × Flat (now s) at left × (deep ≤ 32) × (want ≤ 4) ⌝ }
+    requires { ⌜ Judgeable (now s) (now tab) at left deep want ⌝ }
     ensures { λ r. ⌜ Judges (now (s .entry)) (treeJudged (now (s .entry)) at left deep want) r ⌝ }
 {
     if left < 1 {
@@ -99,7 +99,7 @@ fn shape_all(
     want: usize,
     count: usize,
 ) -> Shaped
-    requires { ⌜ Prepared (now s) (now tab) × Flat (now s) at left × (deep ≤ 32) × (want ≤ 4) ⌝ }
+    requires { ⌜ Judgeable (now s) (now tab) at left deep want ⌝ }
     ensures { λ r. ⌜ Judges (now (s .entry)) (treesJudged (now (s .entry)) at left deep want count) r ⌝ }
 {
     let mut p = at;

@@ -9,16 +9,14 @@ use sheet::table::keep_body;
 use sheet::table::node_count;
 use sheet::table::third_place;
 use sheet::table::variable_count;
-ghost use Prim.Native.Nat.{_+_, _≤_, _<_};
-ghost use Rattle.laws.specs.Sheets.{varsOf};
-ghost use Rattle.tree.specs.Prepared.{Prepared};
-ghost use Rattle.tree.specs.Judged.{Flat, Judges};
+ghost use Rattle.tree.specs.Prepared.{Prepared, HasVariable};
+ghost use Rattle.tree.specs.Judged.{Flat, BodiesLeft, Judges};
 ghost use Rattle.tree.specs.Ruled.{bodyShape, bodyAt};
 ghost use Rattle.tree.specs.Formed.{ShapesFrom, ShapesAll};
 
 // The body of variable v at `at`, with `left` nodes left. An input has none.
 fn body(s: &[u8], tab: &[usize; 102], v: usize, at: usize, left: usize) -> Shaped
-    requires { ⌜ Prepared (now s) (now tab) × (v < varsOf (now s)) × Flat (now s) at left ⌝ }
+    requires { ⌜ HasVariable (now s) (now tab) v × Flat (now s) at left ⌝ }
     ensures { λ r. ⌜ Judges (now (s .entry)) (bodyShape (bodyAt (now (s .entry)) v at left)) r ⌝ }
 {
     if kind_of(s, tab, v) == 0 {
@@ -30,7 +28,7 @@ fn body(s: &[u8], tab: &[usize; 102], v: usize, at: usize, left: usize) -> Shape
 // The variables from number v on, from the node at `at` on, with `left` nodes left. After the last of them none may be left, and the
 // place is then the number of variables.
 fn shapes_from(s: &[u8], tab: &mut [usize; 102], v: usize, at: usize, left: usize) -> Ruling
-    requires { ⌜ Prepared (now s) (now tab) × (v ≤ varsOf (now s)) × Flat (now s) at left ⌝ }
+    requires { ⌜ BodiesLeft (now s) (now tab) v at left ⌝ }
     ensures { λ r. ⌜ ShapesFrom (now (s .entry)) v at left (now (tab .entry)) (now (tab .exit)) r ⌝ }
 {
     keep_body(tab, v, at);

@@ -14,11 +14,11 @@ ghost use Rattle.alpha.specs.Holds.{variable};
 ghost use Rattle.alpha.specs.Check.{first, typed};
 ghost use Rattle.laws.specs.Sheets.{headsOf, varsOf, sheetOf};
 ghost use Rattle.tree.specs.Ruled.{ruled};
-ghost use Rattle.tree.specs.Formed.{BodiesPlaced};
+ghost use Rattle.tree.specs.Formed.{BodiesPlaced, PlacedVariable};
 
 // The body of variable v has its variable's type. An input has no body.
 fn type_right(s: &[u8], tab: &[usize; 102], v: usize) -> bool
-    requires { ⌜ BodiesPlaced (now s) (now tab) × (v < varsOf (now s)) ⌝ }
+    requires { ⌜ PlacedVariable (now s) (now tab) v ⌝ }
     ensures { λ r. ⌜ r ≡ typed (headsOf (now (s .entry))) (variable (sheetOf (now (s .entry))) v) ⌝ }
 {
     if kind_of(s, tab, v) == 0 {

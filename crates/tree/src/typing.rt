@@ -11,7 +11,7 @@ use super::node::node_end;
 use super::node::operator_of;
 use super::variable::sort_of;
 ghost use mathlib.Core.Path.{_≡_};
-ghost use Prim.Native.Nat.{ℕ, _≤_, _<_};
+ghost use Prim.Native.Nat.{ℕ, _≤_};
 ghost use mathlib.Core.Option.{Option, some};
 ghost use lib.ListN.{getD};
 ghost use Rattle.alpha.specs.Sheet.{Sort};
@@ -19,13 +19,13 @@ ghost use Rattle.alpha.specs.Read.{noHead, unaryOf, binaryOf};
 ghost use Rattle.alpha.specs.Typing.{unarySort, binarySort};
 ghost use Rattle.laws.specs.Sheets.{headsOf, varsOf};
 ghost use Rattle.tree.specs.declared.Class.the-variants.{Leaf, Operator};
-ghost use Rattle.tree.specs.Standing.{NodedAs, Standing, StandingAs, StandingAll};
-ghost use Rattle.tree.specs.Prepared.{Prepared};
+ghost use Rattle.tree.specs.Standing.{NodedAs, Standing, StandingAs, StandingAll, StandingSome};
+ghost use Rattle.tree.specs.Prepared.{Prepared, HasVariable};
 ghost use Rattle.tree.specs.Sorted.{typedAt, asInteger, asBoolean, anyBoolean, After, LeafTyped, IfAt, TreeTyped, TreesTyped, NextTyped};
 
 // The type of variable v, of a node that ends at `next`.
 fn variable_type(s: &[u8], tab: &[usize; 102], v: usize, next: usize) -> Typed
-    requires { ⌜ Prepared (now s) (now tab) × (v < varsOf (now s)) ⌝ }
+    requires { ⌜ HasVariable (now s) (now tab) v ⌝ }
     ensures { λ r. ⌜ r ≡ typedAt (some (getD (headsOf (now (s .entry))) v noHead .sort)) next ⌝ }
 {
     if sort_of(s, tab, v) == 0 {
@@ -155,7 +155,7 @@ fn type_if(s: &[u8], tab: &[usize; 102], at: usize, left: usize) -> Typed
 
 // The type that `count` trees have, which stand one after another from `at` on.
 fn type_all(s: &[u8], tab: &[usize; 102], at: usize, left: usize, count: usize) -> Typed
-    requires { ⌜ Prepared (now s) (now tab) × StandingAll (varsOf (now s)) (now s) at left count × (1 ≤ count) ⌝ }
+    requires { ⌜ Prepared (now s) (now tab) × StandingSome (varsOf (now s)) (now s) at left count ⌝ }
     ensures { λ r. ⌜ TreesTyped (now (s .entry)) at count r ⌝ }
 {
     let mut t = type_of(s, tab, at, left);

@@ -8,11 +8,11 @@ ghost use lib.IntN.{natAbs};
 ghost use Rattle.alpha.specs.Field.{field};
 ghost use Rattle.alpha.specs.Read.{noHead, kindOf, sortOf, dimension};
 ghost use Rattle.laws.specs.Sheets.{headsOf, varsOf};
-ghost use Rattle.tree.specs.Prepared.{Prepared};
+ghost use Rattle.tree.specs.Prepared.{Prepared, HasVariable};
 
 // The size of the number in a field of variable v's record.
 fn record_field(s: &[u8], tab: &[usize; 102], v: usize, offset: usize) -> usize
-    requires { ⌜ Prepared (now s) (now tab) × (v < varsOf (now s)) × (offset ≤ 24) ⌝ }
+    requires { ⌜ HasVariable (now s) (now tab) v × (offset ≤ 24) ⌝ }
     ensures { λ r. ⌜ r ≡ natAbs (field (now (s .entry)) (getD (now (tab .entry)) v 0 + offset)) ⌝ }
 {
     let record = record_place(tab, v);

@@ -1,18 +1,16 @@
+-- `digit` meets its contract: how far x lies from lo, where it is in the range. Assumes nothing.
 use borrow.Author.Needs.{needs}
-use mathlib.Core.Path.{refl, sym, _∙_}
-use Prim.Native.Nat.{_+_}
-use mathlib.Core.Path.{_≡_}
+use mathlib.Core.Path.{_≡_, refl, sym, ap, _∙_}
 use mathlib.Core.Bool.{true}
+use Prim.Native.Nat.{_+_}
+use native.Mathlib.Omega.{arith}
+use lib.IntN.{natAbs}
 use Rattle.alpha.specs.Field.{field}
 use Rattle.alpha.specs.Box.{within}
-use Rattle.points.proofs.Small.{low-small, within-small}
+use Rattle.sheet.proofs.Boxes.{first-sizes}
+use Rattle.points.proofs.Ranges.{within-small}
 use Rattle.points.proofs.digit.Statement.{statement}
 use Rattle.points.proofs.digit.Tie as tie
-use Rattle.points.proofs.digit.Reads as reads
-use Rattle.points.proofs.digit.Lts as lts
-use Rattle.integer.proofs.number_at.Reads as number-at-reads
-use Rattle.integer.proofs.within.Reads as within-reads
-use Rattle.points.proofs.above.Reads as above-reads
 
 number-at-requires : tie.Need-number-at-requires
 number-at-requires c κs = search needs
@@ -26,26 +24,29 @@ number-at-requires-2 c κs = search needs
 within-requires : tie.Need-within-requires
 within-requires c κs = search needs
 
-above-requires : tie.Need-above-requires
-above-requires c κs =
+sub-requires : tie.Need-sub-requires
+sub-requires c κs =
     let after-number-at = c .before .before .before in
     let start = after-number-at .before .before in
     let hi = c .before .before .number-at2 .ensures in
     let lo = after-number-at .number-at .ensures in
-    let isIn : within (field (start .args .s .now) (start .args .p)) (field (start .args .s .now) (start .args .p + 8)) (start .args .x .v) ≡ true =
-    rw (← hi, ← lo) (sym (c .before .within .ensures) ∙ c .if1 .taken) in (
-      within-small (start .args .s .now) (start .args .p) (start .pre) (start .args .x .v) isIn,
-      rw lo (low-small (start .args .s .now) (start .args .p) (start .pre)),
-    )
+    let s = start .args .s .now in
+    let p = start .args .p in
+    let x = start .args .x .v in
+    let isIn : within (field s p) (field s (p + 8)) x ≡ true = rw (← hi, ← lo) (sym (c .before .within .ensures) ∙ c .if1 .taken) in
+    omega (arith, within-small s p (start .pre) x isIn, first-sizes s p (start .pre) .0, ap natAbs lo)
+
+to-usize-requires : tie.Need-to-usize-requires
+to-usize-requires c κs = search needs
 
 returns : tie.Need-returns
 returns c =
-    let after-number-at2 = c .before .before .before in
-    let after-number-at = after-number-at2 .before in
+    let after-sub = c .before in
+    let after-number-at2 = after-sub .before .before .before in
     let hi = after-number-at2 .number-at2 .ensures in
-    let lo = after-number-at .number-at .ensures in
-    let isIn = sym (c .before .before .within .ensures) ∙ c .before .if1 .taken in
-    rw (c .above .ensures .0, ← hi, ← lo, isIn) refl
+    let lo = after-number-at2 .before .number-at .ensures in
+    let isIn = sym (after-sub .before .before .within .ensures) ∙ after-sub .before .if1 .taken in
+    rw (c .to-usize .ensures, after-sub .sub .ensures .0, ← hi, ← lo, isIn) refl
 
 returns-2 : tie.Need-returns-2
 returns-2 c =
@@ -63,6 +64,7 @@ digit-spec =
     add-number-at
     number-at-requires-2
     within-requires
-    above-requires
+    sub-requires
+    to-usize-requires
     returns
     returns-2)

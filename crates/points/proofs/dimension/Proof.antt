@@ -1,12 +1,9 @@
+-- `dimension` meets its contract. Assumes nothing.
 use borrow.Author.Needs.{needs}
 use mathlib.Core.Path.{ap, _∙_}
 use lib.IntN.{natAbs}
 use Rattle.points.proofs.dimension.Statement.{statement}
 use Rattle.points.proofs.dimension.Tie as tie
-use Rattle.points.proofs.dimension.Reads as reads
-use Rattle.points.proofs.dimension.Lts as lts
-use Rattle.integer.proofs.number_at.Reads as number-at-reads
-use Rattle.integer.proofs.to_usize.Reads as to-usize-reads
 
 add-number-at : tie.Need-add-number-at
 add-number-at c = search needs

@@ -1,14 +1,10 @@
+-- `nth` meets its contract: the least number, and n. Assumes nothing.
 use borrow.Author.Needs.{needs}
 use mathlib.Core.Path.{refl, _∙_}
 use native.Mathlib.Omega.{arith}
-use Rattle.points.proofs.Small.{low-small}
+use Rattle.sheet.proofs.Boxes.{first-sizes}
 use Rattle.points.proofs.nth.Statement.{statement}
 use Rattle.points.proofs.nth.Tie as tie
-use Rattle.points.proofs.nth.Reads as reads
-use Rattle.points.proofs.nth.Lts as lts
-use Rattle.integer.proofs.add.Reads as add-reads
-use Rattle.integer.proofs.number_at.Reads as number-at-reads
-use Rattle.integer.proofs.of_usize.Reads as of-usize-reads
 
 number-at-requires : tie.Need-number-at-requires
 number-at-requires c κs = search needs
@@ -19,7 +15,7 @@ of-usize-requires c κs = search needs
 add-requires : tie.Need-add-requires
 add-requires c κs =
     let start = c .before .before .before in
-    let low = low-small (start .args .s .now) (start .args .p) (start .pre .0) in
+    let low = first-sizes (start .args .s .now) (start .args .p) (start .pre .0) .0 in
     rw (c .before .number-at .ensures, c .of-usize .ensures) (omega (arith, low, start .pre .1))
 
 returns : tie.Need-returns

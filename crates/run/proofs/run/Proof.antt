@@ -15,7 +15,7 @@ use Rattle.domain.proofs.Records.{laid-total}
 use Rattle.accept.specs.Admits.{Admitted}
 use Rattle.accept.proofs.Steps.{long-refuses}
 use Rattle.run.proofs.Listing.{inputs-length}
-use Rattle.run.proofs.Beginning.{started-none, accepted-covered, started-ready, started-idle, started-right}
+use Rattle.run.proofs.Beginning.{started-none, no-end-kept, accepted-covered, started-ready, started-idle, started-right}
 use Rattle.run.proofs.Running.{unread-runs, inputs-runs, total-is, codes-runs, values-runs, all-runs}
 use Rattle.run.proofs.run.Statement.{statement}
 use Rattle.run.proofs.run.Tie as tie
@@ -104,25 +104,34 @@ returns-6 c =
     let j = c .before .before .before .before .before .before .before in
     values-runs _ _ _ _ _ (admits j .sheet-is) (taken (c .before .before)) _ (many j) (c .before .if2 .left) (c .if3 .taken) _ refl
 
+keep-all-requires : tie.Need-keep-all-requires
+keep-all-requires c κs = (admits (c .before .before .before .before .before .before .before .before .before) .formed .placed, no-end-kept _)
+
 start-requires : tie.Need-start-requires
 start-requires c κs =
-    let after-enum-told3 = c .before .before .before .before .before .before in
-    let j = after-enum-told3 .before .before .before .before .before in
-    let a = admits j in
-    (a .formed, a .filled, inputs-length _ _ (sym (taken after-enum-told3)), started-none _ _)
+    let a = admits (c .before .before .before .before .before .before .before .before .before .before .before .before .before) in
+    (record { formed = a .formed; inside-is = a .filled; many = inputs-length _ _ (sym (taken (c .before .before .before .before .before .before .before .before))) }, started-none _ _)
 
 fill-all-requires : tie.Need-fill-all-requires
 fill-all-requires c κs =
-    let after-start = c .before .before .before .before .before .before in
-    let else3 = after-start .before .before .before .before .before in
-    let else2 = else3 .before in
-    let j = else2 .before .before .before .before .before .before in
+    let j = c .before .before .before .before .before .before .before .before .before .before .before .before .before .before .before .before .before .before .before .before in
     let a = admits j in
-    let S = after-start .start .ensures in
+    let S = c .before .before .before .before .before .before .start .ensures in
     let few = laid-total _ _ (a .formed .placed) in
     let n = many j in
-    let covered = accepted-covered _ (a .sheet-is) in
-    (a .formed, a .filled, started-ready _ _ _ few S covered, started-idle _ _ _ few S, omega (arith, n, else2 .if2 .left), omega (arith, n, else3 .if3 .left))
+    let covered = accepted-covered _ (a .sheet-is) in (
+      record {
+        formed = a .formed;
+        inside-is = a .filled;
+        ends-kept = c .before .before .before .before .before .before .before .before .before .before .keep-all .ensures;
+        ready = started-ready _ _ _ few S covered;
+      },
+      record {
+        idle = started-idle _ _ _ few S;
+        in-codes = omega (arith, n, c .before .before .before .before .before .before .before .before .before .before .before .before .before .before .if2 .left);
+        in-values = omega (arith, n, c .before .before .before .before .before .before .before .before .before .before .before .before .before .if3 .left);
+      },
+    )
 
 same-length : tie.Need-same-length
 same-length c = search needs
@@ -132,17 +141,11 @@ same-length-2 c = search needs
 
 returns-7 : tie.Need-returns-7
 returns-7 c =
-    let after-fill-all = c .before .before .before in
-    let after-start = after-fill-all .before .before .before .before .before .before .before in
-    let else3 = after-start .before .before .before .before .before in
-    let else2 = else3 .before in
-    let after-enum-told3 = else2 .before in
-    let j = after-enum-told3 .before .before .before .before .before in
+    let j = c .before .before .before .before .before .before .before .before .before .before .before .before .before .before .before .before .before .before .before .before .before .before .before .before in
     let a = admits j in
-    let S = after-start .start .ensures in
     let few = laid-total _ _ (a .formed .placed) in
-    all-runs _ _ _ _ _ (a .sheet-is) (taken after-enum-told3) _ (many j) (else2 .if2 .left) (else3 .if3 .left) _ (started-right _ _ _ few S) _ _
-    (after-fill-all .fill-all .ensures)
+    all-runs _ _ _ _ _ (a .sheet-is) (taken (c .before .before .before .before .before .before .before .before .before .before .before .before .before .before .before .before .before .before .before)) _ (many j) (c .before .before .before .before .before .before .before .before .before .before .before .before .before .before .before .before .before .before .if2 .left) (c .before .before .before .before .before .before .before .before .before .before .before .before .before .before .before .before .before .if3 .left) _
+    (started-right _ _ _ few (c .before .before .before .before .before .before .before .before .before .before .start .ensures)) _ _ (c .before .before .before .fill-all .ensures)
 
 pub run-spec : {M : Type 1} → statement M
 run-spec =
@@ -164,6 +167,7 @@ run-spec =
     enum-told-3
     returns-5
     returns-6
+    keep-all-requires
     start-requires
     fill-all-requires
     same-length

@@ -14,7 +14,7 @@ use Rattle.alpha.specs.Box.{within}
 use Rattle.alpha.specs.Read.{after, count, heads, ended, read}
 use Rattle.sheet.specs.Place.{placeAfter, passed}
 use Rattle.sheet.specs.Record.{headsAt, Filled}
-use Rattle.sheet.specs.Section.{secondSection, thirdSection}
+use Rattle.sheet.specs.Section.{VariableCount, secondSection, thirdSection}
 use Rattle.sheet.specs.Table.{Table, noted}
 use Rattle.sheet.proofs.Places.{Passed, came-to, count-came, counted}
 use Rattle.sheet.proofs.Heads.{heads-length}
@@ -83,8 +83,8 @@ counts c =
     let after-count-field = c .before .before .before in
     count-came (given (after-count-field .before .before)) 0 _ _ (c .before .a .given .1) 1 32 (after-count-field .count-field .ensures)
 
-some : (c : tie.After-count-at) → (1 ≤ c .count-at .result) × (c .count-at .result ≤ 32)
-some c = let e = c .count-at .ensures in let h = counted 1 32 (counts (c .before)) in (omega arith, omega arith)
+how-many : (c : tie.After-count-at) → VariableCount (c .count-at .result)
+how-many c = let e = c .count-at .ensures in let h = counted 1 32 (counts (c .before)) in record { some = omega arith; few = omega arith }
 
 opened : (c : tie.After-count-at) → read (sheet c) ≡ after (heads (c .count-at .result) [] 0 (sheet c) (start c)) (fromSecond (sheet c))
 opened c =
@@ -171,7 +171,7 @@ count-at-requires c κs = counts c .there
 heads-requires : tie.Need-heads-requires
 heads-requires c κs =
     let after-entries = c .before .before .before .before .before .before .before .before in
-    (after-entries .entries .ensures .1, some (c .before) .1)
+    (after-entries .entries .ensures .1, how-many (c .before) .few)
 
 enum-known-b : tie.Need-enum-known-b
 enum-known-b c = search needs
@@ -192,7 +192,7 @@ returns-3 c =
     reads-stopped _ _ _ refused (c .verdict2 .ensures) stops
 
 second-section-requires : tie.Need-second-section-requires
-second-section-requires c κs = (some (opening (c .before)) .0, filled (c .before) .known)
+second-section-requires c κs = record { some = how-many (opening (c .before)) .some; known = filled (c .before) .known }
 
 enum-known-c : tie.Need-enum-known-c
 enum-known-c c = search needs
@@ -214,7 +214,7 @@ returns-4 c =
     reads-stopped _ _ _ refused (c .verdict3 .ensures) stops
 
 third-section-requires : tie.Need-third-section-requires
-third-section-requires c κs = some (opening (listing c))
+third-section-requires c κs = how-many (opening (listing c))
 
 enum-known-d : tie.Need-enum-known-d
 enum-known-d c = search needs
@@ -249,7 +249,7 @@ note-requires c κs = search needs
 first-element-requires : tie.Need-first-element-requires
 first-element-requires c κs =
     let after-known-told4 = c .before .before .before .before .before in
-    some (opening (listing (binding after-known-told4))) .1
+    how-many (opening (listing (binding after-known-told4))) .few
 
 returns-7 : tie.Need-returns-7
 unfolding raw

@@ -37,7 +37,7 @@ loop-holds c = entries-start _ _
 entries-of-requires : tie.Need-entries-of-requires Inv-loop μ-loop
 entries-of-requires c κs =
     let s = c .before .before .before .before in
-    let p = s .pre in (p .0, omega (arith, count-is (c .before .before), c .loop-test .taken), p .1)
+    let p = s .pre in (p .0, record { known = omega (arith, count-is (c .before .before), c .loop-test .taken); many = p .1 })
 
 enum-told : tie.Need-enum-told Inv-loop μ-loop
 enum-told c = search needs

@@ -9,7 +9,6 @@ use Rattle.alpha.specs.Sheet.{Sort.boolean}
 use Rattle.alpha.specs.Box.{size}
 use Rattle.alpha.specs.Read.{kindOf, sortOf}
 use Rattle.alpha.specs.Holds.{variable, isInput, isInputKind}
-use Rattle.alpha.specs.Run as Run
 use Rattle.laws.specs.Sheets.{sheetOf}
 use Rattle.domain.proofs.Records.{VariableLaid, laid-variable, laid-total}
 use Rattle.tree.proofs.Passing.{input-is as input-kind, other-is as other-kind}
@@ -20,7 +19,7 @@ use Rattle.run.proofs.inputs.entries_of.Tie as tie
 
 -- the variable
 laid : (c : tie.Start) → VariableLaid (c .args .s .now) (c .args .tab .now) (c .args .v)
-laid c = laid-variable _ _ (c .pre .0 .placed) _ (c .pre .1)
+laid c = laid-variable _ _ (c .pre .0 .placed) _ (c .pre .1 .known)
 
 abbrev start : tie.After-kind-of → tie.Start
 start c = c .before .before
@@ -33,7 +32,7 @@ input : (c : tie.After-kind-of) → c .kind-of .result ≡ 0 → isInput (variab
 input c e = input-is c ∙ input-kind _ e
 
 kind-of-requires : tie.Need-kind-of-requires
-kind-of-requires c κs = (c .before .pre .0 .placed .prepared, c .before .pre .1)
+kind-of-requires c κs = (c .before .pre .0 .placed .prepared, c .before .pre .1 .known)
 
 returns : tie.Need-returns
 returns c =
@@ -43,7 +42,7 @@ returns c =
 sort-of-requires : tie.Need-sort-of-requires
 sort-of-requires c κs =
     let s = c .before .before .before in
-    (s .pre .0 .placed .prepared, s .pre .1)
+    (s .pre .0 .placed .prepared, s .pre .1 .known)
 
 -- its type, by its number
 sort-is : (c : tie.After-sort-of) →
@@ -95,8 +94,8 @@ few : (c : tie.After-inputs-before2) → (c .inputs-before2 .result ≤ length (
 few c =
     let s = start (kind c) in
     let sheet = sheetOf (s .args .s .now) in (
-      omega (arith, c .inputs-before2 .ensures, before-count sheet (s .args .v + 1), s .pre .2),
-      omega (arith, s .pre .2, count-total sheet, laid-total _ _ (s .pre .0 .placed)),
+      omega (arith, c .inputs-before2 .ensures, before-count sheet (s .args .v + 1), s .pre .1 .many),
+      omega (arith, s .pre .1 .many, count-total sheet, laid-total _ _ (s .pre .0 .placed)),
     )
 
 mul-bits : tie.Need-mul-bits

@@ -12,7 +12,7 @@ use Rattle.alpha.specs.Ask.{before}
 use Rattle.laws.specs.Sheets.{sheetOf}
 use Rattle.laws.proofs.Elements.{before-suc}
 use Rattle.domain.proofs.Records.{VariableLaid, laid-variable, laid-total}
-use Rattle.evaluate.specs.Working.{memoOf}
+use Rattle.evaluate.specs.Memo.{memoOf}
 use Rattle.run.specs.Starting.{Started}
 use Rattle.run.proofs.Listing.{kind-test, size-input, before-step, before-count, count-total}
 use Rattle.run.proofs.Beginning.{started-next}
@@ -20,15 +20,15 @@ use Rattle.run.proofs.start.start_variable.Statement.{statement}
 use Rattle.run.proofs.start.start_variable.Tie as tie
 
 abbrev Inv-loop : tie.InvT-loop
-Inv-loop s tab inside ins v known₀ found₀ input from first size i₀ known found i =
-    Started (sheetOf s) ins (memoOf known found) (before (sheetOf s) v + i) × (i ≤ size)
+Inv-loop s tab inside ins v memo₀ input from first size i₀ memo i =
+    Started (sheetOf s) ins (memoOf memo) (before (sheetOf s) v + i) × (i ≤ size)
 
 abbrev μ-loop : tie.MeasureT-loop
-μ-loop s tab inside ins v known₀ found₀ input from first size i₀ known found i = size - i
+μ-loop s tab inside ins v memo₀ input from first size i₀ memo i = size - i
 
 -- the variable
 laid : (c : tie.Start Inv-loop μ-loop) → VariableLaid (c .args .s .now) (c .args .tab .now) (c .args .v)
-laid c = laid-variable _ _ (c .pre .0 .placed) _ (c .pre .3)
+laid c = laid-variable _ _ (c .pre .0 .formed .placed) _ (c .pre .1 .known)
 
 abbrev start : tie.In-loop Inv-loop μ-loop → tie.Start Inv-loop μ-loop
 start c = c .before .before .before .before .before .before .before
@@ -67,18 +67,18 @@ listed c t =
       before-count sheet (suc (s .args .v)),
       size-input sheet (s .args .v) t,
       many c,
-      s .pre .2,
+      s .pre .0 .many,
     )
 
 -- the list is short
 short : (c : tie.Start Inv-loop μ-loop) → length (c .args .ins .now) ≤ 4096
-short c = omega (arith, c .pre .2, count-total (sheetOf (c .args .s .now)), laid-total _ _ (c .pre .0 .placed))
+short c = omega (arith, c .pre .0 .many, count-total (sheetOf (c .args .s .now)), laid-total _ _ (c .pre .0 .formed .placed))
 
 kind-of-requires : tie.Need-kind-of-requires Inv-loop μ-loop
-kind-of-requires c κs = (c .before .pre .0 .placed .prepared, c .before .pre .3)
+kind-of-requires c κs = (c .before .pre .0 .formed .placed .prepared, c .before .pre .1 .known)
 
 inputs-before-requires : tie.Need-inputs-before-requires Inv-loop μ-loop
-inputs-before-requires c κs = (c .before .before .pre .0, omega (arith, c .before .before .pre .3))
+inputs-before-requires c κs = (c .before .before .pre .0 .formed, omega (arith, c .before .before .pre .1 .known))
 
 first-element-requires : tie.Need-first-element-requires Inv-loop μ-loop
 first-element-requires c κs =
@@ -104,7 +104,7 @@ loop-holds : tie.Need-loop-holds Inv-loop μ-loop
 loop-holds c =
     let s = c .before .before .before .before .before in
     let e : before (sheetOf (s .args .s .now)) (s .args .v) ≡ before (sheetOf (s .args .s .now)) (s .args .v) + 0 = omega arith in
-    (rw (← e) (s .pre .4), omega arith)
+    (rw (← e) (s .pre .1 .started), omega arith)
 
 add-start-element : tie.Need-add-start-element Inv-loop μ-loop
 add-start-element c =
@@ -117,36 +117,28 @@ add-start-element-2 c =
     let after-inputs-before = c .before .before .before .before in
     let s = after-inputs-before .before .before .before in
     let n = after-inputs-before .inputs-before .ensures in
-    omega (arith, n, before-count (sheetOf (s .args .s .now)) (s .args .v), s .pre .2, many c, laid s .few, short s)
+    omega (arith, n, before-count (sheetOf (s .args .s .now)) (s .args .v), s .pre .0 .many, many c, laid s .few, short s)
 
 start-element-requires : tie.Need-start-element-requires Inv-loop μ-loop
 start-element-requires c κs =
-    let l = c .before .before in
+    let l = c .before in
     let at-loop = l .before in
     let after-first-element = at-loop .before .before in
     let after-kind-of = after-first-element .before .before in
     let s = start l in
-    let S = at-loop .loop .inv .0 in (
-      omega (arith, first-is after-first-element, many l, laid s .few),
-      s .pre .1 .sized,
-      S .codes-long,
-      S .values-long,
-      λ t. listed l (input-is after-kind-of ∙ t),
-    )
+    (omega (arith, first-is after-first-element, many l, laid s .few), λ t. listed l (input-is after-kind-of ∙ t))
 
 add-i : tie.Need-add-i Inv-loop μ-loop
 add-i c =
-    let l = c .before .before .before in
+    let l = c .before .before in
     omega (arith, many l, laid (start l) .few)
 
 loop-less : tie.Need-loop-less Inv-loop μ-loop
-loop-less c =
-    let in-loop = c .before .before .before in
-    omega (arith, in-loop .loop-test .taken)
+loop-less c = omega (arith, c .before .before .loop-test .taken)
 
 loop-again : tie.Need-loop-again Inv-loop μ-loop
 loop-again c =
-    let l = c .before .before .before in
+    let l = c .before .before in
     let at-loop = l .before in
     let after-first-element = at-loop .before .before in
     let after-inputs-before = after-first-element .before in
@@ -154,7 +146,7 @@ loop-again c =
     let s = start l in
     let here = first-is after-first-element in
     let from = after-inputs-before .inputs-before .ensures in
-    let next = started-next _ _ _ _ (laid s) (many l) _ (s .pre .1) _ _ (at-loop .loop .inv .0) _ (sym (input-is after-kind-of)) in
+    let next = started-next _ _ _ _ (laid s) (many l) _ (s .pre .0 .inside-is) _ _ (at-loop .loop .inv .0) _ (sym (input-is after-kind-of)) in
     (rw (c .start-element .ensures, here, from) next, omega (arith, l .loop-test .taken))
 
 -- after its last element

@@ -29,7 +29,7 @@ number c =
     let s = c .before .before .before .before .before .before in
     let h = counted 0 (s .args .n - 1) (chosen (c .before)) in
     let e = c .count-at .ensures in
-    let one = s .pre .0 in
+    let one = s .pre .some in
     omega arith
 
 -- its record stands where the table says
@@ -37,7 +37,7 @@ recorded : (c : tie.After-count-at) →
     let s = c .before .before .before .before .before .before in getD (s .args .tab .now) (c .count-at .result) 0 + 32 ≤ length (s .args .s .now)
 recorded c =
     let s = c .before .before .before .before .before .before in
-    s .pre .1 .recorded _ (number c) .fields
+    s .pre .known .recorded _ (number c) .fields
 
 sub-choice-field : tie.Need-sub-choice-field
 sub-choice-field c = search needs
@@ -54,7 +54,7 @@ enum-told c = search needs
 returns : tie.Need-returns
 returns c =
     let s = c .before .before .before .before in
-    sym (declared-known (s .pre .1) (s .args .at) ∙ stops _ (c .before .before .choice-field .ensures) _ _ (c .enum-told .given .1))
+    sym (declared-known (s .pre .known) (s .args .at) ∙ stops _ (c .before .before .choice-field .ensures) _ _ (c .enum-told .given .1))
 
 count-at-requires : tie.Need-count-at-requires
 count-at-requires c κs = chosen c .there
@@ -62,12 +62,12 @@ count-at-requires c κs = chosen c .there
 mul-record : tie.Need-mul-record
 mul-record c =
     let s = c .before .before .before .before .before .before in
-    let v = number c in let f = s .pre .1 .few in record { fits = omega arith }
+    let v = number c in let f = s .pre .known .few in record { fits = omega arith }
 
 element-copy-out-record : tie.Need-element-copy-out-record
 element-copy-out-record c =
     let s = c .before .before .before .before .before .before in
-    let v = number c in let f = s .pre .1 .few in omega arith
+    let v = number c in let f = s .pre .known .few in omega arith
 
 add-count-at : tie.Need-add-count-at
 add-count-at c = let r = recorded (c .before) in record { fits = omega arith }
@@ -85,10 +85,10 @@ returns-2 c =
     let after-choice-field = r .before .before in
     let s = after-choice-field .before .before in
     let hs = headsAt (s .args .s .now) (take (s .args .n) (s .args .tab .now)) in
-    let same = c .before .count-at2 .ensures ∙ sym (heads-dimension (s .pre .1) _ (number v)) ∙ ap (dimension hs) (v .count-at .ensures) in
+    let same = c .before .count-at2 .ensures ∙ sym (heads-dimension (s .pre .known) _ (number v)) ∙ ap (dimension hs) (v .count-at .ensures) in
     c .constraint .ensures
     ∙ ap (λ (d : ℕ). placeAfter (constraint d (s .args .s .now) (r .r .given .0 .0))) same
-    ∙ sym (declared-known (s .pre .1) (s .args .at) ∙ goes-on _ (after-choice-field .choice-field .ensures) _ _ (r .r .given .1))
+    ∙ sym (declared-known (s .pre .known) (s .args .at) ∙ goes-on _ (after-choice-field .choice-field .ensures) _ _ (r .r .given .1))
 
 pub declared-spec : {M : Type 1} → statement M
 declared-spec =

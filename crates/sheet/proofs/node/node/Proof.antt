@@ -31,7 +31,7 @@ node-fields-requires c κs =
     let read = choice-came (s .args .s .now) (s .args .at) _ _ (c .before .before .r .given .1) 8 (after-choice-field .choice-field .ensures) in
     let h = counted 0 8 read in
     let e = c .count-at .ensures in
-    (omega arith, s .pre .0, s .pre .1)
+    (omega arith, s .pre)
 
 returns-2 : tie.Need-returns-2
 returns-2 c =

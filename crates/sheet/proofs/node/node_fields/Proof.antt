@@ -14,12 +14,12 @@ passed-by k h ne = omega arith
 abbrev Not : ℕ → ℕ → Type 0
 Not code k = code ≡ k → ⊥
 
--- a code that is at most 8 and none of 0 to 7
-last : {code : ℕ} → code ≤ 8 →
-    ((((((((Unit {0} × Not code 0) × Not code 1) × Not code 2) × Not code 3) × Not code 4) × Not code 5) × Not code 6) × Not code 7) → code ≡ 8
-last few ((((((((_, n0), n1), n2), n3), n4), n5), n6), n7) =
+-- no code that is at most 8 is none of 0 to 8
+none-left : {code : ℕ} → code ≤ 8 →
+    (((((((((Unit {0} × Not code 0) × Not code 1) × Not code 2) × Not code 3) × Not code 4) × Not code 5) × Not code 6) × Not code 7) × Not code 8) → ⊥
+none-left few (((((((((_, n0), n1), n2), n3), n4), n5), n6), n7), n8) =
     let low = passed-by 3 (passed-by 2 (passed-by 1 (passed-by 0 zero-le n0) n1) n2) n3 in
-    let high = passed-by 7 (passed-by 6 (passed-by 5 (passed-by 4 low n4) n5) n6) n7 in
+    let high = passed-by 8 (passed-by 7 (passed-by 6 (passed-by 5 (passed-by 4 low n4) n5) n6) n7) n8 in
     omega arith
 
 sub-choice-field : tie.Need-sub-choice-field
@@ -74,10 +74,10 @@ returns-8 : tie.Need-returns-8
 returns-8 c = c .restriction .ensures ∙ sym (restriction-fields _ _ _ _ (c .before .match .keys8))
 
 returns-9 : tie.Need-returns-9
-returns-9 c =
-    let s = c .before .before .before in
-    let few = s .pre .0 in
-    c .dependence .ensures ∙ sym (dependence-fields _ _ _ _ (last few (c .before .match .rest)))
+returns-9 c = c .dependence .ensures ∙ sym (dependence-fields _ _ _ _ (c .before .match .keys9))
+
+returns-10 : tie.Need-returns-10
+returns-10 c = absurd (none-left (c .before .before .pre .0) (c .match .rest))
 
 pub node-fields-spec : {M : Type 1} → statement M
 node-fields-spec =
@@ -100,4 +100,5 @@ node-fields-spec =
     returns-6
     returns-7
     returns-8
-    returns-9)
+    returns-9
+    returns-10)

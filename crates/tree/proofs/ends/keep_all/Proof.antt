@@ -25,7 +25,7 @@ keep-body-requires c κs =
     let after-variable-count = at-loop .before in
     let s = after-variable-count .before .before in
     let count = after-variable-count .variable-count .ensures ∙ s .pre .0 .prepared .table .variables in
-    (s .pre .0, omega (arith, count, c .before .loop-test .taken), at-loop .loop .inv)
+    (record { placed = s .pre .0; known = omega (arith, count, c .before .loop-test .taken) }, at-loop .loop .inv)
 
 add-v : tie.Need-add-v Inv-loop μ-loop
 add-v c = search needs

@@ -11,15 +11,15 @@ kind-of-requires c κs = search needs
 body-place-requires : tie.Need-body-place-requires
 body-place-requires c κs =
     let s = c .before .before .before in
-    few _ _ (s .pre .0) _ (s .pre .1)
+    few _ _ (s .pre .0 .placed) _ (s .pre .0 .known)
 
 keep-tree-requires : tie.Need-keep-tree-requires
 keep-tree-requires c κs =
     let then1 = c .before .before in
     let s = then1 .before .before .before in
     let k = then1 .before .kind-of .ensures in
-    let body = no-input _ _ (s .pre .0) _ (s .pre .1) _ (k .0) (k .1) (then1 .if1 .taken) in
-    (body-standing _ _ (s .pre .0) _ (s .pre .1) body _ (c .before .body-place .ensures), s .pre .2)
+    let body = no-input _ _ (s .pre .0 .placed) _ (s .pre .0 .known) _ (k .0) (k .1) (then1 .if1 .taken) in
+    (body-standing _ _ (s .pre .0 .placed) _ (s .pre .0 .known) body _ (c .before .body-place .ensures), s .pre .1)
 
 returns : tie.Need-returns
 returns c = search needs

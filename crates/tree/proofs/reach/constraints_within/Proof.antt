@@ -21,7 +21,7 @@ add-step : tie.Need-add-step Inv-loop μ-loop
 add-step c = search needs
 
 loop-holds : tie.Need-loop-holds Inv-loop μ-loop
-loop-holds c = record { there = c .before .pre .1; decides = refl }
+loop-holds c = record { there = c .before .pre .0 .there; decides = refl }
 
 add-row-within : tie.Need-add-row-within Inv-loop μ-loop
 add-row-within c = omega (arith, first-there _ _ _ _ _ _ _ (c .before .loop .inv) (c .loop-test .taken))
@@ -30,7 +30,8 @@ row-within-requires : tie.Need-row-within-requires Inv-loop μ-loop
 row-within-requires c κs =
     let s = c .before .before .before in
     let h = s .pre in
-    (h .0, omega (arith, first-there _ _ _ _ _ _ _ (c .before .loop .inv) (c .loop-test .taken)), h .2)
+    let first = first-there _ _ _ _ _ _ _ (c .before .loop .inv) (c .loop-test .taken) in
+    (record { few = h .0 .few; there = omega (arith, first) }, h .1)
 
 returns : tie.Need-returns Inv-loop μ-loop
 returns c =

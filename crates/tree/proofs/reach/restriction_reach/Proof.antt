@@ -31,7 +31,8 @@ constraints-within-requires c κs =
     let s = c .before .before .before in
     let many = c .before .natural .ensures in
     let dim = c .natural2 .ensures in
-    (omega (arith, restriction-fields _ _ (s .pre .0) .dim), rw (many, dim) (constraints-there _ _ (s .args .around) (s .pre .0)), s .pre .1)
+    let few = restriction-fields _ _ (s .pre .0) .dim in
+    (record { few = omega (arith, few); there = rw (many, dim) (constraints-there _ _ (s .args .around) (s .pre .0)) }, s .pre .1)
 
 -- what was found of the constraints, by their fields
 found : (c : tie.After-constraints-within) →

@@ -45,7 +45,7 @@ row-within-requires : tie.Need-row-within-requires
 row-within-requires c κs =
     let s = c .before .before .before .before in
     let there = declared-there _ _ (s .pre .0) _ (s .pre .1) in
-    (c .dimension-of .ensures .1, omega (arith, dimension-is c), omega arith)
+    (record { few = c .dimension-of .ensures .1; there = omega (arith, dimension-is c) }, omega arith)
 
 returns-2 : tie.Need-returns-2
 returns-2 c =

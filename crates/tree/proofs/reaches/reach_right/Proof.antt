@@ -11,24 +11,24 @@ use Rattle.tree.proofs.reaches.reach_right.Statement.{statement}
 use Rattle.tree.proofs.reaches.reach_right.Tie as tie
 
 declared-within-requires : tie.Need-declared-within-requires
-declared-within-requires c κs = c .before .pre .0 .prepared
+declared-within-requires c κs = c .before .pre .placed .prepared
 
 returns : tie.Need-returns
 returns c =
     let s = c .before .before .before in
-    reach-undeclared _ _ (s .pre .0) _ (s .pre .1) _ (c .before .declared-within .ensures) (not-true _ (c .if1 .taken))
+    reach-undeclared _ _ (s .pre .placed) _ (s .pre .known) _ (c .before .declared-within .ensures) (not-true _ (c .if1 .taken))
 
 kind-of-requires : tie.Need-kind-of-requires
 kind-of-requires c κs =
     let s = c .before .before .before in
-    (s .pre .0 .prepared, s .pre .1)
+    (s .pre .placed .prepared, s .pre .known)
 
 returns-2 : tie.Need-returns-2
 returns-2 c =
     let after-declared-within = c .before .before .before in
     let s = after-declared-within .before .before in
-    let i = is-input _ _ (s .pre .0) _ (s .pre .1) _ (c .before .kind-of .ensures .0) (c .if2 .taken) in
-    reach-of-input _ _ (s .pre .0) _ (s .pre .1) _ (after-declared-within .declared-within .ensures) (not-false _ (c .before .before .if1 .left)) i
+    let i = is-input _ _ (s .pre .placed) _ (s .pre .known) _ (c .before .kind-of .ensures .0) (c .if2 .taken) in
+    reach-of-input _ _ (s .pre .placed) _ (s .pre .known) _ (after-declared-within .declared-within .ensures) (not-false _ (c .before .before .if1 .left)) i
 
 -- it is no input
 no-input-here : (c : tie.Else2) →
@@ -37,17 +37,17 @@ no-input-here : (c : tie.Else2) →
 no-input-here c =
     let s = c .before .before .before .before .before in
     let k = c .before .kind-of .ensures in
-    no-input _ _ (s .pre .0) _ (s .pre .1) _ (k .0) (k .1) (c .if2 .left)
+    no-input _ _ (s .pre .placed) _ (s .pre .known) _ (k .0) (k .1) (c .if2 .left)
 
 body-place-requires : tie.Need-body-place-requires
 body-place-requires c κs =
     let s = c .before .before .before .before .before in
-    few _ _ (s .pre .0) _ (s .pre .1)
+    few _ _ (s .pre .placed) _ (s .pre .known)
 
 reach-requires : tie.Need-reach-requires
 reach-requires c κs =
     let s = c .before .before .before .before .before .before in
-    (body-standing _ _ (s .pre .0) _ (s .pre .1) (no-input-here (c .before)) _ (c .body-place .ensures), omega arith)
+    (body-standing _ _ (s .pre .placed) _ (s .pre .known) (no-input-here (c .before)) _ (c .body-place .ensures), omega arith)
 
 enum-told : tie.Need-enum-told
 enum-told c = search needs
@@ -66,7 +66,7 @@ returns-3 c =
     let place = after-body-place .body-place .ensures in
     let says = c .before .before .reach .ensures in
     let passed = not-false _ (else1 .if1 .left) in
-    reach-of-next _ _ (s .pre .0) _ (s .pre .1) _ declared passed (no-input-here else2) _ place _ says _ (c .enum-told .given .1)
+    reach-of-next _ _ (s .pre .placed) _ (s .pre .known) _ declared passed (no-input-here else2) _ place _ says _ (c .enum-told .given .1)
 
 returns-4 : tie.Need-returns-4
 returns-4 c =
@@ -79,7 +79,7 @@ returns-4 c =
     let place = after-body-place .body-place .ensures in
     let says = c .before .before .reach .ensures in
     let passed = not-false _ (else1 .if1 .left) in
-    reach-of-beyond _ _ (s .pre .0) _ (s .pre .1) _ declared passed (no-input-here else2) _ place _ says (c .enum-told2 .given .1)
+    reach-of-beyond _ _ (s .pre .placed) _ (s .pre .known) _ declared passed (no-input-here else2) _ place _ says (c .enum-told2 .given .1)
 
 pub reach-right-spec : {M : Type 1} → statement M
 reach-right-spec =

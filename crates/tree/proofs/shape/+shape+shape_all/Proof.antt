@@ -69,12 +69,12 @@ the-first : (t : ℕ) (c : shape-lts.Else2 (shape-uses t) (shape-at t) shape.Pos
     FirstOf (c .before .before .before .args .s .now) (c .before .before .before .args .at) (c .before .before .before .args .left)
 the-first t c =
     let s = c .before .before .before in
-    flat-first _ _ _ (c .before .if1 .left) (s .pre .1 .1)
+    flat-first _ _ _ (c .before .if1 .left) (s .pre .1 .flat)
 
 shape-fits-here-requires : (t : ℕ) → shape-lts.Need-fits-here-requires (shape-uses t) (shape-at t) shape.Post
 shape-fits-here-requires t c κs =
     let s = c .before .before .before in
-    (s .pre .1 .0, the-first t c .noded)
+    (s .pre .1 .prepared, the-first t c .noded)
 
 shape-returns-3 : (t : ℕ) → shape-lts.Need-returns-3 (shape-uses t) (shape-at t) shape.Post
 shape-returns-3 t c =
@@ -92,7 +92,7 @@ shape-wanted-below-requires : (t : ℕ) → shape-lts.Need-wanted-below-requires
 shape-wanted-below-requires t c κs =
     let else2 = c .before .before .before in
     let s = else2 .before .before .before in
-    (the-first t else2 .noded, s .pre .1 .3)
+    (the-first t else2 .noded, s .pre .1 .narrow)
 
 shape-children-requires : (t : ℕ) → shape-lts.Need-children-requires (shape-uses t) (shape-at t) shape.Post
 shape-children-requires t c κs =
@@ -105,8 +105,15 @@ shape-shape-all-requires t c κs =
     let s = else2 .before .before .before in
     let first = the-first t else2 in
     let is = s .pre .0 in
-    let some = else2 .if2 .left in
-    (omega arith, (s .pre .1 .0, rw (c .before .before .node-end .ensures) (first .rest), omega arith, c .before .wanted-below .ensures .1))
+    let some = else2 .if2 .left in (
+      omega arith,
+      record {
+        prepared = s .pre .1 .prepared;
+        flat = rw (c .before .before .node-end .ensures) (first .rest);
+        shallow = omega (arith, s .pre .1 .shallow);
+        narrow = c .before .wanted-below .ensures .1;
+      },
+    )
 
 shape-returns-4 : (t : ℕ) → shape-lts.Need-returns-4 (shape-uses t) (shape-at t) shape.Post
 shape-returns-4 t c =
@@ -137,13 +144,14 @@ abbrev shape-all-μ-loop : shape-all-lts.MeasureT-loop
 shape-all-μ-loop s tab at left deep want count p₀ n₀ more₀ p n more = more
 
 shape-all-loop-holds : (t : ℕ) → shape-all-lts.Need-loop-holds (shape-all-uses t) (shape-all-at t) shape-all.Post shape-all-Inv-loop shape-all-μ-loop
-shape-all-loop-holds t c = (refl, c .before .pre .1 .1)
+shape-all-loop-holds t c = (refl, c .before .pre .1 .flat)
 
 shape-all-shape-requires : (t : ℕ) → shape-all-lts.Need-shape-requires (shape-all-uses t) (shape-all-at t) shape-all.Post shape-all-Inv-loop shape-all-μ-loop
 shape-all-shape-requires t c κs =
     let s = c .before .before .before in
     let is = s .pre .0 in
-    (omega arith, (s .pre .1 .0, c .before .loop .inv .1, s .pre .1 .2, s .pre .1 .3))
+    let h = s .pre .1 in
+    (omega arith, record { prepared = h .prepared; flat = c .before .loop .inv .1; shallow = h .shallow; narrow = h .narrow })
 
 shape-all-enum-known-r : (t : ℕ) → shape-all-lts.Need-enum-known-r (shape-all-uses t) (shape-all-at t) shape-all.Post shape-all-Inv-loop shape-all-μ-loop
 shape-all-enum-known-r t c = search needs

@@ -43,7 +43,7 @@ shapes-from-uses t = (
 )
 
 few : (t : ℕ) (c : shapes-from-lts.Start (shapes-from-uses t) (shapes-from-at t) shapes-from.Post) → c .args .v ≤ 32
-few t c = omega (arith, c .pre .1 .1, prepared-sections _ _ (c .pre .1 .0) .few)
+few t c = omega (arith, c .pre .1 .known, prepared-sections _ _ (c .pre .1 .prepared) .few)
 
 shapes-from-keep-body-requires : (t : ℕ) → shapes-from-lts.Need-keep-body-requires (shapes-from-uses t) (shapes-from-at t) shapes-from.Post
 shapes-from-keep-body-requires t c κs = few t (c .before .before)
@@ -56,7 +56,7 @@ still-prepared : (t : ℕ) (c : shapes-from-lts.After-keep-body (shapes-from-use
     Prepared (c .before .before .before .args .s .now) (c .keep-body .last .0)
 still-prepared t c =
     let s = c .before .before .before in
-    let h = s .pre .1 .0 in
+    let h = s .pre .1 .prepared in
     rw (c .keep-body .ensures) (stored-prepared _ _ _ (h .table .sized) (few t s) _ h)
 
 count-is : (t : ℕ) (c : shapes-from-lts.After-variable-count (shapes-from-uses t) (shapes-from-at t) shapes-from.Post) →
@@ -68,21 +68,21 @@ shapes-from-returns t c =
     let after-keep-body = c .before .before .before .before in
     let s = after-keep-body .before .before .before in
     let n = count-is t (c .before .before) in
-    rw (after-keep-body .keep-body .ensures) (ends-well _ _ _ _ _ (s .pre .1 .0 .table .sized) (few t s) (omega (arith, c .before .if1 .taken)) (c .if2 .taken))
+    rw (after-keep-body .keep-body .ensures) (ends-well _ _ _ _ _ (s .pre .1 .prepared .table .sized) (few t s) (omega (arith, c .before .if1 .taken)) (c .if2 .taken))
 
 shapes-from-returns-2 : (t : ℕ) → shapes-from-lts.Need-returns-2 (shapes-from-uses t) (shapes-from-at t) shapes-from.Post
 shapes-from-returns-2 t c =
     let after-keep-body = c .before .before .before .before in
     let s = after-keep-body .before .before .before in
     let n = count-is t (c .before .before) in
-    rw (after-keep-body .keep-body .ensures) (ends-left _ _ _ _ _ (s .pre .1 .0 .table .sized) (few t s) (omega (arith, c .before .if1 .taken)) (c .if2 .left))
+    rw (after-keep-body .keep-body .ensures) (ends-left _ _ _ _ _ (s .pre .1 .prepared .table .sized) (few t s) (omega (arith, c .before .if1 .taken)) (c .if2 .left))
 
 shapes-from-body-requires : (t : ℕ) → shapes-from-lts.Need-body-requires (shapes-from-uses t) (shapes-from-at t) shapes-from.Post
 shapes-from-body-requires t c κs =
     let after-keep-body = c .before .before .before .before in
     let s = after-keep-body .before .before .before in
     let n = count-is t (c .before .before) in
-    (still-prepared t after-keep-body, omega (arith, c .before .if1 .left), s .pre .1 .2)
+    (record { prepared = still-prepared t after-keep-body; known = omega (arith, c .before .if1 .left) }, s .pre .1 .flat)
 
 shapes-from-enum-known-r : (t : ℕ) → shapes-from-lts.Need-enum-known-r (shapes-from-uses t) (shapes-from-at t) shapes-from.Post
 shapes-from-enum-known-r t c = search needs
@@ -99,7 +99,7 @@ shapes-from-returns-3 t c =
     let n = count-is t after-variable-count in
     let known : s .args .v < varsOf (s .args .s .now) = omega (arith, else1 .if1 .left) in
     let r = c .before .before .body .ensures in
-    rw (after-keep-body .keep-body .ensures) (ends-bad _ _ _ _ _ (s .pre .1 .0 .table .sized) (few t s) known (sym (c .enum-told .given .1) ∙ r .is))
+    rw (after-keep-body .keep-body .ensures) (ends-bad _ _ _ _ _ (s .pre .1 .prepared .table .sized) (few t s) known (sym (c .enum-told .given .1) ∙ r .is))
 
 shapes-from-add-shapes-from : (t : ℕ) → shapes-from-lts.Need-add-shapes-from (shapes-from-uses t) (shapes-from-at t) shapes-from.Post
 shapes-from-add-shapes-from t c =
@@ -118,7 +118,7 @@ shapes-from-shapes-from-requires t c κs =
     let n = count-is t after-variable-count in
     let known : s .args .v < varsOf (s .args .s .now) = omega (arith, else1 .if1 .left) in
     let r = after-body .body .ensures in
-    (omega arith, (still-prepared t after-keep-body, omega arith, r .flat _ _ (c .before .before .r .given .1)))
+    (omega arith, record { prepared = still-prepared t after-keep-body; known = omega arith; flat = r .flat _ _ (c .before .before .r .given .1) })
 
 shapes-from-returns-4 : (t : ℕ) → shapes-from-lts.Need-returns-4 (shapes-from-uses t) (shapes-from-at t) shapes-from.Post
 shapes-from-returns-4 t c =
@@ -131,7 +131,7 @@ shapes-from-returns-4 t c =
     let n = count-is t after-variable-count in
     let known : s .args .v < varsOf (s .args .s .now) = omega (arith, else1 .if1 .left) in
     let r = after-body .body .ensures in
-    goes-on _ _ _ _ _ (s .pre .1 .0 .table .sized) (few t s) known _ _ (sym (after-r .r .given .1) ∙ r .is) _ _
+    goes-on _ _ _ _ _ (s .pre .1 .prepared .table .sized) (few t s) known _ _ (sym (after-r .r .given .1) ∙ r .is) _ _
     (rw (after-keep-body .keep-body .ensures) at (c .shapes-from .ensures))
 
 pub +shapes-from-spec : {M : Type 1} → statement M

@@ -8,22 +8,22 @@ use Rattle.tree.proofs.shapes.body.Statement.{statement}
 use Rattle.tree.proofs.shapes.body.Tie as tie
 
 kind-of-requires : tie.Need-kind-of-requires
-kind-of-requires c κs = (c .before .pre .0, c .before .pre .1)
+kind-of-requires c κs = (c .before .pre .0 .prepared, c .before .pre .0 .known)
 
 returns : tie.Need-returns
 returns c =
     let s = c .before .before .before in
-    fits-judges _ _ _ _ (body-input _ _ _ _ _ (c .before .kind-of .ensures .0) (c .if1 .taken)) (s .pre .2)
+    fits-judges _ _ _ _ (body-input _ _ _ _ _ (c .before .kind-of .ensures .0) (c .if1 .taken)) (s .pre .1)
 
 dimension-of-requires : tie.Need-dimension-of-requires
 dimension-of-requires c κs =
     let s = c .before .before .before in
-    (s .pre .0, s .pre .1)
+    (s .pre .0 .prepared, s .pre .0 .known)
 
 shape-requires : tie.Need-shape-requires
 shape-requires c κs =
     let s = c .before .before .before .before in
-    (s .pre .0, s .pre .2, omega arith, c .dimension-of .ensures .1)
+    record { prepared = s .pre .0 .prepared; flat = s .pre .1; shallow = omega arith; narrow = c .dimension-of .ensures .1 }
 
 returns-2 : tie.Need-returns-2
 returns-2 c =

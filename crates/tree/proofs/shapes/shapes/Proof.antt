@@ -27,7 +27,7 @@ shapes-from-requires c κs =
     let s = after-third-place .before .before .before in
     let h = s .pre in
     let first = ap (λ x. x + 8) (after-third-place .third-place .ensures) in
-    (h, omega arith, all-flat _ _ h _ _ first (c .before .node-count .ensures))
+    record { prepared = h; known = omega arith; flat = all-flat _ _ h _ _ first (c .before .node-count .ensures) }
 
 returns : tie.Need-returns
 returns c =

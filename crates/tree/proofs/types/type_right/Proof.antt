@@ -10,29 +10,29 @@ use Rattle.tree.proofs.types.type_right.Statement.{statement}
 use Rattle.tree.proofs.types.type_right.Tie as tie
 
 kind-of-requires : tie.Need-kind-of-requires
-kind-of-requires c κs = (c .before .pre .0 .prepared, c .before .pre .1)
+kind-of-requires c κs = (c .before .pre .placed .prepared, c .before .pre .known)
 
 returns : tie.Need-returns
 returns c =
     let s = c .before .before .before in
-    type-of-input _ _ (s .pre .0) _ (s .pre .1) _ (c .before .kind-of .ensures .0) (c .if1 .taken)
+    type-of-input _ _ (s .pre .placed) _ (s .pre .known) _ (c .before .kind-of .ensures .0) (c .if1 .taken)
 
 -- it is no input
 no-input-here : (c : tie.Else1) → isInput (variable (sheetOf (c .before .before .before .args .s .now)) (c .before .before .before .args .v)) ≡ false
 no-input-here c =
     let s = c .before .before .before in
     let k = c .before .kind-of .ensures in
-    no-input _ _ (s .pre .0) _ (s .pre .1) _ (k .0) (k .1) (c .if1 .left)
+    no-input _ _ (s .pre .placed) _ (s .pre .known) _ (k .0) (k .1) (c .if1 .left)
 
 body-place-requires : tie.Need-body-place-requires
 body-place-requires c κs =
     let s = c .before .before .before in
-    few _ _ (s .pre .0) _ (s .pre .1)
+    few _ _ (s .pre .placed) _ (s .pre .known)
 
 type-of-requires : tie.Need-type-of-requires
 type-of-requires c κs =
     let s = c .before .before .before .before in
-    (s .pre .0 .prepared, body-standing _ _ (s .pre .0) _ (s .pre .1) (no-input-here (c .before)) _ (c .body-place .ensures))
+    (s .pre .placed .prepared, body-standing _ _ (s .pre .placed) _ (s .pre .known) (no-input-here (c .before)) _ (c .body-place .ensures))
 
 enum-told : tie.Need-enum-told
 enum-told c = search needs
@@ -40,7 +40,7 @@ enum-told c = search needs
 sort-of-requires : tie.Need-sort-of-requires
 sort-of-requires c κs =
     let s = c .before .before .before .before .before .before .before in
-    (s .pre .0 .prepared, s .pre .1)
+    (s .pre .placed .prepared, s .pre .known)
 
 enum-told-2 : tie.Need-enum-told-2
 enum-told-2 c = search needs
@@ -48,7 +48,7 @@ enum-told-2 c = search needs
 sort-of-requires-2 : tie.Need-sort-of-requires-2
 sort-of-requires-2 c κs =
     let s = c .before .before .before .before .before .before .before in
-    (s .pre .0 .prepared, s .pre .1)
+    (s .pre .placed .prepared, s .pre .known)
 
 enum-told-3 : tie.Need-enum-told-3
 enum-told-3 c = search needs
@@ -62,7 +62,7 @@ returns-2 c =
     let k = c .sort-of .ensures in
     let place = after-body-place .body-place .ensures in
     let says = after-type-of .type-of .ensures in
-    type-of-integer _ _ (s .pre .0) _ (s .pre .1) (no-input-here else1) _ place _ says _ (c .before .enum-told .given .1) _ (k .0) (k .1)
+    type-of-integer _ _ (s .pre .placed) _ (s .pre .known) (no-input-here else1) _ place _ says _ (c .before .enum-told .given .1) _ (k .0) (k .1)
 
 returns-3 : tie.Need-returns-3
 returns-3 c =
@@ -73,7 +73,7 @@ returns-3 c =
     let k = c .sort-of2 .ensures in
     let place = after-body-place .body-place .ensures in
     let says = after-type-of .type-of .ensures in
-    type-of-boolean _ _ (s .pre .0) _ (s .pre .1) (no-input-here else1) _ place _ says _ (c .before .enum-told2 .given .1) _ (k .0) (k .1)
+    type-of-boolean _ _ (s .pre .placed) _ (s .pre .known) (no-input-here else1) _ place _ says _ (c .before .enum-told2 .given .1) _ (k .0) (k .1)
 
 returns-4 : tie.Need-returns-4
 returns-4 c =
@@ -82,7 +82,7 @@ returns-4 c =
     let s = else1 .before .before .before in
     let place = after-body-place .body-place .ensures in
     let says = c .before .before .type-of .ensures in
-    type-of-none _ _ (s .pre .0) _ (s .pre .1) (no-input-here else1) _ place _ says (c .enum-told3 .given .1)
+    type-of-none _ _ (s .pre .placed) _ (s .pre .known) (no-input-here else1) _ place _ says (c .enum-told3 .given .1)
 
 pub type-right-spec : {M : Type 1} → statement M
 type-right-spec =

@@ -219,7 +219,7 @@ operator-type-type-all-requires t c κs =
     let some = standing-some _ _ _ _ h in
     let code = code-of t (c .before .before .before) ∙ ap operatorCode (c .enum-told2 .given .1) in
     let below = standing-children _ _ _ _ h _ _ (c .before .before .node-end .ensures) (binary-arity _ _ code) in
-    (omega arith, (s .pre .1 .0, below, omega arith))
+    (omega arith, (s .pre .1 .0, record { all = below; some = omega arith }))
 
 operator-type-add-natural-2 : (t : ℕ) → operator-type-lts.Need-add-natural-2 (operator-type-uses t) (operator-type-at t) operator-type.Post
 operator-type-add-natural-2 t c =
@@ -282,16 +282,16 @@ type-all-type-of-requires t c κs =
     let s = c .before in
     let is = s .pre .0 in
     let h = s .pre .1 in
-    (omega arith, (h .0, first-standing _ _ _ _ _ (h .2) (h .1)))
+    (omega arith, (h .0, first-standing _ _ _ _ _ (h .1 .some) (h .1 .all)))
 
 type-all-sub-more : (t : ℕ) → type-all-lts.Need-sub-more (type-all-uses t) (type-all-at t) type-all.Post type-all-Inv-loop type-all-μ-loop
-type-all-sub-more t c = omega (arith, c .before .before .pre .1 .2)
+type-all-sub-more t c = omega (arith, c .before .before .pre .1 .1 .some)
 
 type-all-loop-holds : (t : ℕ) → type-all-lts.Need-loop-holds (type-all-uses t) (type-all-at t) type-all.Post type-all-Inv-loop type-all-μ-loop
 type-all-loop-holds t c =
     let h = c .before .before .pre .1 in
     let first = c .type-of .ensures in
-    (rest-after _ _ _ _ (h .2) _ (h .1) first, λ r rest. types-begin _ _ _ (h .2) _ first r rest)
+    (rest-after _ _ _ _ (h .1 .some) _ (h .1 .all) first, λ r rest. types-begin _ _ _ (h .1 .some) _ first r rest)
 
 type-all-next-type-requires : (t : ℕ) → type-all-lts.Need-next-type-requires (type-all-uses t) (type-all-at t) type-all.Post type-all-Inv-loop type-all-μ-loop
 type-all-next-type-requires t c κs =
@@ -338,7 +338,7 @@ type-if-type-all-requires t c κs =
     let is = s .pre .0 in
     let h = s .pre .1 in
     let ends = boolean-first _ _ _ (c .before .before .before .type-of .ensures) _ (c .before .t .given .1) in
-    (omega arith, (h .0, rest-standing _ _ _ _ _ (omega arith) (h .1) _ ends, omega arith))
+    (omega arith, (h .0, record { all = rest-standing _ _ _ _ _ (omega arith) (h .1) _ ends; some = omega arith }))
 
 type-if-enum-told-2 : (t : ℕ) → type-if-lts.Need-enum-told-2 (type-if-uses t) (type-if-at t) type-if.Post
 type-if-enum-told-2 t c = search needs
@@ -393,7 +393,7 @@ type-of-type-all-requires t c κs =
     let some = standing-some _ _ _ _ (h .1) in
     let noded = noded-as _ _ (standing-noded _ _ _ _ (h .1)) _ _ (c .before .before .before .before .class-of .ensures) (c .before .enum-told3 .given .1) in
     let below = standing-children _ _ _ _ (h .1) _ _ (c .before .before .before .node-end .ensures) (c .children .ensures) in
-    (omega arith, (h .0, below, omega (arith, c .children .ensures, case-some _ _ noded)))
+    (omega arith, (h .0, record { all = below; some = omega (arith, c .children .ensures, case-some _ _ noded) }))
 
 type-of-enum-told-4 : (t : ℕ) → type-of-lts.Need-enum-told-4 (type-of-uses t) (type-of-at t) type-of.Post
 type-of-enum-told-4 t c = search needs

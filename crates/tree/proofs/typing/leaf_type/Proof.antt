@@ -43,7 +43,7 @@ variable-type-requires c κs =
     let s = after-leaf-of .before .before in
     let code = after-leaf-of .leaf-of .ensures ∙ ap leafCode (c .before .enum-told .given .1) in
     let known = variable-known _ _ (s .pre .1 .noded) code (prepared-sections _ _ (s .pre .0) .some) in
-    (s .pre .0, omega (arith, c .natural .ensures))
+    record { prepared = s .pre .0; known = omega (arith, c .natural .ensures) }
 
 returns : tie.Need-returns
 returns c =

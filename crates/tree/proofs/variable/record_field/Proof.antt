@@ -9,13 +9,13 @@ use Rattle.tree.proofs.variable.record_field.Statement.{statement}
 use Rattle.tree.proofs.variable.record_field.Tie as tie
 
 record-place-requires : tie.Need-record-place-requires
-record-place-requires c κs = prepared-few _ _ (c .before .pre .0) _ (c .before .pre .1)
+record-place-requires c κs = prepared-few _ _ (c .before .pre .0 .prepared) _ (c .before .pre .0 .known)
 
 add-natural : tie.Need-add-natural
-add-natural c = omega (arith, prepared-record _ _ (c .before .before .pre .0) _ (c .before .before .pre .1) .there, c .record-place .ensures)
+add-natural c = omega (arith, prepared-record _ _ (c .before .before .pre .0 .prepared) _ (c .before .before .pre .0 .known) .there, c .record-place .ensures)
 
 natural-requires : tie.Need-natural-requires
-natural-requires c κs = omega (arith, prepared-record _ _ (c .before .before .pre .0) _ (c .before .before .pre .1) .there, c .record-place .ensures)
+natural-requires c κs = omega (arith, prepared-record _ _ (c .before .before .pre .0 .prepared) _ (c .before .before .pre .0 .known) .there, c .record-place .ensures)
 
 returns : tie.Need-returns
 returns c =

@@ -2,8 +2,8 @@
 use borrow.Author.Needs.{needs}
 use Rattle.alpha.specs.Read.{range}
 use Rattle.sheet.proofs.Places.{Left, all-left, repeat-done, repeat-stops, repeat-goes}
-use Rattle.sheet.proofs.variable.ranges.Statement.{statement}
-use Rattle.sheet.proofs.variable.ranges.Tie as tie
+use Rattle.sheet.proofs.range.ranges.Statement.{statement}
+use Rattle.sheet.proofs.range.ranges.Tie as tie
 
 abbrev Inv-loop : tie.InvT-loop
 Inv-loop s at n p₀ left₀ p left = Left range s n at left p

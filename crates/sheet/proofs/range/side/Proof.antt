@@ -5,8 +5,8 @@ use mathlib.Core.Path.{ap}
 use Prim.Native.Nat.{_+_, _≤_, _<_}
 use lib.IntN.{natAbs}
 use Rattle.sheet.proofs.Boxes.{first-sizes}
-use Rattle.sheet.proofs.variable.side.Statement.{statement}
-use Rattle.sheet.proofs.variable.side.Tie as tie
+use Rattle.sheet.proofs.range.side.Statement.{statement}
+use Rattle.sheet.proofs.range.side.Tie as tie
 
 -- the sizes of the two numbers together
 sizes : (c : tie.After-number-at2) →

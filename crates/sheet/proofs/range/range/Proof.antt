@@ -6,8 +6,8 @@ use Rattle.alpha.specs.Read.{number}
 use Rattle.sheet.specs.Place.{placeAfter}
 use Rattle.sheet.proofs.Readers.{range-place, goes-on, stops}
 use Rattle.sheet.proofs.Places.{number-came}
-use Rattle.sheet.proofs.variable.range.Statement.{statement}
-use Rattle.sheet.proofs.variable.range.Tie as tie
+use Rattle.sheet.proofs.range.range.Statement.{statement}
+use Rattle.sheet.proofs.range.range.Tie as tie
 
 of-requires : tie.Need-of-requires
 of-requires c κs = search needs

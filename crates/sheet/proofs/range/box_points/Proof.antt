@@ -3,8 +3,8 @@ use borrow.Author.Needs.{needs}
 use native.Mathlib.Omega.{arith}
 use Rattle.sheet.proofs.Boxes.{Product, product-start, product-over, product-more, product-done, ranges-first}
 use native.Mathlib.Nat.{mul-le-mul}
-use Rattle.sheet.proofs.variable.box_points.Statement.{statement}
-use Rattle.sheet.proofs.variable.box_points.Tie as tie
+use Rattle.sheet.proofs.range.box_points.Statement.{statement}
+use Rattle.sheet.proofs.range.box_points.Tie as tie
 
 abbrev Inv-loop : tie.InvT-loop
 Inv-loop s at n p₀ left₀ product₀ p left product = Product s at n p left product
