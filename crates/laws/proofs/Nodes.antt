@@ -11,7 +11,7 @@ use Rattle.alpha.specs.Sheet.{Row, Constraint, Map, Node}
 use Rattle.alpha.specs.Sheet.{Node.nVar, Node.nInt, Node.nBool, Node.nUnary, Node.nBinary, Node.nIf, Node.nCase, Node.nRestr, Node.nDep}
 use Rattle.alpha.specs.Box.{within}
 use Rattle.alpha.specs.Read.{Got, got, bad, Reader, after, pure, unaryOf, binaryOf, repeat, count, choice, number, rowOf, constraint, restriction, dependence, nodes, node}
-use Rattle.laws.specs.At.{codeOf, readNode, readEnd, nodeRead, nodeEnd}
+use Rattle.laws.specs.At.{codeOf, nodeSize, readNode, readEnd, nodeRead, nodeEnd}
 use Rattle.laws.proofs.Readers.{Upto, Gives, given, Passed, passing-gives, Counted, counted-is, count-gives, choice-gives, Items, repeat-gives}
 use Rattle.laws.proofs.Rows.{Chosen, chosen, RowAt, row-gives, row-takes, ConstraintAt, constraint-gives, constraint-takes}
 
@@ -44,18 +44,6 @@ Fields vars bs p nIf = Unit {0}
 Fields vars bs p (nCase n) = Counted 1 64 bs (p + 8) n
 Fields vars bs p (nRestr d cs) = Restricts bs p d cs
 Fields vars bs p (nDep f) = Depends bs p f
-
--- how many bytes a node has
-abbrev pub nodeSize : Node → ℕ
-nodeSize (nVar v) = 16
-nodeSize (nInt c) = 16
-nodeSize (nBool b) = 16
-nodeSize (nUnary o) = 16
-nodeSize (nBinary o) = 16
-nodeSize nIf = 8
-nodeSize (nCase n) = 16
-nodeSize (nRestr d cs) = 24 + length cs * (16 + 8 * d)
-nodeSize (nDep f) = 24 + length (f .rows) * (8 + 8 * f .cols)
 
 -- the node nd stands at p
 pub record NodeAt (vars : ℕ) (bs : List ℕ) (p : ℕ) (nd : Node) : Type 0 where

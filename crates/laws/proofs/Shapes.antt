@@ -13,10 +13,10 @@ use Rattle.alpha.specs.Sheet.{Expr.var, Expr.int, Expr.boo, Expr.un, Expr.bin, 
 use Rattle.alpha.specs.Box.{within}
 use Rattle.alpha.specs.Read.{got, unaryOf, binaryOf, node}
 use Rattle.alpha.specs.Written.{branchCount, nodeCount, nodeCounts}
-use Rattle.laws.specs.At.{nodeOf, codeNumber, nodeRead, nodeEnd, At, AllAt}
+use Rattle.laws.specs.At.{nodeOf, codeNumber, nodeSize, nodeRead, nodeEnd, At, AllAt}
 use Rattle.laws.proofs.Readers.{Passed, Counted}
 use Rattle.laws.proofs.Rows.{Chosen}
-use Rattle.laws.proofs.Nodes.{Restricts, Depends, nodeSize, NodeAt, node-at, node-size, node-read, node-end}
+use Rattle.laws.proofs.Nodes.{Restricts, Depends, NodeAt, node-at, node-size, node-read, node-end}
 
 -- ---- the first node
 

@@ -1,8 +1,9 @@
 -- A node and a tree in the bytes: what is read at a place, the place after it, and where a tree stands. This is what a walk by places
 -- knows of the tree that it walks, with no fuel and no count of nodes. Assumes nothing.
 use mathlib.Core.Path.{_≡_}
-use Prim.Native.Nat.{ℕ}
+use Prim.Native.Nat.{ℕ, _+_, _*_}
 use mathlib.Core.List.{List}
+use lib.ListN.{length}
 use Rattle.alpha.specs.Sheet.{Node, Expr, Exprs}
 use Rattle.alpha.specs.Sheet.{Node.nVar, Node.nInt, Node.nBool, Node.nUnary, Node.nBinary, Node.nIf, Node.nCase, Node.nRestr, Node.nDep}
 use Rattle.alpha.specs.Sheet.{Expr.var, Expr.int, Expr.boo, Expr.un, Expr.bin, Expr.ite, Expr.kase, Expr.restr, Expr.dep, Exprs.none, Exprs.more}
@@ -35,6 +36,18 @@ codeOf (nDep f) = 8
 
 abbrev pub codeNumber : Expr → ℕ
 codeNumber e = codeOf (nodeOf e)
+
+-- how many bytes a node has: a field has eight
+abbrev pub nodeSize : Node → ℕ
+nodeSize (nVar v) = 16
+nodeSize (nInt c) = 16
+nodeSize (nBool b) = 16
+nodeSize (nUnary o) = 16
+nodeSize (nBinary o) = 16
+nodeSize nIf = 8
+nodeSize (nCase n) = 16
+nodeSize (nRestr d cs) = 24 + length cs * (16 + 8 * d)
+nodeSize (nDep f) = 24 + length (f .rows) * (8 + 8 * f .cols)
 
 -- ---- a node at a place
 

@@ -14,10 +14,10 @@ use Rattle.alpha.specs.Sheet.{Node.nVar, Node.nInt, Node.nBool, Node.nUnary, No
 use Rattle.alpha.specs.Affine.{constraintAfter}
 use Rattle.alpha.specs.Read.{unaryOf, binaryOf}
 use Rattle.alpha.specs.Written.{flat, relationCode, unaryCode, binaryCode, rowBytes, constraintBytes, bytes}
-use Rattle.laws.specs.At.{codeOf, nodeRead, nodeEnd}
+use Rattle.laws.specs.At.{codeOf, nodeSize, nodeRead, nodeEnd}
 use Rattle.laws.specs.Sheets.{varsOf}
 use Rattle.laws.proofs.Readers.{counted-is}
-use Rattle.laws.proofs.Nodes.{nodeSize, NodeAt}
+use Rattle.laws.proofs.Nodes.{NodeAt}
 use Rattle.laws.proofs.NormalAgain.{constraints-after-wide}
 use Rattle.laws.proofs.Written.{length-num}
 use Rattle.affine.specs.declared.Map.{Map}

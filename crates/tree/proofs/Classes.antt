@@ -11,11 +11,11 @@ use Rattle.alpha.specs.Sheet.{Unary, Binary, Constraint, Map, Node, Expr, Exprs
 use Rattle.alpha.specs.Sheet.{Node.nVar, Node.nInt, Node.nBool, Node.nUnary, Node.nBinary, Node.nIf, Node.nCase, Node.nRestr, Node.nDep}
 use Rattle.alpha.specs.Sheet.{Expr.var, Expr.int, Expr.boo, Expr.un, Expr.bin, Expr.ite, Expr.kase, Expr.restr, Expr.dep, Exprs.none}
 use Rattle.alpha.specs.Read.{got, node}
-use Rattle.laws.specs.At.{nodeOf, codeOf, nodeRead, nodeEnd, At}
+use Rattle.laws.specs.At.{nodeOf, codeOf, nodeSize, nodeRead, nodeEnd, At}
 use Rattle.laws.specs.Children.{childrenOf, arity}
 use Rattle.laws.specs.Sheets.{varsOf}
 use Rattle.laws.proofs.Readers.{counted-is}
-use Rattle.laws.proofs.Nodes.{nodeSize, NodeAt, node-at, node-size, node-read, node-end}
+use Rattle.laws.proofs.Nodes.{NodeAt, node-at, node-size, node-read, node-end}
 use Rattle.laws.proofs.Shapes.{KaseAt, RestrAt, DepAt, at-read, at-code, at-shape, allAt-none}
 use Rattle.laws.proofs.Children.{at-children}
 use Rattle.tree.specs.declared.Class.{Class}

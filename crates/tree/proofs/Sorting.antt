@@ -16,11 +16,11 @@ use Rattle.alpha.specs.Sheet.{Expr.ite, Exprs.none, Exprs.more, Binary.plus}
 use Rattle.alpha.specs.Read.{noHead, unaryOf, binaries, binaryOf}
 use Rattle.alpha.specs.Typing.{agree, giving, integers, booleans, unarySort, binarySort, ifSort, typeOf, typesOf, agreeing}
 use Rattle.alpha.specs.Written.{branchCount}
-use Rattle.laws.specs.At.{codeOf, nodeRead, nodeEnd, At, AllAt}
+use Rattle.laws.specs.At.{codeOf, nodeSize, nodeRead, nodeEnd, At, AllAt}
 use Rattle.laws.specs.Children.{childrenOf, arity}
 use Rattle.laws.specs.Sheets.{headsOf, varsOf}
 use Rattle.laws.proofs.Readers.{counted-is}
-use Rattle.laws.proofs.Nodes.{nodeSize, NodeAt}
+use Rattle.laws.proofs.Nodes.{NodeAt}
 use Rattle.laws.proofs.Shapes.{at-var, at-int, at-boo, at-un, at-bin, at-ite, allAt-none}
 use Rattle.laws.proofs.Children.{at-children}
 use Rattle.tree.specs.declared.Typed.{Typed}
