@@ -25,7 +25,7 @@ use Rattle.affine.specs.Value.{mapOf}
 use Rattle.tree.specs.declared.Class.the-variants.{Leaf, Operator, Case, Restriction, Dependence}
 use Rattle.tree.specs.Classes.{classOf, classAt}
 use Rattle.tree.specs.Standing.{NodedAs}
-use Rattle.tree.proofs.Classes.{leaf-node, operator-node, case-node, restriction-node, dependence-node, node-here, size-here}
+use Rattle.tree.proofs.Classes.{leaf-node, operator-node, case-node, restriction-node, dependence-node, node-here, size-here, end-far}
 use Rattle.domain.specs.Constraints.{constraintsFields}
 use Rattle.domain.proofs.Restrictions.{restriction-says}
 use Rattle.normal.specs.declared.Pen.{Pen}
@@ -202,6 +202,32 @@ pub room-high : (dry : Bool) (out : List ℕ) → roomOf dry out ≤ 2 ^ 40
 room-high true out = omega arith
 room-high false out = omega arith
 
+-- ---- an operator as it is stored
+
+module _ (bs : List ℕ) (p : ℕ) (h : NodedAs bs p Operator) where
+  abbrev operator : Node
+  operator = nodeRead (varsOf bs) bs p
+
+  -- its code, at least
+  pub operator-long : 8 ≤ nodeSize operator
+  operator-long = omega (arith, size-here bs p (h .noded), end-far bs p (h .noded))
+
+  pub if-stores : (to : ℕ) (out : List ℕ) {a : List ℕ} → codeOf operator ≡ 5 → a ≡ sets out to (nat 5) → (m : Map) → Stores bs p m true to out a
+  if-stores to out five first m = first ∙ ap (sets out to) (sym (if-out (mapOf m) operator (h .class-is) five))
+
+  -- and but for an if one field more
+  module _ (other : codeOf operator ≡ 5 → ⊥) where
+    pub two-long-here : nodeSize operator ≡ 16
+    two-long-here =
+        operator-node (λ nd. (codeOf nd ≡ 5 → ⊥) → nodeSize nd ≡ 16) (λ o e. refl) (λ o e. refl) (λ e. absurd (e refl)) operator (h .class-is) other
+
+    pub two-there : p + 16 ≤ length bs
+    two-there = omega (arith, two-long-here, node-here bs p (h .noded) .there)
+
+    pub two-stores : (to : ℕ) (out : List ℕ) {a : List ℕ} → a ≡ sets out to (twoFields bs p) → (m : Map) → Stores bs p m true to out a
+    two-stores to out first m =
+        first ∙ ap (sets out to) (sym (operator-out bs p (mapOf m) operator (h .class-is) other (node-here bs p (h .noded))))
+
 -- ---- the ways through what stores and measures a node
 
 module _ (bs : List ℕ) (p : ℕ) (m : Map) where
@@ -255,34 +281,16 @@ module _ (bs : List ℕ) (p : ℕ) (m : Map) where
         omega (arith, s .fits-room, ap length leaf-is, length-append (mapBytes (mapOf m)) (twoFields bs p), map-long m, two-fields-long bs p)
 
   module _ (h : NodedAs bs p Operator) where
-    operator-is : (codeOf here ≡ 5 → ⊥) → ofTree here (mapOf m) 0 .out ≡ twoFields bs p
-    operator-is other = operator-out bs p (mapOf m) here (h .class-is) other (node-here bs p (h .noded))
-
-    pub operator-stores : (to : ℕ) (out : List ℕ) {a : List ℕ} → (codeOf here ≡ 5 → ⊥) → a ≡ sets out to (twoFields bs p) →
-        Stores bs p m true to out a
-    operator-stores to out other first = first ∙ ap (sets out to) (sym (operator-is other))
-
-    pub if-stores : (to : ℕ) (out : List ℕ) {a : List ℕ} → codeOf here ≡ 5 → a ≡ sets out to (nat 5) → Stores bs p m true to out a
-    if-stores to out five first = first ∙ ap (sets out to) (sym (if-out (mapOf m) here (h .class-is) five))
+    operator-size : (level : ℕ) → record { to = nodeSize here; things = 1; deep = 0 } ≡ moves (ofTree here (mapOf m) level)
+    operator-size level = operator-moves m level here (h .class-is)
 
     pub operator-sizes : (level k : ℕ) → k ≡ nodeEnd (varsOf bs) bs p → Sizes bs p m true level (record { to = k - p; things = 1; deep = 0 })
     operator-sizes level k next =
         let size : k - p ≡ nodeSize here = omega (arith, size-here bs p (h .noded)) in
-        ap (λ n. record { to = n; things = 1; deep = 0 }) size ∙ operator-moves m level here (h .class-is)
+        ap (λ n. record { to = n; things = 1; deep = 0 }) size ∙ operator-size level
 
-    pub operator-room : (to room : ℕ) → Spot bs p m true to room → (codeOf here ≡ 5 → ⊥) → to + 16 ≤ room
-    operator-room to room s other = omega (arith, s .fits-room, ap length (operator-is other), two-fields-long bs p)
-
-    pub if-room : (to room : ℕ) → Spot bs p m true to room → codeOf here ≡ 5 → to + 8 ≤ room
-    if-room to room s five = omega (arith, s .fits-room, ap length (if-out (mapOf m) here (h .class-is) five), length-nat 5)
-
-    -- one field more than the code is there, but for an if
-    pub operator-there : (codeOf here ≡ 5 → ⊥) → p + 16 ≤ length bs
-    operator-there other = go here (h .class-is) other (node-here bs p (h .noded))
-      where
-        go : (nd : Node) → classOf nd ≡ Operator → (codeOf nd ≡ 5 → ⊥) → Here bs p nd → p + 16 ≤ length bs
-        go = operator-node (λ nd. (codeOf nd ≡ 5 → ⊥) → Here bs p nd → p + 16 ≤ length bs) (λ o other at. omega (arith, at .there))
-            (λ o other at. omega (arith, at .there)) (λ other at. absurd (other refl))
+    pub operator-room : (to room : ℕ) → Spot bs p m true to room → to + nodeSize here ≤ room
+    operator-room to room s = omega (arith, s .fits-room, ap (λ z. z .to) (operator-size 0))
 
   module _ (h : NodedAs bs p Restriction) where
     pub limits-stores : (to k n : ℕ) (out : List ℕ) {a : List ℕ} → k ≡ natAbs (field bs (p + 16)) → n ≡ natAbs (field bs (p + 8)) →

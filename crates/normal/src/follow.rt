@@ -48,20 +48,8 @@ pub fn follow(
         Class::Operator => {
             let now = visit(s, at, m, tree, dry, level, out, pen);
             let many = children(s, at);
-            follow_all(
-                s,
-                next,
-                left - 1,
-                many,
-                b,
-                of,
-                m,
-                tree,
-                dry,
-                level + 1,
-                out,
-                now,
-            )
+            let down = level + 1;
+            follow_all(s, next, left - 1, many, b, of, m, tree, dry, down, out, now)
         }
         Class::Case => {
             let c = choose(s, next, left - 1, children(s, at), b, of);

@@ -17,11 +17,14 @@ ghost use mathlib.Core.Bool.{true, false};
 ghost use Prim.Native.Nat.{_+_, _^_, _≤_, max};
 ghost use lib.ListN.{length};
 ghost use lib.Seq.{sets};
+ghost use Rattle.laws.specs.At.{nodeRead};
 ghost use Rattle.laws.specs.Sheets.{varsOf};
+ghost use Rattle.laws.proofs.Nodes.{nodeSize};
+ghost use Rattle.affine.specs.declared.Map.{Map};
 ghost use Rattle.affine.specs.Value.{Neat};
 ghost use Rattle.tree.specs.declared.Class.the-variants.{Leaf, Operator};
 ghost use Rattle.tree.specs.Classes.{classAt};
-ghost use Rattle.tree.specs.Standing.{Noded};
+ghost use Rattle.tree.specs.Standing.{Noded, NodedAs};
 ghost use Rattle.normal.specs.Followed.{roomOf, Visits};
 ghost use Rattle.normal.specs.Spot.{twoFields, Spot, Stop, Sized, Stores, Sizes};
 
@@ -45,10 +48,10 @@ fn put_leaf(s: &[u8], at: usize, m: Map, out: &mut [u8], to: usize)
     put_two(s, at, out, to + (24 + m.height * (8 * m.width + 8)));
 }
 
-// An operator as it is: its code, and but for an if one field more.
-fn put_operator(s: &[u8], at: usize, m: Map, out: &mut [u8], to: usize)
-    requires { ⌜ Spot (now s) at m true to (length (now out)) × (classAt (now s) at ≡ Operator) ⌝ }
-    ensures { λ _. ⌜ Stores (now (s .entry)) at m true to (now (out .entry)) (now (out .exit)) ⌝ }
+// An operator as it is, whatever the map: its code, and but for an if one field more.
+fn put_operator(s: &[u8], at: usize, out: &mut [u8], to: usize)
+    requires { ⌜ NodedAs (now s) at Operator × (to + nodeSize (nodeRead (varsOf (now s)) (now s) at) ≤ length (now out)) ⌝ }
+    ensures { λ _. ⌜ ((m : Map) → Stores (now (s .entry)) at m true to (now (out .entry)) (now (out .exit))) ⌝ }
 {
     let kind = operator_of(s, at);
     match kind {
@@ -66,7 +69,7 @@ fn put_node(s: &[u8], at: usize, m: Map, out: &mut [u8], to: usize)
     let class = class_of(s, at);
     match class {
         Class::Leaf => put_leaf(s, at, m, out, to),
-        Class::Operator => put_operator(s, at, m, out, to),
+        Class::Operator => put_operator(s, at, out, to),
         Class::Case => {}
         Class::Restriction => {}
         Class::Dependence => {}

@@ -100,7 +100,7 @@ count-tree-sub-count-trees : (t : ℕ) → count-tree-lts.Need-sub-count-trees (
 count-tree-sub-count-trees t c = omega (arith, some t (start t (c .before .before)))
 
 count-tree-children-requires : (t : ℕ) → count-tree-lts.Need-children-requires (count-tree-uses t) (count-tree-at t) count-tree.Post
-count-tree-children-requires t c κs = standing-noded _ _ _ _ (start t ((c .before .before)) .pre .1)
+count-tree-children-requires t c κs = standing-noded _ _ _ _ (start t (c .before .before) .pre .1)
 
 count-tree-count-trees-requires : (t : ℕ) → count-tree-lts.Need-count-trees-requires (count-tree-uses t) (count-tree-at t) count-tree.Post
 count-tree-count-trees-requires t c κs =
@@ -117,7 +117,7 @@ count-tree-sub-count-trees-2 : (t : ℕ) → count-tree-lts.Need-sub-count-trees
 count-tree-sub-count-trees-2 t c = omega (arith, some t (start t (c .before .before)))
 
 count-tree-children-requires-2 : (t : ℕ) → count-tree-lts.Need-children-requires-2 (count-tree-uses t) (count-tree-at t) count-tree.Post
-count-tree-children-requires-2 t c κs = standing-noded _ _ _ _ (start t ((c .before .before)) .pre .1)
+count-tree-children-requires-2 t c κs = standing-noded _ _ _ _ (start t (c .before .before) .pre .1)
 
 count-tree-count-trees-requires-2 : (t : ℕ) → count-tree-lts.Need-count-trees-requires-2 (count-tree-uses t) (count-tree-at t) count-tree.Post
 count-tree-count-trees-requires-2 t c κs =

@@ -119,11 +119,11 @@ follow-visit-requires-2 t c κs =
 follow-children-requires : (t : ℕ) → follow-lts.Need-children-requires (follow-uses t) (follow-at t) follow.Post
 follow-children-requires t c κs = noded t (start t (c .before .before .before .before .before .before))
 
+follow-add-down : (t : ℕ) → follow-lts.Need-add-down (follow-uses t) (follow-at t) follow.Post
+follow-add-down t c = omega (arith, start t (c .before .before .before .before .before .before .before) .pre .1 .level-low)
+
 follow-sub-follow-all : (t : ℕ) → follow-lts.Need-sub-follow-all (follow-uses t) (follow-at t) follow.Post
 follow-sub-follow-all t c = omega (arith, some t (start t (c .before .before .before .before .before .before .before)))
-
-follow-add-follow-all : (t : ℕ) → follow-lts.Need-add-follow-all (follow-uses t) (follow-at t) follow.Post
-follow-add-follow-all t c = omega (arith, start t ((c .before .before .before .before .before .before .before)) .pre .1 .level-low)
 
 follow-follow-all-requires : (t : ℕ) → follow-lts.Need-follow-all-requires (follow-uses t) (follow-at t) follow.Post
 follow-follow-all-requires t c κs =
@@ -382,8 +382,8 @@ pub +follow+follow-all-spec : {M : Type 1} → statement M
     (follow-enum-told-2 t)
     (follow-visit-requires-2 t)
     (follow-children-requires t)
+    (follow-add-down t)
     (follow-sub-follow-all t)
-    (follow-add-follow-all t)
     (follow-follow-all-requires t)
     (follow-enum-told-3 t)
     (follow-sub-choose t)

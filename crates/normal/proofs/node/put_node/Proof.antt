@@ -2,8 +2,10 @@
 use mathlib.Core.Path.{_≡_, sym, _∙_}
 use mathlib.Core.Bool.{true}
 use Rattle.tree.specs.declared.Class.{Class}
+use Rattle.tree.specs.declared.Class.the-variants.{Operator}
 use Rattle.tree.specs.Classes.{classAt}
-use Rattle.normal.proofs.Spots.{nothing-stored, case-silent, restriction-bare, dependence-silent}
+use Rattle.tree.specs.Standing.{NodedAs}
+use Rattle.normal.proofs.Spots.{operator-room, nothing-stored, case-silent, restriction-bare, dependence-silent}
 use borrow.Author.Needs.{needs}
 use Rattle.normal.proofs.node.put_node.Statement.{statement}
 use Rattle.normal.proofs.node.put_node.Tie as tie
@@ -26,7 +28,12 @@ enum-told-2 : tie.Need-enum-told-2
 enum-told-2 c = search needs
 
 put-operator-requires : tie.Need-put-operator-requires
-put-operator-requires c κs = (c .before .before .before .before .before .before .pre, class (c .before .before .before) (c .before .enum-told2 .given .1))
+put-operator-requires c κs =
+    let here = c .before .before .before in
+    let s = here .before .before .before in
+    let operates : NodedAs (s .args .s .now) (s .args .at) Operator =
+    record { noded = s .pre .noded; class-is = class here (c .before .enum-told2 .given .1) } in
+    (operates, operator-room _ _ (s .args .m) operates _ _ (s .pre))
 
 enum-told-3 : tie.Need-enum-told-3
 enum-told-3 c = search needs
@@ -47,7 +54,7 @@ same-length-2 : tie.Need-same-length-2
 same-length-2 c = search needs
 
 returns-2 : tie.Need-returns-2
-returns-2 c = c .before .before .put-operator .ensures
+returns-2 c = c .before .before .put-operator .ensures (c .before .before .before .before .before .before .before .before .before .args .m)
 
 returns-3 : tie.Need-returns-3
 returns-3 c =

@@ -4,20 +4,15 @@ use Prim.Native.Nat.{ℕ}
 use native.Mathlib.Omega.{arith}
 use Rattle.laws.specs.At.{codeOf, nodeRead}
 use Rattle.laws.specs.Sheets.{varsOf}
-use Rattle.tree.specs.declared.Class.the-variants.{Operator}
 use Rattle.tree.specs.declared.OperatorKind.the-variants.{Unary, Binary, If}
 use Rattle.tree.specs.Classes.{operatorCode}
-use Rattle.tree.specs.Standing.{NodedAs}
-use Rattle.normal.proofs.Spots.{operator-stores, if-stores, operator-room, if-room, operator-there}
+use Rattle.normal.proofs.Spots.{operator-long, if-stores, two-long-here, two-there, two-stores}
 use borrow.Author.Needs.{needs}
 use Rattle.normal.proofs.node.put_operator.Statement.{statement}
 use Rattle.normal.proofs.node.put_operator.Tie as tie
 
-an-operator : (s : tie.Start) → NodedAs (s .args .s .now) (s .args .at) Operator
-an-operator s = record { noded = s .pre .0 .noded; class-is = s .pre .1 }
-
 operator-of-requires : tie.Need-operator-of-requires
-operator-of-requires c κs = an-operator (c .before .before)
+operator-of-requires c κs = c .before .before .pre .0
 
 enum-told : tie.Need-enum-told
 enum-told c = search needs
@@ -44,7 +39,7 @@ put-two-requires c κs =
     let here = c .before .before .before in
     let s = start here in
     let other = unary here (c .before .enum-told .given .1) in
-    (operator-there _ _ (s .args .m) (an-operator s) other, operator-room _ _ (s .args .m) (an-operator s) _ _ (s .pre .0) other)
+    (two-there _ _ (s .pre .0) other, omega (arith, s .pre .1, two-long-here _ _ (s .pre .0) other))
 
 enum-told-2 : tie.Need-enum-told-2
 enum-told-2 c = search needs
@@ -54,7 +49,7 @@ put-two-requires-2 c κs =
     let here = c .before .before .before in
     let s = start here in
     let other = binary here (c .before .enum-told2 .given .1) in
-    (operator-there _ _ (s .args .m) (an-operator s) other, operator-room _ _ (s .args .m) (an-operator s) _ _ (s .pre .0) other)
+    (two-there _ _ (s .pre .0) other, omega (arith, s .pre .1, two-long-here _ _ (s .pre .0) other))
 
 enum-told-3 : tie.Need-enum-told-3
 enum-told-3 c = search needs
@@ -63,7 +58,7 @@ put-nat-requires : tie.Need-put-nat-requires
 put-nat-requires c κs =
     let here = c .before .before .before in
     let s = start here in
-    if-room _ _ (s .args .m) (an-operator s) _ _ (s .pre .0) (an-if here (c .before .enum-told3 .given .1))
+    omega (arith, s .pre .1, operator-long _ _ (s .pre .0))
 
 same-length : tie.Need-same-length
 same-length c = search needs
@@ -72,7 +67,7 @@ returns : tie.Need-returns
 returns c =
     let here = c .before .before .before .before .before .before in
     let s = start here in
-    operator-stores _ _ (s .args .m) (an-operator s) (s .args .to) (s .args .out .now) (unary here (c .before .before .before .before .enum-told .given .1))
+    two-stores _ _ (s .pre .0) (unary here (c .before .before .before .before .enum-told .given .1)) (s .args .to) (s .args .out .now)
     (c .before .before .put-two .ensures)
 
 same-length-2 : tie.Need-same-length-2
@@ -82,7 +77,7 @@ returns-2 : tie.Need-returns-2
 returns-2 c =
     let here = c .before .before .before .before .before .before in
     let s = start here in
-    operator-stores _ _ (s .args .m) (an-operator s) (s .args .to) (s .args .out .now) (binary here (c .before .before .before .before .enum-told2 .given .1))
+    two-stores _ _ (s .pre .0) (binary here (c .before .before .before .before .enum-told2 .given .1)) (s .args .to) (s .args .out .now)
     (c .before .before .put-two2 .ensures)
 
 same-length-3 : tie.Need-same-length-3
@@ -92,7 +87,7 @@ returns-3 : tie.Need-returns-3
 returns-3 c =
     let here = c .before .before .before .before .before .before in
     let s = start here in
-    if-stores _ _ (s .args .m) (an-operator s) (s .args .to) (s .args .out .now) (an-if here (c .before .before .before .before .enum-told3 .given .1))
+    if-stores _ _ (s .pre .0) (s .args .to) (s .args .out .now) (an-if here (c .before .before .before .before .enum-told3 .given .1))
     (c .before .before .put-nat .ensures)
 
 pub put-operator-spec : {M : Type 1} → statement M
