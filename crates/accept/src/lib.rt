@@ -1,4 +1,6 @@
 // The check of a sheet, refusals 1 to 11 in their order, and the calls that ask about an accepted one. Assumes nothing.
+#![tactic(auto)]
+
 ghost use Rattle.std.specs.Prelude.{ℕ, ◌≤◌, ◌≡◌, length};
 ghost use Rattle.alpha.specs.Answer.{accepted};
 ghost use Rattle.alpha.specs.Ask.{no_part, part_of, body_part, numbered};
@@ -71,7 +73,7 @@ pub fn check(s: &[u8]) -> Verdict
 }
 
 // A part of a sheet: where it starts, and how long it is.
-#[derive(Drop)]
+#[derive(Clone, Copy)]
 pub struct Part {
     pub start: usize,
     pub len: usize,

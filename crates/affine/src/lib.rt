@@ -1,6 +1,8 @@
 // Affine rows and maps by value, with up to four rows and columns: a row at a point, a map's image, one map after another, how far a
 // row reaches, and a map read from a sheet. What lies beyond a map's rows and columns is 0 (specs/Value.antt), and sizes that are
 // below 2^63 keep every sum in an i64 (specs/Size.antt). Assumes nothing.
+#![tactic(auto)]
+
 ghost use Rattle.std.specs.Prelude.{◌≡◌, ℕ, ◌+◌, ◌*◌, ◌^◌, ◌≤◌, ◌<◌, max, length, pos, nat_abs, ◌+ℤ◌, ◌*ℤ◌};
 ghost use Rattle.alpha.specs.Affine as Affine;
 ghost use Rattle.alpha.specs.Reach.{sizes, row_reach, map_reach};
@@ -14,13 +16,13 @@ ghost use Rattle.alpha.specs.Field.{field};
 use alpha::Int;
 use integer::{add, mul};
 
-#[derive(Drop)]
+#[derive(Clone, Copy)]
 pub struct Row {
     pub coef: [Int; 4],
     pub constant: Int,
 }
 
-#[derive(Drop)]
+#[derive(Clone, Copy)]
 pub struct Map {
     pub rows: [Row; 4],
     pub height: usize,
@@ -28,7 +30,7 @@ pub struct Map {
 }
 
 // A row's reach, or that it passes 2^40.
-#[derive(Drop)]
+#[derive(Clone, Copy)]
 pub enum Reached {
     Within(u64),
     Past,

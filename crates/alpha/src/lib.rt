@@ -1,16 +1,18 @@
 // What the public calls answer. A refusal carries its place; specs/Verdict.antt gives document 01's number, place, code and value
 // for each case, and the promises of specs/Promise.antt speak through it. Assumes nothing.
+#![tactic(auto)]
+
 ghost use Rattle.std.specs.Prelude.{◌≡◌};
 ghost use Rattle.alpha.specs.Verdict.{number_of, place_of, code_for, value_for};
 
 // A signed number by itself. Inside a struct it is the number; a bare i64 is its bits, read back at every use.
-#[derive(Drop)]
+#[derive(Clone, Copy)]
 pub struct Int {
     pub v: i64,
 }
 
 // A refusal with its place: a byte offset, a variable's number, an element's number, an index or a length, as its case has it.
-#[derive(Drop)]
+#[derive(Clone, Copy)]
 pub enum Refusal {
     Long,
     Cut(usize),
@@ -30,14 +32,14 @@ pub enum Refusal {
 }
 
 // What a call answers: a number (an element total, a length written, an element's number), or a refusal.
-#[derive(Drop)]
+#[derive(Clone, Copy)]
 pub enum Verdict {
     Accepted(usize),
     Refused(Refusal),
 }
 
 // The outcome of an element.
-#[derive(Drop)]
+#[derive(Clone, Copy)]
 pub enum Outcome {
     Outside,
     Value(Int),

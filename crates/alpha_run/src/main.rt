@@ -3,6 +3,8 @@
 // and write, which do not say what the operating system moves: that `read_full` put the input's first bytes into the buffer until it was
 // full or the input ended, and that `write_all` wrote all of the output.
 // 81,932 bytes are enough of any input: `program-stops` of crate program's proofs/Stopping.antt.
+#![tactic(auto)]
+
 use libc::{STDIN_FILENO, STDOUT_FILENO};
 
 fn main() {

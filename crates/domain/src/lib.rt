@@ -1,6 +1,8 @@
 // Where expressions hold and where cases clash: which elements are inside their declared domain, how a tree stands at a point by one
 // walk over its nodes, which branch a case takes there, and GAP and CLASH over all elements, refusals 10 and 11 of document 01.
 // Assumes nothing.
+#![tactic(auto)]
+
 ghost use Rattle.std.specs.Prelude.{◌≡◌, length};
 ghost use Rattle.alpha.specs.Check as Check;
 ghost use Rattle.laws.specs.Sheets.{sheet_of};
@@ -21,7 +23,7 @@ mod leaf;
 mod stand;
 
 // How an expression stands at a point: it does not hold, it holds, or it holds and a case that is reached there clashes.
-#[derive(Drop)]
+#[derive(Clone, Copy)]
 pub enum Standing {
     Not,
     Holds,
@@ -29,7 +31,7 @@ pub enum Standing {
 }
 
 // How a tree stands, and the place after it.
-#[derive(Drop)]
+#[derive(Clone, Copy)]
 pub struct Stood {
     pub how: Standing,
     pub next: usize,

@@ -1,6 +1,8 @@
 // Exact signed numbers, the fields that hold them, and the checked operators of document 01. What a function means is said by a
 // definition of crate alpha; the laws that callers cite are in proofs/. Sizes (`nat_abs`) bound what goes into a sum or a product, so
 // that nothing wraps. Assumes nothing.
+#![tactic(auto)]
+
 ghost use Rattle.std.specs.Prelude.{◌≡◌, ◌+◌, ◌*◌, ◌%◌, ◌^◌, ◌≤◌, ◌<◌, length, ℤ, pos, neg_ℤ, nat_abs, ◌+ℤ◌, ◌-ℤ◌, ◌*ℤ◌};
 ghost use Rattle.std.proofs.lemmas.List.Edits.{sets};
 ghost use Rattle.std.specs.Int.Signed.{lt_z, le_z, non_neg};

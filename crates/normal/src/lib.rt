@@ -1,6 +1,8 @@
 // The normaliser: the sheet with every body in normal form (source document 002, 8.1 to 8.3), or WIDE or ROOM. Nothing is copied but the
 // first two sections: a case has its children's branches in turn; a branch of any other tree is found by its number, counted over the tree,
 // and followed from the top down with the map composed so far, once for its constraints and once for its tree. Assumes nothing.
+#![tactic(auto)]
+
 ghost use Rattle.alpha.specs.Promise.{Normalises};
 
 use accept::judge;
@@ -21,7 +23,7 @@ mod turn;
 mod write;
 
 // A branch of a case: where the child stands that it comes from, which of the child's branches it is, and how many the child has.
-#[derive(Drop)]
+#[derive(Clone, Copy)]
 pub struct Chosen {
     pub at: usize,
     pub b: usize,
@@ -30,7 +32,7 @@ pub struct Chosen {
 
 // A combination of operands: which branch of the first, and how many that has; where the others start, which combination of them, and among
 // how many.
-#[derive(Drop)]
+#[derive(Clone, Copy)]
 pub struct Split {
     pub b: usize,
     pub of: usize,
@@ -40,14 +42,14 @@ pub struct Split {
 }
 
 // How many branches a tree has, or several have, up to 65; and where they end.
-#[derive(Drop)]
+#[derive(Clone, Copy)]
 pub struct Branches {
     pub many: usize,
     pub next: usize,
 }
 
 // How far writing has come: the place, how many things are written (constraints, or nodes), and how deep the deepest lies.
-#[derive(Drop)]
+#[derive(Clone, Copy)]
 pub struct Pen {
     pub to: usize,
     pub things: usize,
@@ -55,7 +57,7 @@ pub struct Pen {
 }
 
 // What a branch, or several, take in the normal form: sums of nodes and bytes, and the most constraints and levels.
-#[derive(Drop)]
+#[derive(Clone, Copy)]
 pub struct Taken {
     pub nodes: usize,
     pub bytes: usize,
@@ -64,7 +66,7 @@ pub struct Taken {
 }
 
 // The totals of the normal form: nodes, and bytes with the first two sections and the node count; or WIDE at a variable.
-#[derive(Drop)]
+#[derive(Clone, Copy)]
 pub enum Plan {
     Total { nodes: usize, bytes: usize },
     WideAt(usize),

@@ -1,6 +1,8 @@
 // The five public calls for C and for what calls C. Each is the call of its crate with the answer packed into one number of 64 bits
 // (specs/Packed.antt). A slice is passed as a pointer and a length in entries. Assumes that each pointer and length are a readable
 // stretch, of a lent output also writable, and that no lent output overlaps another argument; include/okelizanshu.h says so.
+#![tactic(auto)]
+
 ghost use Rattle.std.specs.Prelude.{ℕ, ◌≡◌};
 ghost use Rattle.alpha.specs.Ask.{element_number, body_part};
 ghost use Rattle.alpha.specs.Check.{check};

@@ -1,5 +1,7 @@
 // Points of boxes: the number of a point, and the point of a number, the last coordinate fastest. A box is read where its ranges stand:
 // `index_in` and `point_in` take the place of the first and how many there are, `index` and `point` a variable's record. Assumes nothing.
+#![tactic(auto)]
+
 ghost use Rattle.std.specs.Prelude.{◌≡◌, ◌≤◌, ◌<◌, pos, ◌+ℤ◌};
 ghost use Rattle.alpha.specs.Box.{size};
 ghost use Rattle.alpha.specs.Field.{field};
@@ -11,7 +13,7 @@ use alpha::Int;
 use sheet::range::side;
 
 // The number of a point in a box, or that it is not in the box.
-#[derive(Drop)]
+#[derive(Clone, Copy)]
 pub enum Found {
     At(usize),
     Off,

@@ -5,7 +5,7 @@ ghost use Rattle.program.specs.Given.{Frames, Lists};
 use alpha::Refusal;
 
 // The sheet stands from byte 8 up to a place, and the values from there on; or there is no sheet.
-#[derive(Drop)]
+#[derive(Clone, Copy)]
 pub enum Frame {
     Sheet(usize),
     Refused(Refusal),

@@ -1,5 +1,7 @@
 // The run of a sheet over an input list: the sheet's refusals, INPUT, ROOM, or both tables filled, each variable's stretch in its own
 // place. Assumes nothing.
+#![tactic(auto)]
+
 ghost use Rattle.alpha.specs.Promise.{Runs};
 
 use alpha::{Refusal, Verdict};

@@ -1,6 +1,8 @@
 // Reading a sheet: its fields in order, the first fault deciding, refusals 1 to 6 of document 01. `read` answers what crate alpha's
 // definition of reading answers and fills the table of places that the layers above go by (table.rt, specs/Table.antt).
 // Nothing of the sheet is copied. Assumes nothing.
+#![tactic(auto)]
+
 ghost use Rattle.std.specs.Prelude.{◌≡◌, length, take, ltb};
 ghost use Rattle.alpha.specs.Verdict.{told};
 ghost use Rattle.sheet.specs.Place.{place_after, passed};
@@ -24,7 +26,7 @@ pub mod table;
 mod variable;
 
 // How far reading came: the next place, or the refusal.
-#[derive(Drop)]
+#[derive(Clone, Copy)]
 pub enum Pass {
     To(usize),
     Refused(Refusal),

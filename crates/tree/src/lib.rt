@@ -2,6 +2,8 @@
 // of crate alpha says of it. A walk does each node alike, and then its children one after another.
 // `forms` is the check of SHAPE, TYPE and REACH over all variables, refusals 7, 8 and 9 of document 01.
 // Assumes nothing.
+#![tactic(auto)]
+
 ghost use Rattle.tree.specs.Prepared.{Prepared};
 ghost use Rattle.tree.specs.Formed.{Forms};
 
@@ -22,7 +24,7 @@ pub mod typing;
 pub mod variable;
 
 // What kind of node a code stands for. Every walk over nodes goes by it, case by case: a new kind of node is a new case here.
-#[derive(Drop)]
+#[derive(Clone, Copy)]
 pub enum Class {
     Leaf,
     Operator,
@@ -32,7 +34,7 @@ pub enum Class {
 }
 
 // The leaves: a variable, or a constant.
-#[derive(Drop)]
+#[derive(Clone, Copy)]
 pub enum LeafKind {
     Variable,
     Integer,
@@ -40,7 +42,7 @@ pub enum LeafKind {
 }
 
 // The operators, by their operands: one, two, or the three of an if.
-#[derive(Drop)]
+#[derive(Clone, Copy)]
 pub enum OperatorKind {
     Unary,
     Binary,
@@ -49,14 +51,14 @@ pub enum OperatorKind {
 
 // What a place was found to hold where a tree of some dimension is wanted: a tree that fits, with the place after it and the nodes
 // left, or none.
-#[derive(Drop)]
+#[derive(Clone, Copy)]
 pub enum Shaped {
     Fits { next: usize, left: usize },
     Bad,
 }
 
 // The type of a tree, with the place after it; or a type rule is broken.
-#[derive(Drop)]
+#[derive(Clone, Copy)]
 pub enum Typed {
     Integer(usize),
     Boolean(usize),
@@ -64,14 +66,14 @@ pub enum Typed {
 }
 
 // The place after a tree in which nothing passes 2^40; or something does.
-#[derive(Drop)]
+#[derive(Clone, Copy)]
 pub enum Bounded {
     Next(usize),
     Beyond,
 }
 
 // What a rule over all variables says: each passes, or the first that does not is refused.
-#[derive(Drop)]
+#[derive(Clone, Copy)]
 pub enum Ruling {
     Passes,
     Refused(Refusal),
