@@ -15,7 +15,7 @@ fn between(b: u8, lo: u8, hi: u8) -> bool
 fn is_letter(b: u8) -> bool
     ensures { result ≡ letter b }
 {
-    if between(b, b'_a', b'_z') {
+    if between(b, b'A', b'Z') {
         return true;
     }
     if between(b, b'a', b'z') {
