@@ -1,0 +1,27 @@
+-- `name_tail` meets its contract. The invariant: the bytes left continue a name where those at the start do. Assumes nothing.
+use borrow.Author.Rules.{rules}
+use mathlib.Core.Path.{◌≡◌, refl, sym, ◌∙◌}
+use Prim.Native.Nat.{◌≤◌, ◌+◌}
+use lib.ListN.{length}
+use Rattle.alpha.specs.Field.{name_tail}
+use Rattle.sheet.specs.Name.{bytes_at}
+use Rattle.sheet.proofs.Names.{tail_none, tail-ends, tail_more}
+use borrow.Author.Tests.{not-true, not-false}
+use Rattle.sheet.proofs.name.name_tail.Goals as goal
+
+pub returns-then-not-in_name : goal.returns-then-not-in_name
+returns-then-not-in_name c =
+    let l = c.loop-left in
+    let f = sym c.in_name.ensures ∙ c.if-not-in_name.true in
+    c.all_zero.ensures ∙ sym (l.invariant.1 ∙ tail-ends _ l.p l.left (search rules) f)
+
+pub loop-left-preserved : goal.loop-left-preserved
+loop-left-preserved c =
+    let l = c.loop-left in
+    let t = sym c.in_name.ensures ∙ c.if-not-in_name.false in
+    (search rules, l.invariant.1 ∙ tail_more _ l.p l.left (search rules) t)
+
+pub returns : goal.returns
+returns c =
+    let l = c.loop-left in
+    sym (l.invariant.1 ∙ tail_none _ l.p l.left (search rules))
