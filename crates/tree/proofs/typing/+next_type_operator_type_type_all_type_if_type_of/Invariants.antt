@@ -1,4 +1,3 @@
-
 use borrow.Fn.PlainCycle.{Measures, is, falls, and}
 use Rattle.tree.proofs.typing.+next_type_operator_type_type_all_type_if_type_of.{statement}
 use Prim.Native.Nat.{ℕ, ◌+◌, ◌*◌, ◌<◌}
