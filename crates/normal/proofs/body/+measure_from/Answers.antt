@@ -1,0 +1,16 @@
+-- `normal::measure_from` meets its contract: a branch, and then those after it. Assumes nothing.
+use borrow.Fn.PlainCycle.{Measures, is, falls, and}
+use Rattle.normal.proofs.body.+measure_from.{statement}
+use Prim.Native.Nat.{ℕ, ◌-◌, ◌<◌}
+use mathlib.Core.Path.{ap}
+use native.Mathlib.Omega.{arith}
+use Rattle.normal.proofs.Bodies.{measure-none, measure-more}
+use Rattle.normal.proofs.body.+measure_from.Goals as goal
+
+pub returns-then-many-b : goal.returns-then-many-b
+returns-then-many-b t c = measure-none _ _ _ _ _ c.args.sofar c.if-many-b.true
+
+pub returns : goal.returns
+returns t c =
+    measure-more _ _ _ _ _ c.args.sofar c.measure-taken.result _ _ c.if-many-b.false c.measure-taken.ensures
+    c.both.ensures c.measure_from.ensures

@@ -1,0 +1,14 @@
+-- `normal::split` meets its contract: one combination is not counted; otherwise the others have those that the first one's count leaves.
+-- Assumes nothing.
+use Rattle.normal.proofs.Counting.{operand-standing, one_split, first_some, rest_some, counted-split}
+use Rattle.normal.proofs.choose.split.Goals as goal
+
+pub nonzero_div-branch : goal.nonzero_div-branch
+nonzero_div-branch c = rest_some _ _ _ _ _ c.requires _ c.count_tree-first.ensures.0
+
+pub nonzero_rem-rest : goal.nonzero_rem-rest
+nonzero_rem-rest c = rest_some _ _ _ _ _ c.requires _ c.count_tree-first.ensures.0
+
+pub returns : goal.returns
+returns c =
+    counted-split _ _ _ _ _ c.requires _ c.count_tree-first.ensures.0 _ c.count_tree-first.ensures.1

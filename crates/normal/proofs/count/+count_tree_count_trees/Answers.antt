@@ -1,0 +1,141 @@
+-- `normal::count_tree` and `normal::count_trees` meet their contracts, class by class: a leaf has one branch, an operator its operands'
+-- combinations, a case its children's branches, any other node its child's; and a tree ends where its children end. Assumes nothing.
+use borrow.Fn.PlainCycle.{Measures, is, falls, and}
+use Rattle.normal.proofs.count.+count_tree_count_trees.{statement}
+use Prim.Native.Nat.{ℕ, ◌+◌, ◌*◌, ◌≤◌, ◌<◌}
+use mathlib.Core.Path.{◌≡◌, sym, ◌∙◌}
+use native.Mathlib.Omega.{arith}
+use borrow.Author.Rules.{rules}
+use Rattle.laws.specs.Sheets.{vars_of}
+use Rattle.tree.specs.declared.Class.{Class}
+use Rattle.tree.specs.Standing.{NodedAs, StandingAll}
+use Rattle.tree.specs.Ends.{AllEnd}
+use Rattle.tree.proofs.Classes.{restriction-arity, dependence-arity}
+use Rattle.tree.proofs.Standings.{standing-noded, standing-some, standing-children, first-standing, rest-standing, node-ends, none-ends, more-ends}
+use Rattle.normal.specs.Counted.{CountsAll}
+use Rattle.normal.proofs.Counting.{leaf-way, leaf-ends, operator-way, case-way, restriction-below, dependence-below, below-standing, below-way, below-ends}
+use Rattle.normal.proofs.Counting.{none-way, more-way}
+use Rattle.normal.proofs.count.+count_tree_count_trees.Goals.{count_tree-After-node_end-next, count_tree-Start}
+use Rattle.normal.proofs.count.+count_tree_count_trees.Goals as goal
+
+-- the class that is told in an arm is the node's
+class : (t : ℕ) (c : count_tree-After-node_end-next t) {k : Class} →
+    c.before.class_of.result ≡ k → NodedAs (start t c).args.s.now (start t c).args.at k
+class t c told =
+    record {
+  noded = standing-noded _ _ _ _ c.requires;
+  class-is = sym c.class_of-class.ensures ∙ told;
+}
+
+-- there is a node left
+some : (t : ℕ) (c : count_tree-Start t) → 1 ≤ c.args.left
+some t c = standing-some _ _ _ _ c.requires
+
+pub count_tree-class_of-class-requires : goal.count_tree-class_of-class-requires
+count_tree-class_of-class-requires t c = standing-noded _ _ _ _ c.requires
+
+pub count_tree-node_end-next-requires : goal.count_tree-node_end-next-requires
+count_tree-node_end-next-requires t c = standing-noded _ _ _ _ c.requires
+
+pub count_tree-overflow_sub-left : goal.count_tree-overflow_sub-left
+count_tree-overflow_sub-left t c = omega (arith, some t (goal.at.count_tree-overflow_sub-left t c).Start)
+
+pub count_tree-children-requires : goal.count_tree-children-requires
+count_tree-children-requires t c = standing-noded _ _ _ _ c.requires
+
+pub count_tree-count_trees-requires : goal.count_tree-count_trees-requires
+count_tree-count_trees-requires t c =
+    let left = some t (goal.at.count_tree-count_trees-requires t c).Start in
+    let is = c.decreases in
+    (omega arith, (standing-children _ _ _ _ c.requires _ _ c.node_end-next.ensures c.children.ensures, omega arith))
+
+pub count_tree-overflow_sub-left-in-Case : goal.count_tree-overflow_sub-left-in-Case
+count_tree-overflow_sub-left-in-Case t c = omega (arith, some t (goal.at.count_tree-overflow_sub-left-in-Case t c).Start)
+
+pub count_tree-children-requires-in-Case : goal.count_tree-children-requires-in-Case
+count_tree-children-requires-in-Case t c = standing-noded _ _ _ _ c.requires
+
+pub count_tree-count_trees-requires-in-Case : goal.count_tree-count_trees-requires-in-Case
+count_tree-count_trees-requires-in-Case t c =
+    let left = some t (goal.at.count_tree-count_trees-requires-in-Case t c).Start in
+    let is = c.decreases in
+    (omega arith, (standing-children _ _ _ _ c.requires _ _ c.node_end-next.ensures c.children-in-Case.ensures, omega arith))
+
+pub count_tree-overflow_sub-left-in-Restriction : goal.count_tree-overflow_sub-left-in-Restriction
+count_tree-overflow_sub-left-in-Restriction t c =
+    omega (arith, some t (goal.at.count_tree-overflow_sub-left-in-Restriction t c).Start)
+
+pub count_tree-count_tree-requires : goal.count_tree-count_tree-requires
+count_tree-count_tree-requires t c =
+    let left = some t (goal.at.count_tree-count_tree-requires t c).Start in
+    let is = c.decreases in
+    let restricts = class t (goal.at.count_tree-count_tree-requires t c).After-node_end-next c.in-Restriction.is in
+    (omega arith, below-standing _ _ _ c.node_end-next.ensures _ c.requires (restriction-arity _ _ restricts))
+
+pub count_tree-overflow_sub-left-in-Dependence : goal.count_tree-overflow_sub-left-in-Dependence
+count_tree-overflow_sub-left-in-Dependence t c = omega (arith, some t (goal.at.count_tree-overflow_sub-left-in-Dependence t c).Start)
+
+pub count_tree-count_tree-requires-in-Dependence : goal.count_tree-count_tree-requires-in-Dependence
+count_tree-count_tree-requires-in-Dependence t c =
+    let left = some t (goal.at.count_tree-count_tree-requires-in-Dependence t c).Start in
+    let is = c.decreases in
+    let depends = class t (goal.at.count_tree-count_tree-requires-in-Dependence t c).After-node_end-next c.in-Dependence.is in
+    (omega arith, below-standing _ _ _ c.node_end-next.ensures _ c.requires (dependence-arity _ _ depends))
+
+pub count_tree-returns-in-Leaf : goal.count_tree-returns-in-Leaf
+count_tree-returns-in-Leaf t c =
+    let a-leaf = (class t (goal.at.count_tree-returns-in-Leaf t c).After-node_end-next c.in-Leaf.is).class-is in
+    (leaf-way _ _ a-leaf, leaf-ends _ _ _ c.node_end-next.ensures a-leaf)
+
+pub count_tree-returns-in-Operator : goal.count_tree-returns-in-Operator
+count_tree-returns-in-Operator t c =
+    let counted = c.count_trees.ensures in (
+      operator-way _ _ _ c.node_end-next.ensures _ _ c.children.ensures (class t (goal.at.count_tree-returns-in-Operator t c).After-node_end-next c.in-Operator.is).class-is counted.0,
+      node-ends _ _ _ _ _ _ c.node_end-next.ensures c.children.ensures counted.1,
+    )
+
+pub count_tree-returns-in-Case : goal.count_tree-returns-in-Case
+count_tree-returns-in-Case t c =
+    let counted = c.count_trees-in-Case.ensures in (
+      case-way _ _ _ c.node_end-next.ensures _ _ c.children-in-Case.ensures (class t (goal.at.count_tree-returns-in-Case t c).After-node_end-next c.in-Case.is).class-is counted.0,
+      node-ends _ _ _ _ _ _ c.node_end-next.ensures c.children-in-Case.ensures counted.1,
+    )
+
+pub count_tree-returns-in-Restriction : goal.count_tree-returns-in-Restriction
+count_tree-returns-in-Restriction t c =
+    let next = c.node_end-next.ensures in
+    let below = restriction-below _ _ _ next (class t (goal.at.count_tree-returns-in-Restriction t c).After-node_end-next c.in-Restriction.is).class-is in
+    let counted = c.count_tree.ensures in
+    (below-way _ _ _ next below _ counted.0, below-ends _ _ _ next below _ counted.1)
+
+pub count_tree-returns-in-Dependence : goal.count_tree-returns-in-Dependence
+count_tree-returns-in-Dependence t c =
+    let next = c.node_end-next.ensures in
+    let below = dependence-below _ _ _ next (class t (goal.at.count_tree-returns-in-Dependence t c).After-node_end-next c.in-Dependence.is).class-is in
+    let counted = c.count_tree-in-Dependence.ensures in
+    (below-way _ _ _ next below _ counted.0, below-ends _ _ _ next below _ counted.1)
+
+pub count_trees-count_tree-one-requires : goal.count_trees-count_tree-one-requires
+count_trees-count_tree-one-requires t c =
+    let is = c.decreases in
+    (omega arith, first-standing _ _ _ _ _ c.loop-more-test.true c.loop-more.invariant.0)
+
+pub count_trees-loop-more-preserved : goal.count_trees-loop-more-preserved
+count_trees-loop-more-preserved t c =
+    let loop = c.loop-more in
+    let more = c.loop-more-test.true in
+    let one = c.count_tree-one.ensures in
+    let sum = c.joined-sum.ensures in (
+      rest-standing _ _ _ _ _ more loop.invariant.0 _ one.1,
+      omega (arith, sum),
+      (λ r h. loop.invariant.2 r (more-way _ _ _ c.args.branches loop.sum _ _ _ _ more one.0 one.1 sum h)),
+      (λ r h. loop.invariant.3 r (more-ends _ _ _ _ _ _ more one.1 h)),
+    )
+
+pub count_trees-returns : goal.count_trees-returns
+count_trees-returns t c =
+    let loop = c.loop-more in
+    let none = c.loop-more-test.false in (
+      loop.invariant.2 _ (none-way _ _ _ c.args.branches loop.sum (omega (arith, none)) loop.invariant.1),
+      loop.invariant.3 _ (none-ends _ _ _ _ (omega (arith, none))),
+    )

@@ -1,0 +1,14 @@
+-- `normal::copy` meets its contract. The loop's invariant: the first i bytes are stored. Assumes nothing.
+use mathlib.Core.Path.{◌≡◌, refl, ap, ◌∙◌}
+use Prim.Native.Nat.{◌-◌, ◌≤◌}
+use native.Mathlib.Omega.{arith}
+use lib.ListN.{length, get_or, take, set}
+use lib.Seq.{sets, length-sets}
+use Rattle.normal.proofs.Laying.{copied_more}
+use Rattle.normal.proofs.write.copy.Given as goal
+
+abbrev pub invariant-loop-i : goal.invariant-loop-i
+invariant-loop-i l = (l.out ≡ sets l.initial.out 0 (take l.i l.s)) × (l.i ≤ l.count)
+
+abbrev pub decreases-loop-i : goal.decreases-loop-i
+decreases-loop-i l = l.count - l.i

@@ -1,0 +1,123 @@
+-- `run::start_variable` meets its contract. The loop's invariant: the entries of the variable's first i elements are those before the run.
+-- The measure is how many are left. Assumes nothing.
+use mathlib.Core.Path.{◌≡◌, sym, ap, ◌∙◌, subst}
+use Prim.Native.Nat.{suc, ◌+◌, ◌-◌, ◌≤◌, ◌<◌}
+use native.Mathlib.Omega.{arith}
+use mathlib.Core.Bool.{true}
+use lib.ListN.{length}
+use lib.Dec.{eqb}
+use Rattle.alpha.specs.Box.{size}
+use Rattle.alpha.specs.Holds.{variable, is_input, is_input_kind}
+use Rattle.alpha.specs.Ask.{before}
+use Rattle.laws.specs.Sheets.{sheet_of}
+use Rattle.laws.proofs.Elements.{before-suc}
+use Rattle.domain.proofs.Records.{VariableLaid, laid-variable, laid-total}
+use Rattle.evaluate.specs.Memo.{memo_of}
+use Rattle.run.specs.Starting.{Started}
+use Rattle.run.proofs.Listing.{kind-test, size-input, before-step, before-count, count-total}
+use Rattle.run.proofs.Beginning.{started-next}
+use Rattle.run.proofs.start.start_variable.Goals.{After-first_element-first, After-kind_of-input, After-loop-i, In-loop-i, Start}
+use Rattle.run.proofs.start.start_variable.Goals as goal
+
+-- the variable
+laid : (c : Start) → VariableLaid c.args.s.now c.args.tab.now c.args.v
+laid c = laid-variable _ _ c.requires.0.formed.placed _ c.requires.1.known
+
+-- whether it is an input
+input-is : (c : After-kind_of-input) →
+    (laid : VariableLaid c.args.s.now c.args.tab.now c.args.v) →
+    is_input (variable (sheet_of c.args.s.now) c.args.v)
+    ≡ eqb c.kind_of-input.result 0
+input-is c laid =
+    ap (λ h. is_input_kind h.kind) laid.head-is ∙ ap is_input_kind c.kind_of-input.ensures.0 ∙ kind-test _ c.kind_of-input.ensures.1
+
+-- its first element
+first-is : (c : After-first_element-first) →
+    (laid : VariableLaid c.args.s.now c.args.tab.now c.args.v) →
+    c.first_element-first.result ≡ before (sheet_of c.args.s.now) c.args.v
+first-is c laid =
+    c.first_element-first.ensures ∙ laid.first-is
+
+-- the next is one of its elements
+many : (c : In-loop-i) →
+    (laid : VariableLaid c.args.s.now c.args.tab.now c.args.v) →
+    (first-is : c.first_element-first.result ≡ before (sheet_of c.args.s.now) c.args.v) →
+    c.loop-i.i < size (variable (sheet_of c.args.s.now) c.args.v).head.box
+many c laid first-is =
+    let l = laid in
+    omega (arith, c.loop-i-test.true, first-is, l.last-is, c.first_element.ensures)
+
+-- an input's element has an entry
+listed : (c : In-loop-i) →
+    (laid : VariableLaid c.args.s.now c.args.tab.now c.args.v) →
+    (first-is : c.first_element-first.result ≡ before (sheet_of c.args.s.now) c.args.v) →
+    is_input (variable (sheet_of c.args.s.now) c.args.v) ≡ true →
+    c.inputs_before-from.result + c.loop-i.i < length c.args.ins.now
+listed c laid first-is t =
+    let sheet = sheet_of c.args.s.now in
+    omega (
+      arith,
+      c.inputs_before-from.ensures,
+      before-step sheet c.args.v laid.known,
+      before-count sheet (suc c.args.v),
+      size-input sheet c.args.v t,
+      many c laid first-is,
+      c.requires.0.many,
+    )
+
+-- the list is short
+short : (c : Start) → length c.args.ins.now ≤ 4096
+short c =
+    omega (arith, c.requires.0.many, count-total (sheet_of c.args.s.now), laid-total _ _ c.requires.0.formed.placed)
+
+-- after its last element
+whole : (c : After-loop-i) →
+    (laid : VariableLaid c.args.s.now c.args.tab.now c.args.v) →
+    (first-is : c.first_element-first.result ≡ before (sheet_of c.args.s.now) c.args.v) →
+    before (sheet_of c.args.s.now) c.args.v + c.loop-i.i ≡ before (sheet_of c.args.s.now) (c.args.v + 1)
+whole c laid first-is =
+    let sheet = sheet_of c.args.s.now in
+    let l = laid in
+    let one : c.args.v + 1 ≡ suc c.args.v = omega arith in
+    let all = c.loop-i.invariant.1 in
+    rw one (omega (
+      arith,
+      before-suc sheet c.args.v l.known,
+      c.loop-i-test.false,
+      all,
+      first-is,
+      l.last-is,
+      c.first_element.ensures,
+    ))
+
+pub first_element-first-requires : goal.first_element-first-requires
+first_element-first-requires c = omega (arith, (laid (goal.at.first_element-first-requires c).Start).low)
+
+pub first_element-requires : goal.first_element-requires
+first_element-requires c = omega (arith, (laid (goal.at.first_element-requires c).Start).low)
+
+pub overflow_sub-size : goal.overflow_sub-size
+overflow_sub-size c =
+    let l = laid (goal.at.overflow_sub-size c).Start in omega (arith, l.first-is, l.last-is, c.first_element.ensures, c.first_element-first.ensures)
+
+pub overflow_add-from : goal.overflow_add-from
+overflow_add-from c =
+    let n = c.inputs_before-from.ensures in
+    omega (arith, n, before-count (sheet_of c.args.s.now) c.args.v, c.requires.0.many, many (goal.at.overflow_add-from c).In-loop-i (laid (goal.at.overflow_add-from c).Start) (first-is (goal.at.overflow_add-from c).After-first_element-first (laid (goal.at.overflow_add-from c).Start)), (laid (goal.at.overflow_add-from c).Start).few, short (goal.at.overflow_add-from c).Start)
+
+pub start_element-requires : goal.start_element-requires
+start_element-requires c =
+    (omega (arith, first-is (goal.at.start_element-requires c).After-first_element-first (laid (goal.at.start_element-requires c).Start), many (goal.at.start_element-requires c).In-loop-i (laid (goal.at.start_element-requires c).Start) (first-is (goal.at.start_element-requires c).After-first_element-first (laid (goal.at.start_element-requires c).Start)), (laid (goal.at.start_element-requires c).Start).few), λ t. listed (goal.at.start_element-requires c).In-loop-i (laid (goal.at.start_element-requires c).Start) (first-is (goal.at.start_element-requires c).After-first_element-first (laid (goal.at.start_element-requires c).Start)) (input-is (goal.at.start_element-requires c).After-kind_of-input (laid (goal.at.start_element-requires c).Start) ∙ t))
+
+pub loop-i-preserved : goal.loop-i-preserved
+loop-i-preserved c =
+    let here = first-is (goal.at.loop-i-preserved c).After-first_element-first (laid (goal.at.loop-i-preserved c).Start) in
+    let from = c.inputs_before-from.ensures in
+    let next = started-next _ _ _ _ (laid (goal.at.loop-i-preserved c).Start) (many (goal.at.loop-i-preserved c).In-loop-i (laid (goal.at.loop-i-preserved c).Start) (first-is (goal.at.loop-i-preserved c).After-first_element-first (laid (goal.at.loop-i-preserved c).Start))) _ c.requires.0.inside_is _ _ c.loop-i.invariant.0 _ (sym (input-is (goal.at.loop-i-preserved c).After-kind_of-input (laid (goal.at.loop-i-preserved c).Start))) in
+    (rw (c.start_element.ensures, here, from) next, omega (arith, c.loop-i-test.true))
+
+pub returns : goal.returns
+returns c =
+    let l = laid (goal.at.returns c).Start in
+    let done : before (sheet_of c.args.s.now) c.args.v + c.loop-i.i ≡ before (sheet_of c.args.s.now) (c.args.v + 1) = whole (goal.at.returns c).After-loop-i (laid (goal.at.returns c).Start) (first-is (goal.at.returns c).After-first_element-first (laid (goal.at.returns c).Start)) in
+    subst (Started _ _ _) done c.loop-i.invariant.0
