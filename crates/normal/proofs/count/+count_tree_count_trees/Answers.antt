@@ -20,12 +20,12 @@ use Rattle.normal.proofs.count.+count_tree_count_trees.Goals as goal
 
 -- the class that is told in an arm is the node's
 class : (t : ℕ) (c : count_tree-After-node_end-next t) {k : Class} →
-    c.before.class_of.result ≡ k → NodedAs (start t c).args.s.now (start t c).args.at k
+    c.class_of-class.result ≡ k → NodedAs c.args.s.now c.args.at k
 class t c told =
     record {
-  noded = standing-noded _ _ _ _ c.requires;
-  class-is = sym c.class_of-class.ensures ∙ told;
-}
+      noded = standing-noded _ _ _ _ c.requires;
+      class-is = sym c.class_of-class.ensures ∙ told;
+    }
 
 -- there is a node left
 some : (t : ℕ) (c : count_tree-Start t) → 1 ≤ c.args.left

@@ -30,8 +30,8 @@ some : (t : ℕ) (c : follow-Start t) → 1 ≤ c.args.left
 some t c = standing-some _ _ _ _ (route-standing _ _ _ _ _ _ _ _ _ _ c.requires)
 
 -- the class that is told in an arm is the node's
-class : (t : ℕ) (c : follow-After-node_end-next t) {k : Class} → c.before.class_of.result ≡ k →
-    class_at (start t c).args.s.now (start t c).args.at ≡ k
+class : (t : ℕ) (c : follow-After-node_end-next t) {k : Class} → c.class_of-class.result ≡ k →
+    class_at c.args.s.now c.args.at ≡ k
 class t c told = sym c.class_of-class.ensures ∙ told
 
 pub follow-class_of-class-requires : goal.follow-class_of-class-requires
@@ -118,7 +118,7 @@ follow-follow-requires-in-Dependence t c =
     let is = c.decreases in (
       omega arith,
       route-below _ _ _ _ _ _ _ _ _ _ c.requires (class t (goal.at.follow-follow-requires-in-Dependence t c).After-node_end-next c.in-Dependence.is) _ c.node_end-next.ensures _
-          c.TODOmap-Below@Q0QAfter-map-below.ensures,
+          c.map_below-w.ensures,
     )
 
 pub follow-returns-in-Leaf : goal.follow-returns-in-Leaf
@@ -147,19 +147,19 @@ follow-returns-in-Restriction t c =
 pub follow-returns-in-Dependence : goal.follow-returns-in-Dependence
 follow-returns-in-Dependence t c =
     let a = c.args in
-    dependence-way _ _ a.m a.b a.of a.tree a.level a.dry a.pen _ _ c.node_end-next.ensures c.TODOmap-Below@Q0QAfter-map-below.result
-    (class t (goal.at.follow-returns-in-Dependence t c).After-node_end-next c.in-Dependence.is) c.TODOmap-Below@Q0QAfter-map-below.ensures c.follow-in-Dependence.ensures
+    dependence-way _ _ a.m a.b a.of a.tree a.level a.dry a.pen _ _ c.node_end-next.ensures c.map_below-w.result
+    (class t (goal.at.follow-returns-in-Dependence t c).After-node_end-next c.in-Dependence.is) c.map_below-w.ensures c.follow-in-Dependence.ensures
 
 pub follow_all-split-c-requires : goal.follow_all-split-c-requires
 follow_all-split-c-requires t c =
     let some : 1 ≤ c.loop-more.more = omega (arith, c.loop-more-test.true) in
-    route-operand _ _ _ _ _ _ _ _ _ _ _ some t c.loop-more.invariant.0
+    route-operand _ _ _ _ _ _ _ _ _ _ _ some c.loop-more.invariant.0
 
 pub follow_all-follow-sofar-requires : goal.follow_all-follow-sofar-requires
 follow_all-follow-sofar-requires t c =
     let some : 1 ≤ c.loop-more.more = omega (arith, c.loop-more-test.true) in
     let is = c.decreases in
-    (omega arith, route-first _ _ _ _ _ _ _ _ _ _ _ some t c.loop-more.invariant.0 _ c.split-c.ensures)
+    (omega arith, route-first _ _ _ _ _ _ _ _ _ _ _ some c.loop-more.invariant.0 _ c.split-c.ensures)
 
 pub follow_all-loop-more-preserved : goal.follow_all-loop-more-preserved
 follow_all-loop-more-preserved t c =

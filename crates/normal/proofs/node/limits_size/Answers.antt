@@ -15,15 +15,16 @@ use Rattle.normal.proofs.node.limits_size.Goals.{After-class_of-class, In-Restri
 use Rattle.normal.proofs.node.limits_size.Goals as goal
 
 -- the class that is told in an arm is the node's
-class : (c : After-class_of-class) {k : Class} → c.class_of.result ≡ k →
-    class_at c.before.before.args.s.now c.before.before.args.at ≡ k
-class c told = sym c.class_of-class.ensures ∙ told
+class : (c : After-class_of-class) (k : Class) → c.class_of-class.result ≡ k →
+    class_at c.args.s.now c.args.at ≡ k
+class c k told = sym c.class_of-class.ensures ∙ told
 
-a-restriction : (c : In-Restriction) →
-    (class : {k : Class} → c.class_of-class.result ≡ k → class_at c.args.s.now c.args.at ≡ k) →
+a-restriction : (c : In-Restriction)
+    (class : (k : Class) → c.class_of-class.result ≡ k → class_at c.args.s.now c.args.at ≡ k)
+    →
     NodedAs c.args.s.now c.args.at Restriction
 a-restriction c class =
-    record { noded = c.requires.0; class-is = class c.in-Restriction.is }
+    record { noded = c.requires.0; class-is = class _ c.in-Restriction.is }
 
 pub overflow_add-at : goal.overflow_add-at
 overflow_add-at c =

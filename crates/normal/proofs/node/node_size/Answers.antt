@@ -13,8 +13,8 @@ use Rattle.normal.proofs.node.node_size.Goals.{After-class_of-class}
 use Rattle.normal.proofs.node.node_size.Goals as goal
 
 -- the class that is told in an arm is the node's
-class : (c : After-class_of-class) {k : Class} → c.class_of.result ≡ k →
-    class_at c.before.before.args.s.now c.before.before.args.at ≡ k
+class : (c : After-class_of-class) {k : Class} → c.class_of-class.result ≡ k →
+    class_at c.args.s.now c.args.at ≡ k
 class c told = sym c.class_of-class.ensures ∙ told
 
 pub overflow_sub-result : goal.overflow_sub-result

@@ -15,19 +15,21 @@ use Rattle.normal.proofs.node.put_limits.Goals.{After-class_of-class, In-Restric
 use Rattle.normal.proofs.node.put_limits.Goals as goal
 
 -- the class that is told in an arm is the node's
-class : (c : After-class_of-class) {k : Class} → c.class_of.result ≡ k →
-    class_at c.before.before.before.args.s.now c.before.before.before.args.at ≡ k
-class c told = sym c.class_of-class.ensures ∙ told
+class : (c : After-class_of-class) (k : Class) → c.class_of-class.result ≡ k →
+    class_at c.args.s.now c.args.at ≡ k
+class c k told = sym c.class_of-class.ensures ∙ told
 
-a-restriction : (c : In-Restriction) →
-    (class : {k : Class} → c.class_of-class.result ≡ k → class_at c.args.s.now c.args.at ≡ k) →
+a-restriction : (c : In-Restriction)
+    (class : (k : Class) → c.class_of-class.result ≡ k → class_at c.args.s.now c.args.at ≡ k)
+    →
     NodedAs c.args.s.now c.args.at Restriction
 a-restriction c class =
-    record { noded = c.requires.noded; class-is = class c.in-Restriction.is }
+    record { noded = c.requires.noded; class-is = class _ c.in-Restriction.is }
 
 -- its three fields stand there
-there : (c : In-Restriction) →
-    (class : {k : Class} → c.class_of-class.result ≡ k → class_at c.args.s.now c.args.at ≡ k) →
+there : (c : In-Restriction)
+    (class : (k : Class) → c.class_of-class.result ≡ k → class_at c.args.s.now c.args.at ≡ k)
+    →
     c.args.at + 24 ≤ length c.args.s.now
 there c class = (restriction-fields _ _ (a-restriction c class)).there
 

@@ -11,8 +11,8 @@ use Rattle.normal.proofs.node.put_node.Goals.{After-class_of-class}
 use Rattle.normal.proofs.node.put_node.Goals as goal
 
 -- the class that is told in an arm is the node's
-class : (c : After-class_of-class) {k : Class} → c.class_of.result ≡ k →
-    class_at c.before.before.before.args.s.now c.before.before.before.args.at ≡ k
+class : (c : After-class_of-class) {k : Class} → c.class_of-class.result ≡ k →
+    class_at c.args.s.now c.args.at ≡ k
 class c told = sym c.class_of-class.ensures ∙ told
 
 pub put_operator-requires : goal.put_operator-requires

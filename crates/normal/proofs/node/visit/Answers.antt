@@ -5,10 +5,10 @@ use Rattle.normal.proofs.node.visit.Goals as goal
 
 pub moved-requires : goal.moved-requires
 moved-requires c =
-    visit-room _ _ c.args.m c.args.tree c.args.level c.args.pen _ c.TODOtype_size@After-size-of.ensures c.args.dry c.args.out.now
+    visit-room _ _ c.args.m c.args.tree c.args.level c.args.pen _ c.size_of-size.ensures c.args.dry c.args.out.now
     c.requires.spot c.requires.things-low
 
 pub moved-requires-2 : goal.moved-requires-2
 moved-requires-2 c =
-    visit-room _ _ c.args.m c.args.tree c.args.level c.args.pen _ c.TODOtype_size@After-size-of.ensures c.args.dry c.args.out.now
+    visit-room _ _ c.args.m c.args.tree c.args.level c.args.pen _ c.size_of-size.ensures c.args.dry c.args.out.now
     c.requires.spot c.requires.things-low

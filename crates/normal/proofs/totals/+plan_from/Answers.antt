@@ -35,20 +35,20 @@ plan_from-requires t c =
 
 pub returns-then-kind_of-eq0 : goal.returns-then-kind_of-eq0
 returns-then-kind_of-eq0 t c =
-    let lt = known ((goal.at.returns-then-kind_of-eq0 t c).Else-variable_count-v) in
+    let lt = known t (goal.at.returns-then-kind_of-eq0 t c).Else-variable_count-v in
     let input = is-input _ _ c.requires.formed.placed _ lt _ c.kind_of.ensures.0 c.if-kind_of-eq0.true in
     plan-input _ _ c.requires.formed _ _ _ lt _ input c.plan_from.ensures
 
 pub returns-in_default : goal.returns-in_default
 returns-in_default t c =
-    let lt = known ((goal.at.returns-in_default t c).Else-variable_count-v) in
+    let lt = known t (goal.at.returns-in_default t c).Else-variable_count-v in
     let body =
     no-input _ _ c.requires.formed.placed _ lt _ c.kind_of.ensures.0 c.kind_of.ensures.1 c.if-kind_of-eq0.false in
     plan-stops _ _ c.requires.formed _ _ _ lt body _ _ c.in_default.is c.grow-p.ensures
 
 pub plan_from-requires-2 : goal.plan_from-requires-2
 plan_from-requires-2 t c =
-    let lt = known ((goal.at.plan_from-requires-2 t c).Else-variable_count-v) in
+    let lt = known t (goal.at.plan_from-requires-2 t c).Else-variable_count-v in
     let low = few t (goal.at.plan_from-requires-2 t c).Start in
     let is = c.decreases in
     let small = small-total _ _ _ c.in-Total.is c.grow-p.ensures.small in
@@ -56,7 +56,7 @@ plan_from-requires-2 t c =
 
 pub returns : goal.returns
 returns t c =
-    let lt = known ((goal.at.returns t c).Else-variable_count-v) in
+    let lt = known t (goal.at.returns t c).Else-variable_count-v in
     let body =
     no-input _ _ c.requires.formed.placed _ lt _ c.kind_of.ensures.0 c.kind_of.ensures.1 c.if-kind_of-eq0.false in
     plan-goes _ _ c.requires.formed _ _ _ lt body _ _ _ _ c.in-Total.is c.grow-p.ensures c.plan_from-2.ensures

@@ -22,7 +22,7 @@ few t c = (prepared-sections _ _ c.requires.0.formed.placed.prepared).few
 
 pub put_bodies-requires : goal.put_bodies-requires
 put_bodies-requires t c =
-    let lt = known ((goal.at.put_bodies-requires t c).Else-variable_count-v) in
+    let lt = known t (goal.at.put_bodies-requires t c).Else-variable_count-v in
     let low = few t (goal.at.put_bodies-requires t c).Start in
     let is = c.decreases in
     let input = is-input _ _ c.requires.0.formed.placed _ lt _ c.kind_of.ensures.0 c.if-kind_of-eq0.true in
@@ -30,13 +30,13 @@ put_bodies-requires t c =
 
 pub returns-then-kind_of-eq0 : goal.returns-then-kind_of-eq0
 returns-then-kind_of-eq0 t c =
-    let lt = known ((goal.at.returns-then-kind_of-eq0 t c).Else-variable_count-v) in
+    let lt = known t (goal.at.returns-then-kind_of-eq0 t c).Else-variable_count-v in
     let input = is-input _ _ c.requires.0.formed.placed _ lt _ c.kind_of.ensures.0 c.if-kind_of-eq0.true in
     input-stored _ _ _ c.requires.0 lt input c.args.out.now c.args.to c.put_bodies.ensures
 
 pub put_body-next-requires : goal.put_body-next-requires
 put_body-next-requires t c =
-    let lt = known ((goal.at.put_body-next-requires t c).Else-variable_count-v) in
+    let lt = known t (goal.at.put_body-next-requires t c).Else-variable_count-v in
     let body =
     no-input _ _ c.requires.0.formed.placed _ lt _ c.kind_of.ensures.0 c.kind_of.ensures.1
     c.if-kind_of-eq0.false in
@@ -44,7 +44,7 @@ put_body-next-requires t c =
 
 pub put_bodies-requires-2 : goal.put_bodies-requires-2
 put_bodies-requires-2 t c =
-    let lt = known ((goal.at.put_bodies-requires-2 t c).Else-variable_count-v) in
+    let lt = known t (goal.at.put_bodies-requires-2 t c).Else-variable_count-v in
     let low = few t (goal.at.put_bodies-requires-2 t c).Start in
     let is = c.decreases in
     let body =
@@ -60,7 +60,7 @@ put_bodies-requires-2 t c =
 
 pub returns : goal.returns
 returns t c =
-    let lt = known ((goal.at.returns t c).Else-variable_count-v) in
+    let lt = known t (goal.at.returns t c).Else-variable_count-v in
     let body =
     no-input _ _ c.requires.0.formed.placed _ lt _ c.kind_of.ensures.0 c.kind_of.ensures.1
     c.if-kind_of-eq0.false in
