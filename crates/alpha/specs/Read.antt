@@ -5,7 +5,7 @@ use Rattle.std.specs.Prelude.{ℕ, zero, suc, ◌+◌, ◌-◌, ◌^◌, Bool, f
 use Rattle.alpha.specs.Pick.{ifb}
 use Rattle.alpha.specs.Answer.{LONG, CUT, COUNT, NAME, NUMBER, TAIL}
 use Rattle.alpha.specs.Field.{field, eight, name_form, same_bytes}
-use Rattle.alpha.specs.Sheet.{Kind, Kind.input, Kind.output, Kind.local, Sort, Relation, Unary, Binary, Row, Constraint, Range, Node, Head, Declared, Raw}
+use Rattle.alpha.specs.Sheet.{Kind, Sort, Relation, Unary, Binary, Row, Constraint, Range, Node, Head, Declared, Raw}
 use Rattle.alpha.specs.Box.{within, size}
 
 pub data Got (A : Type 0) : Type 0 where

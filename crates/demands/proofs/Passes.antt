@@ -9,7 +9,7 @@ use lib.ListN.{length, get_or}
 use borrow.Author.Tests.{le-leb, eq-eqb}
 use Rattle.alpha.specs.Answer.{Answer, accepted, TYPE, REACH}
 use Rattle.alpha.specs.Sheet.{Kind, Kind.input, Kind.output, Kind.local, Raw, Variable, Sheet}
-use Rattle.alpha.specs.Read.{Got, got, repeat, count, heads, declared, node, ended, sections, read}
+use Rattle.alpha.specs.Read.{Got, got, repeat, heads, declared, node, ended, sections, read}
 use Rattle.alpha.specs.Shape.{expr_at, Bodied, shaped, body_of, bodies}
 use Rattle.alpha.specs.Check.{Element, elements, typed, reached, checked, after_read, check}
 use Rattle.laws.specs.Accepted.{Sections, TreeAt, BodyAt, BodiesAt, Accepted}

@@ -7,7 +7,7 @@ use mathlib.Core.List.{List, [], ◌∷◌, ◌++◌, map}
 use lib.ListN.{length, get_or, length-map, get_or-map}
 use borrow.Author.Tests.{not-true}
 use Rattle.alpha.specs.Pick.{ifb}
-use Rattle.alpha.specs.Answer.{Answer, accepted, refused, next, TYPE, REACH, GAP, CLASH}
+use Rattle.alpha.specs.Answer.{Answer, accepted, refused, TYPE, REACH, GAP, CLASH}
 use Rattle.alpha.specs.Sheet.{Kind, Kind.input, Kind.output, Kind.local, Head, Raw, Variable, Sheet, Point}
 use Rattle.alpha.specs.Affine.{meets_all}
 use Rattle.alpha.specs.Box.{in_box}

@@ -4,7 +4,7 @@ use Prim.Native.Nat.{ℕ, zero, suc, ◌+◌, ◌*◌, ◌-◌, ◌≤◌, ◌<�
 use native.Mathlib.Omega.{arith}
 use mathlib.Core.List.{List, [], ◌∷◌}
 use lib.ListN.{length, get_or}
-use lib.IntN.{pos, neg_ℤ, nat_abs}
+use lib.IntN.{pos, neg_ℤ}
 use Rattle.alpha.specs.Answer.{NUMBER}
 use Rattle.alpha.specs.Field.{field}
 use Rattle.alpha.specs.Sheet.{Row, Constraint, Map, Node}
@@ -12,7 +12,7 @@ use Rattle.alpha.specs.Sheet.{Node.n_var, Node.n_int, Node.n_bool, Node.n_unary,
 use Rattle.alpha.specs.Box.{within}
 use Rattle.alpha.specs.Read.{Got, got, bad, Reader, after, pure, unary_of, binary_of, repeat, count, choice, number, row_of, constraint, restriction, dependence, nodes, node}
 use Rattle.laws.specs.At.{code_of, node_size, read_node, read_end, node_read, node_end}
-use Rattle.laws.proofs.Readers.{Upto, Gives, given, Passed, passing-gives, Counted, counted_is, count_gives, choice-gives, Items, repeat-gives}
+use Rattle.laws.proofs.Readers.{Upto, Gives, given, Passed, passing-gives, Counted, count_gives, choice-gives, Items, repeat-gives}
 use Rattle.laws.proofs.Rows.{Chosen, chosen, RowAt, row_gives, row-takes, ConstraintAt, constraint-gives, constraint-takes}
 
 -- ---- what the fields say

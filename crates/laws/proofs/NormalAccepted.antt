@@ -21,7 +21,7 @@ use Rattle.alpha.specs.Reach.{top_reach, reach, all_reach}
 use Rattle.alpha.specs.Holds.{no_variable, variable, is_input, in_domain}
 use Rattle.alpha.specs.Box.{size}
 use Rattle.alpha.specs.Outcome.{eval, inputs_before, outcome}
-use Rattle.alpha.specs.Check.{Element, elements, typed, reached, tested, first, checked, after_read, check}
+use Rattle.alpha.specs.Check.{Element, elements, typed, reached, tested, checked, after_read, check}
 use Rattle.alpha.specs.Written.{bytes}
 use Rattle.alpha.specs.Normalise.{dims, normal_body, Body}
 use Rattle.laws.specs.Accepted.{BodiesAt, Accepted}

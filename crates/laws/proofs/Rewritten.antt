@@ -9,7 +9,7 @@ use lib.ListN.{length, length-append}
 use lib.Dec.{leb}
 use borrow.Author.Tests.{leb-true}
 use Rattle.alpha.specs.Pick.{ifb}
-use Rattle.alpha.specs.Answer.{Answer, accepted, refused, next, WIDE}
+use Rattle.alpha.specs.Answer.{Answer, accepted, refused, WIDE}
 use Rattle.alpha.specs.Sheet.{Kind, Kind.input, Kind.output, Kind.local, Head, Constraint, Declared, Node, Raw, Expr, Variable, Sheet, Expr.kase, Exprs.none}
 use Rattle.alpha.specs.Read.{node}
 use Rattle.alpha.specs.Shape.{tree, expr_at, fits, of_variable, shaped, body_of, bodies}

@@ -11,7 +11,7 @@ use lib.ListN.{length}
 use lib.IntN.{ℤ, pos, negsuc, neg_ℤ, nat_abs}
 use Rattle.laws.proofs.Boxes.{size-pos, size-bound}
 use Rattle.integer.proofs.Order.{within-true}
-use Rattle.alpha.specs.Answer.{accepted, next, NUMBER}
+use Rattle.alpha.specs.Answer.{accepted, NUMBER}
 use Rattle.alpha.specs.Field.{field}
 use Rattle.alpha.specs.Box.{within, side, size}
 use Rattle.alpha.specs.Read.{got, repeat, number, range}

@@ -10,7 +10,7 @@ use lib.ListN.{length, get_or, take, set, length-set}
 use lib.Seq.{get_or-set_same, get_or-set_other, take-set-le, take-suc-set, take-append-le, take_at, take_all}
 use lib.Dec.{leb}
 use Rattle.alpha.specs.Pick.{ifb}
-use Rattle.alpha.specs.Answer.{accepted, refused, next, CUT, COUNT, NAME}
+use Rattle.alpha.specs.Answer.{accepted, refused, CUT, COUNT, NAME}
 use Rattle.alpha.specs.Field.{eight, name_form, same_bytes}
 use Rattle.alpha.specs.Sheet.{Head}
 use Rattle.alpha.specs.Box.{size}

@@ -1,5 +1,4 @@
 -- `apply` meets its contract: each coordinate is a row at the point, and 0 past the rows. Assumes nothing.
-use borrow.Author.Rules.{rules}
 use Rattle.affine.proofs.Meaning.{image-is}
 use Rattle.affine.proofs.apply.Goals as goal
 

@@ -1,5 +1,4 @@
 -- `compose` meets its contract: each row is a row of the outer map after the inner. Assumes nothing.
-use borrow.Author.Rules.{rules}
 use mathlib.Core.Path.{refl}
 use Rattle.affine.proofs.Meaning.{compose-is}
 use Rattle.affine.proofs.compose.Goals as goal

@@ -1,11 +1,10 @@
 -- `image_at` meets its contract: the rows that the fields say are read, and the image is that by the map of them. Assumes nothing.
-use borrow.Author.Rules.{rules}
 use mathlib.Core.Path.{◌≡◌, ap, ◌∙◌}
 use Prim.Native.Nat.{◌+◌}
 use lib.IntN.{nat_abs}
 use Rattle.alpha.specs.Field.{field}
 use Rattle.affine.specs.Reading.{MapRead}
-use Rattle.affine.proofs.Fetched.{rows-there, rows-map}
+use Rattle.affine.proofs.Fetched.{rows-map}
 use Rattle.affine.proofs.image_at.Goals.{After-rows_read-map, After-to_usize-k}
 use Rattle.affine.proofs.image_at.Goals as goal
 

@@ -1,5 +1,4 @@
 -- `map_reach` meets its contract: the greatest of four rows, of which those that the map does not have reach nowhere. Assumes nothing.
-use borrow.Author.Rules.{rules}
 use lib.Dec.{lit≤}
 use mathlib.Core.Path.{refl}
 use Rattle.affine.proofs.Meaning.{neat-line}

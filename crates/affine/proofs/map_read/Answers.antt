@@ -1,9 +1,8 @@
 -- `map_read` meets its contract: where a dependence stands at p no guard stops, and its fields are read. Assumes nothing.
-use borrow.Author.Rules.{rules}
 use native.Mathlib.Omega.{arith}
 use mathlib.Core.Path.{ap, ◌∙◌}
 use lib.IntN.{nat_abs}
-use Rattle.affine.proofs.Fetched.{span_small, span_same, no-map, rows-map}
+use Rattle.affine.proofs.Fetched.{span_same, no-map, rows-map}
 use Rattle.affine.proofs.map_read.Goals as goal
 
 pub returns-then-len-lt16 : goal.returns-then-len-lt16

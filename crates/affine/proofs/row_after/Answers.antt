@@ -1,12 +1,8 @@
 -- `row_after` meets its contract: each coefficient is the row's times a column of the map. Assumes nothing.
-use borrow.Author.Rules.{rules}
-use lib.Dec.{lit<}
-use Prim.Native.Nat.{◌^◌, ◌<◌}
-use mathlib.Core.Path.{sym, ap, subst, ◌∙◌}
+use mathlib.Core.Path.{ap, ◌∙◌}
 use Rattle.alpha.specs.Sheet.{Point}
 use Rattle.alpha.specs.Affine.{row_at}
 use Rattle.affine.specs.Value.{row_of}
-use Rattle.affine.specs.Size.{row_size}
 use Rattle.affine.proofs.Meaning.{neat-four, after_is}
 use Rattle.affine.proofs.row_after.Goals as goal
 

@@ -1,5 +1,4 @@
 -- `row_at` meets its contract. Assumes nothing.
-use borrow.Author.Rules.{rules}
 use mathlib.Core.Path.{ap, ◌∙◌}
 use lib.IntN.{◌+ℤ◌}
 use Rattle.affine.proofs.Several.{row_at-neat}

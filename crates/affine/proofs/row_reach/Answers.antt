@@ -1,5 +1,4 @@
 -- `row_reach` meets its contract. Assumes nothing.
-use borrow.Author.Rules.{rules}
 use Rattle.affine.proofs.Told.{tells-equal}
 use Rattle.affine.proofs.Several.{row_reach-neat}
 use Rattle.affine.proofs.row_reach.Goals as goal

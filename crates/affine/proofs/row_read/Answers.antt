@@ -1,5 +1,4 @@
 -- `row_read` meets its contract. Assumes nothing.
-use borrow.Author.Rules.{rules}
 use Rattle.affine.proofs.Fetched.{row_is}
 use Rattle.affine.proofs.row_read.Goals as goal
 

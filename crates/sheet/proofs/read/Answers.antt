@@ -1,5 +1,4 @@
 -- `read` meets its contract: one law for each way through the sections. Assumes nothing.
-use borrow.Author.Rules.{rules}
 use borrow.Author.Tests.{ltb-true, ltb-false}
 use native.Mathlib.Omega.{arith}
 use mathlib.Core.Path.{◌≡◌, refl, sym, ap, ◌∙◌, subst}
@@ -9,7 +8,7 @@ use lib.ListN.{length, take, get_or}
 use lib.IntN.{pos, nat_abs}
 use Rattle.alpha.specs.Answer.{accepted}
 use Rattle.alpha.specs.Field.{field}
-use Rattle.alpha.specs.Sheet.{Head, Declared, Raw}
+use Rattle.alpha.specs.Sheet.{Declared, Raw}
 use Rattle.alpha.specs.Box.{within}
 use Rattle.alpha.specs.Read.{after, count, heads, ended, read}
 use Rattle.sheet.specs.Place.{place_after, passed}

@@ -1,5 +1,4 @@
 -- `third_section` meets its contract: the count, then so many. Assumes nothing.
-use borrow.Author.Rules.{rules}
 use mathlib.Core.Path.{sym, ◌∙◌}
 use Rattle.sheet.proofs.Sections.{third-place}
 use Rattle.sheet.proofs.Readers.{goes_on, stops}

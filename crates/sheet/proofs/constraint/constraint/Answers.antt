@@ -1,5 +1,4 @@
 -- `constraint` meets its contract: the relation, then the row. Assumes nothing.
-use borrow.Author.Rules.{rules}
 use mathlib.Core.Path.{sym, ◌∙◌}
 use Rattle.sheet.proofs.Readers.{constraint-place, goes_on, stops}
 use Rattle.sheet.proofs.constraint.constraint.Goals as goal

@@ -1,7 +1,6 @@
 -- `constraints` meets its contract. The invariant: the constraints left decide. Assumes nothing.
-use borrow.Author.Rules.{rules}
 use Rattle.alpha.specs.Read.{constraint}
-use Rattle.sheet.proofs.Places.{Left, all_left, repeat-done, repeat-stops, repeat-goes}
+use Rattle.sheet.proofs.Places.{Left}
 use Rattle.sheet.proofs.constraint.constraints.Given as goal
 
 abbrev pub invariant-loop-left : goal.invariant-loop-left

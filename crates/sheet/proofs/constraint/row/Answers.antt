@@ -1,5 +1,4 @@
 -- `row` meets its contract: the coefficients, then the constant. Assumes nothing.
-use borrow.Author.Rules.{rules}
 use mathlib.Core.Path.{sym, ◌∙◌}
 use Rattle.sheet.proofs.Readers.{row-place, goes_on, stops}
 use Rattle.sheet.proofs.constraint.row.Goals as goal

@@ -1,7 +1,6 @@
 -- `numbers` meets its contract. The invariant: the numbers left decide. Assumes nothing.
-use borrow.Author.Rules.{rules}
 use Rattle.alpha.specs.Read.{free}
-use Rattle.sheet.proofs.Places.{Left, all_left, repeat-done, repeat-stops, repeat-goes}
+use Rattle.sheet.proofs.Places.{Left}
 use Rattle.sheet.proofs.field.numbers.Given as goal
 
 abbrev pub invariant-loop-left : goal.invariant-loop-left

@@ -1,10 +1,6 @@
 -- `all_zero` meets its contract. The invariant: the bytes left are all zero where those at the start are. Assumes nothing.
 use borrow.Author.Rules.{rules}
-use mathlib.Core.Path.{◌≡◌, refl, sym, ◌∙◌}
-use Prim.Native.Nat.{◌≤◌, ◌+◌}
-use lib.ListN.{length}
-use Rattle.alpha.specs.Field.{zeros}
-use Rattle.sheet.specs.Name.{bytes_at}
+use mathlib.Core.Path.{sym, ◌∙◌}
 use Rattle.sheet.proofs.Names.{zeros-none, zeros-stop, zeros-more}
 use Rattle.sheet.proofs.name.all_zero.Goals as goal
 

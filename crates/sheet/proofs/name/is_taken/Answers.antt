@@ -1,11 +1,8 @@
 -- `is_taken` meets its contract. The invariant: the names left to compare decide. Assumes nothing.
 use borrow.Author.Rules.{rules}
 use native.Mathlib.Omega.{arith}
-use mathlib.Core.Path.{◌≡◌, refl, sym, ◌∙◌}
-use Prim.Native.Nat.{◌≤◌, ◌-◌}
-use lib.ListN.{take}
-use Rattle.sheet.specs.Name.{taken_at}
-use Rattle.sheet.proofs.Names.{taken_none, taken-found, taken_more}
+use mathlib.Core.Path.{sym, ◌∙◌}
+use Rattle.sheet.proofs.Names.{taken-found, taken_more}
 use Rattle.sheet.proofs.name.is_taken.Goals as goal
 
 pub returns-then-same_bytes : goal.returns-then-same_bytes

@@ -1,11 +1,8 @@
 -- `is_taken` meets its contract. The invariant: the names left to compare decide. Assumes nothing.
-use borrow.Author.Rules.{rules}
-use native.Mathlib.Omega.{arith}
-use mathlib.Core.Path.{◌≡◌, refl, sym, ◌∙◌}
-use Prim.Native.Nat.{◌≤◌, ◌-◌}
+use mathlib.Core.Path.{◌≡◌}
+use Prim.Native.Nat.{◌≤◌}
 use lib.ListN.{take}
 use Rattle.sheet.specs.Name.{taken_at}
-use Rattle.sheet.proofs.Names.{taken_none, taken-found, taken_more}
 use Rattle.sheet.proofs.name.is_taken.Given as goal
 
 abbrev pub invariant-loop-left : goal.invariant-loop-left

@@ -1,12 +1,7 @@
 -- `name_tail` meets its contract. The invariant: the bytes left continue a name where those at the start do. Assumes nothing.
 use borrow.Author.Rules.{rules}
-use mathlib.Core.Path.{◌≡◌, refl, sym, ◌∙◌}
-use Prim.Native.Nat.{◌≤◌, ◌+◌}
-use lib.ListN.{length}
-use Rattle.alpha.specs.Field.{name_tail}
-use Rattle.sheet.specs.Name.{bytes_at}
+use mathlib.Core.Path.{sym, ◌∙◌}
 use Rattle.sheet.proofs.Names.{tail_none, tail-ends, tail_more}
-use borrow.Author.Tests.{not-true, not-false}
 use Rattle.sheet.proofs.name.name_tail.Goals as goal
 
 pub returns-then-not-in_name : goal.returns-then-not-in_name

@@ -1,12 +1,9 @@
 -- `name_tail` meets its contract. The invariant: the bytes left continue a name where those at the start do. Assumes nothing.
-use borrow.Author.Rules.{rules}
-use mathlib.Core.Path.{◌≡◌, refl, sym, ◌∙◌}
+use mathlib.Core.Path.{◌≡◌}
 use Prim.Native.Nat.{◌≤◌, ◌+◌}
 use lib.ListN.{length}
 use Rattle.alpha.specs.Field.{name_tail}
 use Rattle.sheet.specs.Name.{bytes_at}
-use Rattle.sheet.proofs.Names.{tail_none, tail-ends, tail_more}
-use borrow.Author.Tests.{not-true, not-false}
 use Rattle.sheet.proofs.name.name_tail.Given as goal
 
 abbrev pub invariant-loop-left : goal.invariant-loop-left

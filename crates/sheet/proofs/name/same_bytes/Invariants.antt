@@ -1,11 +1,9 @@
 -- `same_bytes` meets its contract. The invariant: the bytes left are the same where those at the start are. Assumes nothing.
-use borrow.Author.Rules.{rules}
-use mathlib.Core.Path.{◌≡◌, refl, sym, ◌∙◌}
+use mathlib.Core.Path.{◌≡◌}
 use Prim.Native.Nat.{◌≤◌, ◌+◌}
 use lib.ListN.{length}
 use Rattle.alpha.specs.Field.{same_bytes}
 use Rattle.sheet.specs.Name.{bytes_at}
-use Rattle.sheet.proofs.Names.{same_none, same_stop, same_more}
 use Rattle.sheet.proofs.name.same_bytes.Given as goal
 
 abbrev pub invariant-loop-left : goal.invariant-loop-left

@@ -1,8 +1,6 @@
 -- `well_formed` meets its contract: a letter first, then the rest. Assumes nothing.
-use borrow.Author.Rules.{rules}
 use mathlib.Core.Path.{sym, ◌∙◌}
-use Rattle.sheet.proofs.Names.{name-no-letter, name-letter}
-use borrow.Author.Tests.{not-true, not-false}
+use Rattle.sheet.proofs.Names.{name-letter}
 use Rattle.sheet.proofs.name.well_formed.Goals as goal
 
 pub returns : goal.returns

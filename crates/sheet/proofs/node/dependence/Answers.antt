@@ -1,5 +1,4 @@
 -- `dependence` meets its contract: its columns, its number of rows, the rows. Assumes nothing.
-use borrow.Author.Rules.{rules}
 use mathlib.Core.Path.{sym, ◌∙◌}
 use Rattle.sheet.proofs.Readers.{dependence-place, goes_on, stops}
 use Rattle.sheet.proofs.Places.{count-came}

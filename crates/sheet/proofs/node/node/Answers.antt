@@ -1,5 +1,4 @@
 -- `node` meets its contract: the code, then its fields. Assumes nothing.
-use borrow.Author.Rules.{rules}
 use native.Mathlib.Omega.{arith}
 use mathlib.Core.Path.{sym, ◌∙◌}
 use Rattle.sheet.proofs.Readers.{node-place, goes_on, stops}

@@ -1,8 +1,5 @@
 -- `node_fields` meets its contract: one law for each code. Assumes nothing.
-use borrow.Author.Rules.{rules}
-use native.Mathlib.Omega.{arith}
-use mathlib.Core.Path.{◌≡◌, sym, ◌∙◌}
-use Prim.Native.Nat.{ℕ, suc, ◌≤◌, zero-le}
+use mathlib.Core.Path.{sym, ◌∙◌}
 use Rattle.sheet.proofs.Readers.{variable-fields, integer-fields, boolean-fields, unary-fields, binary-fields}
 use Rattle.sheet.proofs.Readers.{if-fields, case-fields, restriction-fields, dependence-fields}
 use Rattle.sheet.proofs.node.node_fields.Goals as goal

@@ -1,7 +1,6 @@
 -- `nodes` meets its contract. The invariant: the nodes left decide. Assumes nothing.
-use borrow.Author.Rules.{rules}
 use Rattle.alpha.specs.Read.{node}
-use Rattle.sheet.proofs.Places.{Left, all_left, repeat-done, repeat-stops, repeat-goes}
+use Rattle.sheet.proofs.Places.{Left}
 use Rattle.sheet.proofs.node.nodes.Given as goal
 
 abbrev pub invariant-loop-left : goal.invariant-loop-left

@@ -1,5 +1,4 @@
 -- `restriction` meets its contract: its dimension, its number of constraints, the constraints. Assumes nothing.
-use borrow.Author.Rules.{rules}
 use mathlib.Core.Path.{sym, ◌∙◌}
 use Rattle.sheet.proofs.Readers.{restriction-place, goes_on, stops}
 use Rattle.sheet.proofs.Places.{count-came}

@@ -1,8 +1,5 @@
 -- `box_points` meets its contract. The invariant: the product so far times the points of the ranges left. Assumes nothing.
-use borrow.Author.Rules.{rules}
-use native.Mathlib.Omega.{arith}
-use Rattle.sheet.proofs.Boxes.{Product, product-start, product-over, product-more, product-done, ranges-first}
-use native.Mathlib.Nat.{mul-le-mul}
+use Rattle.sheet.proofs.Boxes.{Product}
 use Rattle.sheet.proofs.range.box_points.Given as goal
 
 abbrev pub invariant-loop-left : goal.invariant-loop-left

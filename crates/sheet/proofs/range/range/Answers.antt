@@ -1,5 +1,4 @@
 -- `range` meets its contract: lo, then hi from lo on. Assumes nothing.
-use borrow.Author.Rules.{rules}
 use mathlib.Core.Path.{sym, ap, ◌∙◌}
 use lib.IntN.{ℤ, pos, neg_ℤ}
 use Rattle.alpha.specs.Read.{number}

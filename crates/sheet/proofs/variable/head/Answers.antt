@@ -1,5 +1,4 @@
 -- `head` meets its contract: name, kind, type, dimension, box. Assumes nothing.
-use borrow.Author.Rules.{rules}
 use mathlib.Core.Path.{sym, ◌∙◌}
 use Rattle.sheet.proofs.Readers.{head-place, goes_on, stops}
 use Rattle.sheet.proofs.Places.{count-came}

@@ -1,10 +1,8 @@
 -- `name_field` meets its contract: cut, ill formed, taken, or a name. Assumes nothing.
-use borrow.Author.Rules.{rules}
 use native.Mathlib.Omega.{arith}
 use mathlib.Core.Path.{sym, ◌∙◌}
 use lib.ListN.{take}
 use Rattle.sheet.proofs.Variables.{name-cut, name-ill, name-taken, name-fine}
-use borrow.Author.Tests.{not-true, not-false}
 use Rattle.sheet.proofs.variable.name_field.Goals as goal
 
 pub returns-then-s-lt8 : goal.returns-then-s-lt8
