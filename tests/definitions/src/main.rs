@@ -1,5 +1,5 @@
 //! Holds the definitions of crate alpha against the second program: writes crates of theorems, one for each generated case, that say
-//! that every call's definition answers what the second program answers. `rt check` then has to prove them by computing.
+//! that every call's definition answers what the second program answers. `rt all check` then has to prove them by computing.
 //!
 //! definitions SEED COUNT CRATES DIR: COUNT small cases in CRATES crates below DIR/crates, and DIR/crates.txt. Prints how often each
 //! refusal and each outcome occurs, and fails where a refusal 1 to 15 or an outcome 0 to 4 is missing.
