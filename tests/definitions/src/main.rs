@@ -121,7 +121,7 @@ fn theorem(index: usize, case: &Case, answers: &Answers) -> String {
 fn theorems(name: &str, cases: &[(usize, &Case, Answers)]) -> String {
     let mut file = format!(
         "-- Generated cases: what the second program answers is what the definitions answer.\n-- Assumes nothing.\n\
-         use Rattle.std.specs.Prelude.{{◌≡◌, refl, true, false, List, [], ◌∷◌, pos, negsuc}}\n\
+         use Rattle.std.specs.Prelude.{{◌≡◌, refl, true, false, [], ◌∷◌, pos, negsuc}}\n\
          use Rattle.alpha.specs.Answer.{{accepted, refused}}\nuse Rattle.{name}.specs.Compare.{{Case, spelt, differing}}\n\n"
     );
     for (index, case, answers) in cases {
