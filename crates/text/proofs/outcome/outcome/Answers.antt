@@ -1,0 +1,15 @@
+-- `text::outcome` meets its contract, code by code. Assumes nothing.
+use mathlib.Core.Path.{sym, ap}
+use Prim.Native.Nat.{◌≤◌}
+use native.Mathlib.Omega.{arith}
+use lib.ListN.{length}
+use Rattle.alpha.specs.Read.{sort_of}
+use Rattle.text.proofs.Writing.{wrote-more, wrote-is}
+use Rattle.text.proofs.Outcomes.{outcome-coded, outcome-other}
+use borrow.Author.Rules.{rules}
+use Rattle.text.proofs.outcome.outcome.Goals as goal
+
+pub returns-in-3 : goal.returns-in-3
+returns-in-3 c =
+    let a = c.args in
+    wrote-is (sym (outcome-coded (sort_of a.sort) a.code a.x.v 3 c.in-3.is)) c.word-in-3.ensures

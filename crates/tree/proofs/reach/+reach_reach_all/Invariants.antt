@@ -1,0 +1,27 @@
+-- `tree::reach` and `tree::reach_all` meet their contracts: a tree by its node and then by its children. Assumes nothing.
+use Prim.Native.Nat.{ℕ, ◌+◌, ◌*◌, ◌<◌}
+use native.Mathlib.Omega.{arith}
+use borrow.Author.Rules.{rules}
+use Rattle.laws.specs.Sheets.{vars_of}
+use Rattle.tree.specs.declared.Bounded.{Bounded}
+use Rattle.tree.specs.Standing.{StandingAll}
+use Rattle.tree.specs.Bounding.{TreesBounded}
+use Rattle.tree.proofs.Standings.{standing-noded, standing-some, standing-children, first-standing, rest-standing}
+use Rattle.tree.proofs.Reaching.{reach-some, reach-past, reach-goes, trees-none-bounded, first_ends, trees-beyond, trees-bounded}
+use borrow.Fn.PlainCycle.{Measures, is, falls, and}
+use Rattle.tree.proofs.reach.+reach_reach_all.{statement}
+use Rattle.tree.proofs.reach.+reach_reach_all.Given as goal
+
+abbrev pub decreases-reach : goal.decreases-reach
+decreases-reach l = 2 * l.left
+
+abbrev pub decreases-reach_all : goal.decreases-reach_all
+decreases-reach_all l = 2 * l.left + 1
+
+-- what the trees from here on come to is what all of them do
+abbrev pub invariant-reach_all-loop-more : goal.invariant-reach_all-loop-more
+invariant-reach_all-loop-more l =
+    StandingAll (vars_of l.s) l.s l.p l.left l.more × ((r : Bounded) → TreesBounded l.s l.p l.around l.more r → TreesBounded l.s l.at l.around l.count r)
+
+abbrev pub decreases-reach_all-loop-more : goal.decreases-reach_all-loop-more
+decreases-reach_all-loop-more l = l.more
