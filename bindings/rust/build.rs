@@ -3,7 +3,7 @@
 fn main() {
     println!("cargo:rerun-if-env-changed=OKELIZANSHU_LIBRARY");
     let folder = std::env::var("OKELIZANSHU_LIBRARY")
-        .expect("OKELIZANSHU_LIBRARY is the directory with libokelizanshu.a (rt staticlib okelizanshu writes it to target/staticlib)");
+        .expect("OKELIZANSHU_LIBRARY is the directory with libokelizanshu.a (tools/library writes it to target/library)");
     println!("cargo:rerun-if-changed={folder}/libokelizanshu.a");
     println!("cargo:rustc-link-search=native={folder}");
     println!("cargo:rustc-link-lib=static=okelizanshu");

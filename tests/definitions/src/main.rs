@@ -1,5 +1,5 @@
 //! Holds the definitions of crate alpha against the second program: writes crates of theorems, one for each generated case, that say
-//! that every call's definition answers what the second program answers. `rt check` then has to prove them by computing.
+//! that every call's definition answers what the second program answers. `rt all check` then has to prove them by computing.
 //!
 //! definitions SEED COUNT CRATES DIR: COUNT small cases in CRATES crates below DIR/crates, and DIR/crates.txt. Prints how often each
 //! refusal and each outcome occurs, and fails where a refusal 1 to 15 or an outcome 0 to 4 is missing.
@@ -121,8 +121,8 @@ fn theorem(index: usize, case: &Case, answers: &Answers) -> String {
 fn theorems(name: &str, cases: &[(usize, &Case, Answers)]) -> String {
     let mut file = format!(
         "-- Generated cases: what the second program answers is what the definitions answer.\n-- Assumes nothing.\n\
-         use mathlib.Core.Path.{{_≡_, refl}}\nuse mathlib.Core.Bool.{{true, false}}\nuse mathlib.Core.List.{{List, [], _∷_}}\nuse lib.IntN.{{pos, negsuc}}\n\
-         use Rattle·alpha.specs.Answer.{{accepted, refused}}\nuse Rattle·{name}·specs.specs.Compare.{{Case, spelt, differing}}\n\n"
+         use Rattle.std.specs.Prelude.{{◌≡◌, refl, true, false, [], ◌∷◌, pos, negsuc}}\n\
+         use Rattle.alpha.specs.Answer.{{accepted, refused}}\nuse Rattle.{name}.specs.Compare.{{Case, spelt, differing}}\n\n"
     );
     for (index, case, answers) in cases {
         file += &theorem(*index, case, answers);
@@ -138,7 +138,7 @@ fn write(path: &Path, text: &str) {
 /// One crate: the comparison and its theorems, with no function of its own.
 fn write_crate(dir: &Path, name: &str, cases: &[(usize, &Case, Answers)]) {
     let root = dir.join("crates").join(name);
-    write(&root.join("src/lib.rt"), "// Theorems only: specs/.\n");
+    write(&root.join("src/lib.rt"), "// Theorems only: specs/.\n#![tactic(auto)]\n");
     write(&root.join("specs/Lib.antt"), "-- The comparison, and its cases.\npub mod Compare\npub mod Cases\n");
     write(&root.join("specs/Compare.antt"), COMPARE);
     write(&root.join("specs/Cases.antt"), &theorems(name, cases));

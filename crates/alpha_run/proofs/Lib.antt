@@ -1,0 +1,2 @@
+-- What the program writes, from what it reads.
+pub mod Whole
