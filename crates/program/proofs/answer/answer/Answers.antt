@@ -6,8 +6,7 @@ use lib.ListN.{take, drop}
 use Rattle.alpha.specs.Program.{framed, printed}
 use Rattle.text.proofs.Writing.{wrote-is}
 use Rattle.program.specs.Given.{answer_in}
-use Rattle.program.proofs.Printing.{prints-nothing, prints-text, part-on}
-use borrow.Author.Rules.{rules}
+use Rattle.program.proofs.Printing.{prints-text, part-on}
 use Rattle.program.proofs.answer.answer.Goals as goal
 
 pub returns-in-Refused : goal.returns-in-Refused

@@ -3,11 +3,9 @@ use Rattle.std.proofs.Common.{◌≡◌, length, replicate, ℕ, ℤ, pos}
 use Rattle.std.proofs.lemmas.List.{length-replicate}
 use mathlib.Core.Path.{sym, ap}
 use native.Mathlib.Omega.{arith}
-use lib.Seq.{length-take-le}
 use Rattle.alpha.specs.Program.{printed}
 use Rattle.text.proofs.Writing.{wrote-is}
-use Rattle.program.proofs.Running.{refused-verdict, accepted-total-is, accepted-verdict}
-use borrow.Author.Rules.{rules}
+use Rattle.program.proofs.Running.{refused-verdict, accepted-verdict}
 use Rattle.program.proofs.answer.answer_framed.Goals as goal
 
 pub returns-in-Refused : goal.returns-in-Refused

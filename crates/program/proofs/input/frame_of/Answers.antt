@@ -3,10 +3,8 @@ use mathlib.Core.Path.{◌≡◌, sym, ap, ◌∙◌}
 use native.Mathlib.Omega.{arith}
 use lib.IntN.{pos, nat_abs}
 use lib.Signed.{le_z, non_neg}
-use borrow.Author.Tests.{not-true, not-false}
 use Rattle.alpha.specs.Field.{field}
 use Rattle.program.proofs.Framing.{frame-short, frame-long, frame-negative, frame_past, frame-sheet}
-use borrow.Author.Rules.{rules}
 use Rattle.program.proofs.input.frame_of.Goals.{After-at_most, After-not_negative}
 use Rattle.program.proofs.input.frame_of.Goals as goal
 

@@ -1,9 +1,8 @@
 -- `program::values` meets its contract: what is left of the values, stored from here on, gives what all of them give from the start.
 -- Assumes nothing.
-use mathlib.Core.Path.{◌≡◌, refl, sym, ap, ◌∙◌}
+use mathlib.Core.Path.{◌≡◌, sym, ap, ◌∙◌}
 use Prim.Native.Nat.{◌+◌, ◌*◌, ◌-◌, ◌/◌, ◌%◌, ◌≤◌}
 use native.Mathlib.Omega.{arith}
-use borrow.Author.Rules.{rules}
 use lib.ListN.{length, take, set, length-set}
 use native.Mathlib.Numerals.{add-one}
 use mir.Syntax.{w32}
