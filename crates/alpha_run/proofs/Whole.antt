@@ -1,21 +1,11 @@
 -- The program from what is read to what is written: the read bytes are the input's first, and the output to these is the output to the
 -- input. Assumes nothing.
-use Rattle.std.proofs.Common.{◌≡◌, ℕ, List, [], ◌++◌, length, take, drop, Option, None, Some, Result, Ok, Err, IfSome, OnOk, option_map, refl, sym, ap, ◌∙◌, subst}
+use Rattle.std.proofs.Common.{◌≡◌, ℕ, List, ◌++◌, length, take, drop, Option, None, Some, Result, Ok, Err, IfSome, OnOk, refl, sym, ap, ◌∙◌, subst}
 use Rattle.std.proofs.lemmas.List.{take_at}
 use Rattle.std.specs.Io.KnownBytes.{Appends}
-use Rattle.std.specs.Io.Take.{take_limit, take_inner, take_remaining}
-use Rattle.std.specs.declared.io.traits.Take.{Take}
 use Rattle.alpha.specs.Program.{program}
 use Rattle.program.specs.Printed.{printed_in}
 use Rattle.program.proofs.Stopping.{program-stops}
-
--- what is read to the end from the first 81,932 bytes is those of the input
-pub read-part : {R : Type 0} (remaining : R → Option (List ℕ)) (input : R) (t : Take R) (old new : List ℕ) → take_inner t ≡ input → take_limit t ≡ 81932 → old ≡ []
-    → IfSome (take_remaining remaining t) (λ xs. new ≡ old ++ xs) → IfSome (option_map (take 81932) (remaining input)) (λ xs. new ≡ xs)
-read-part remaining input t old new inner limit none from =
-    let part : take_remaining remaining t ≡ option_map (take 81932) (remaining input) =
-    ap (λ n. option_map (take n) (remaining t.inner)) limit ∙ ap (λ i. option_map (take 81932) (remaining i)) inner in
-    subst (λ o. IfSome o (λ xs. new ≡ xs)) part (subst (λ l. IfSome (take_remaining remaining t) (λ xs. new ≡ l ++ xs)) none from)
 
 -- where 208,910 bytes are lent, the part of them that is told is the output
 pub told-part : (bs out out' : List ℕ) (r : ℕ) → out' ≡ printed_in (length out) bs ++ drop (length (printed_in (length out) bs)) out
@@ -25,7 +15,7 @@ told-part bs out out' r text long lent =
     ap (take r) text ∙ ap (λ n. take n (written ++ drop (length written) out)) long ∙ take_at written _ _ refl ∙ ap (λ n. printed_in n bs) lent
 
 -- what is written for the part that is read is what is written for the whole input
-pub writes-whole : {A E : Type 0} (left held new : Option (List ℕ)) (read text : List ℕ) (r : Result A E) → IfSome (option_map (take 81932) left) (λ xs. read ≡ xs)
+pub writes-whole : {A E : Type 0} (left held new : Option (List ℕ)) (read text : List ℕ) (r : Result A E) → IfSome left (λ bs. read ≡ take 81932 bs)
     → text ≡ program read → OnOk r (Appends held new text) → OnOk r (IfSome left (λ bs. Appends held new (program bs)))
 writes-whole left held new read text (Err e) from is w = tt
 writes-whole None held new read text (Ok x) from is w = tt
