@@ -1,9 +1,6 @@
 -- `run::run` meets its contract, way by way. Assumes nothing.
 use mathlib.Core.Path.{◌≡◌, refl, sym, ap, ◌∙◌}
-use Prim.Native.Nat.{ℕ}
 use native.Mathlib.Omega.{arith}
-use lib.ListN.{length-replicate}
-use borrow.Author.Rules.{rules}
 use Rattle.alpha.specs.Answer.{accepted}
 use Rattle.alpha.specs.Check.{total}
 use Rattle.alpha.specs.Run.{inputs}

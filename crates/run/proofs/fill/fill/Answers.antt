@@ -1,7 +1,7 @@
 -- `run::fill` meets its contract. The loop's invariant: the first i entries of the stretch are filled. The measure is how many are left.
 -- Assumes nothing.
 use mathlib.Core.Path.{◌≡◌, ◌∙◌}
-use Prim.Native.Nat.{◌+◌, ◌-◌, ◌<◌}
+use Prim.Native.Nat.{◌+◌, ◌<◌}
 use native.Mathlib.Omega.{arith}
 use Rattle.alpha.specs.Box.{size}
 use Rattle.alpha.specs.Holds.{variable}
@@ -10,9 +10,8 @@ use Rattle.alpha.specs.Ask.{before}
 use Rattle.laws.specs.Sheets.{sheet_of}
 use Rattle.laws.proofs.Elements.{before-fits}
 use Rattle.domain.proofs.Records.{VariableLaid, laid-variable}
-use Rattle.evaluate.specs.Memo.{memo_of}
 use Rattle.evaluate.proofs.Doing.{setting-with}
-use Rattle.run.proofs.Tabling.{FillsBelow, fills-none, fills-next, fills-whole}
+use Rattle.run.proofs.Tabling.{fills-next}
 use Rattle.run.proofs.fill.fill.Goals.{After-first_element-first, In-loop-i, Start}
 use Rattle.run.proofs.fill.fill.Goals as goal
 

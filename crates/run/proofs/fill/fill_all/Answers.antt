@@ -1,6 +1,6 @@
 -- `run::fill_all` meets its contract. The loop's invariant: the stretches of the variables before v are filled. The measure is how many are
 -- left. Assumes nothing.
-use mathlib.Core.Path.{◌≡◌, ap, ◌∙◌}
+use mathlib.Core.Path.{◌≡◌, ◌∙◌}
 use Prim.Native.Nat.{suc, ◌+◌, ◌-◌, ◌≤◌, ◌<◌}
 use native.Mathlib.Omega.{arith}
 use borrow.Author.Rules.{rules}
@@ -9,13 +9,10 @@ use Rattle.alpha.specs.Box.{size}
 use Rattle.alpha.specs.Holds.{variable}
 use Rattle.alpha.specs.Ask.{before}
 use Rattle.laws.specs.Sheets.{vars_of, sheet_of}
-use Rattle.laws.proofs.Elements.{before-fits, before-suc, before-all}
-use Rattle.tree.proofs.Heading.{prepared-sections}
-use Rattle.domain.proofs.Records.{VariableLaid, laid-variable, laid-length}
-use Rattle.evaluate.specs.Memo.{memo_of}
+use Rattle.laws.proofs.Elements.{before-fits, before-suc}
+use Rattle.domain.proofs.Records.{VariableLaid, laid-variable}
 use Rattle.evaluate.proofs.Doing.{setting-with}
-use Rattle.run.specs.Filling.{Advances, FillsAll}
-use Rattle.run.proofs.Tabling.{part-long, advances-none, advances-on, fills-start, fills-on, fills-at}
+use Rattle.run.proofs.Tabling.{part-long, advances-on, fills-on, fills-at}
 use Rattle.run.proofs.fill.fill_all.Goals.{After-first_element-from, After-first_element-to, After-variable_count-n, In-loop-v}
 use Rattle.run.proofs.fill.fill_all.Goals as goal
 

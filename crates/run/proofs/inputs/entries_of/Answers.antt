@@ -1,19 +1,18 @@
 -- `run::entries_of` meets its contract: only a boolean input's entries are looked at. Assumes nothing.
 use mathlib.Core.Path.{◌≡◌, ap, ◌∙◌}
-use Prim.Native.Nat.{suc, ◌+◌, ◌-◌, ◌≤◌}
+use Prim.Native.Nat.{suc, ◌+◌, ◌≤◌}
 use native.Mathlib.Omega.{arith}
 use borrow.Author.Rules.{rules}
 use mathlib.Core.Bool.{true}
 use lib.ListN.{length}
-use Rattle.alpha.specs.Sheet.{Sort.boolean}
 use Rattle.alpha.specs.Box.{size}
 use Rattle.alpha.specs.Read.{kind_of, sort_of}
 use Rattle.alpha.specs.Holds.{variable, is_input, is_input_kind}
 use Rattle.laws.specs.Sheets.{sheet_of}
 use Rattle.domain.proofs.Records.{VariableLaid, laid-variable, laid-total}
-use Rattle.tree.proofs.Passing.{input-is as input-kind, other-is as other-kind}
-use Rattle.run.proofs.Listing.{size-input, before-step, before-count, count-total, entries_none, entries-integer}
-use Rattle.run.proofs.Listing.{bits-entries, part-few, integer-sort, boolean-sort}
+use Rattle.tree.proofs.Passing.{input-is as input-kind}
+use Rattle.run.proofs.Listing.{size-input, before-step, before-count, count-total}
+use Rattle.run.proofs.Listing.{bits-entries, part-few, boolean-sort}
 use Rattle.run.proofs.inputs.entries_of.Goals.{After-inputs_before-to, After-kind_of, After-sort_of, Start}
 use Rattle.run.proofs.inputs.entries_of.Goals as goal
 
