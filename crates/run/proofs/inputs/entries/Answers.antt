@@ -28,7 +28,8 @@ returns-in_default c =
 
 pub loop-v-preserved : goal.loop-v-preserved
 loop-v-preserved c =
-    entries-on _ _ _ (known (goal.at.loop-v-preserved c).In-loop-v (count-is (goal.at.loop-v-preserved c).After-variable_count-n)) c.loop-v.invariant (sym c.entries_of-r.ensures ∙ ap ruled c.in-Passes.is)
+    let way = goal.at.loop-v-preserved c in
+    entries-on _ _ _ (known way.In-loop-v (count-is way.After-variable_count-n)) c.loop-v.invariant (sym c.entries_of-r.ensures ∙ ap ruled c.in-Passes.is)
 
 pub returns : goal.returns
 returns c =

@@ -65,23 +65,38 @@ few c =
 
 pub offset_bounds-ins-from : goal.offset_bounds-ins-from
 offset_bounds-ins-from c =
-    let small : c.inputs_before-from.result ≤ 4096 = omega (arith, (few (goal.at.offset_bounds-ins-from c).After-inputs_before-to).0, (few (goal.at.offset_bounds-ins-from c).After-inputs_before-to).1, step (goal.at.offset_bounds-ins-from c).After-inputs_before-to (laid (goal.at.offset_bounds-ins-from c).Start) (input (goal.at.offset_bounds-ins-from c).After-kind_of (laid (goal.at.offset_bounds-ins-from c).Start))) in search rules
+    let way = goal.at.offset_bounds-ins-from c in
+    let l = laid way.Start in
+    let long = step way.After-inputs_before-to l (input way.After-kind_of l) in
+    let small : c.inputs_before-from.result ≤ 4096 = omega (arith, (few way.After-inputs_before-to).0, (few way.After-inputs_before-to).1, long) in search rules
 
 pub slice_bounds-bits-count : goal.slice_bounds-bits-count
 slice_bounds-bits-count c =
-    omega (arith, step (goal.at.slice_bounds-bits-count c).After-inputs_before-to (laid (goal.at.slice_bounds-bits-count c).Start) (input (goal.at.slice_bounds-bits-count c).After-kind_of (laid (goal.at.slice_bounds-bits-count c).Start)), (few (goal.at.slice_bounds-bits-count c).After-inputs_before-to).0)
+    let way = goal.at.slice_bounds-bits-count c in
+    let l = laid way.Start in
+    let long = step way.After-inputs_before-to l (input way.After-kind_of l) in
+    omega (arith, long, (few way.After-inputs_before-to).0)
 
 pub slice_bounds-bits-start : goal.slice_bounds-bits-start
 slice_bounds-bits-start c =
-    omega (arith, step (goal.at.slice_bounds-bits-start c).After-inputs_before-to (laid (goal.at.slice_bounds-bits-start c).Start) (input (goal.at.slice_bounds-bits-start c).After-kind_of (laid (goal.at.slice_bounds-bits-start c).Start)), (few (goal.at.slice_bounds-bits-start c).After-inputs_before-to).0)
+    let way = goal.at.slice_bounds-bits-start c in
+    let l = laid way.Start in
+    let long = step way.After-inputs_before-to l (input way.After-kind_of l) in
+    omega (arith, long, (few way.After-inputs_before-to).0)
 
 pub slice_bounds-bits-end : goal.slice_bounds-bits-end
 slice_bounds-bits-end c =
-    omega (arith, step (goal.at.slice_bounds-bits-end c).After-inputs_before-to (laid (goal.at.slice_bounds-bits-end c).Start) (input (goal.at.slice_bounds-bits-end c).After-kind_of (laid (goal.at.slice_bounds-bits-end c).Start)), (few (goal.at.slice_bounds-bits-end c).After-inputs_before-to).0)
+    let way = goal.at.slice_bounds-bits-end c in
+    let l = laid way.Start in
+    let long = step way.After-inputs_before-to l (input way.After-kind_of l) in
+    omega (arith, long, (few way.After-inputs_before-to).0)
 
 pub bits-requires : goal.bits-requires
 bits-requires c =
-    part-few _ _ _ _ (omega (arith, step (goal.at.bits-requires c).After-inputs_before-to (laid (goal.at.bits-requires c).Start) (input (goal.at.bits-requires c).After-kind_of (laid (goal.at.bits-requires c).Start)))) (few (goal.at.bits-requires c).After-inputs_before-to).0 (few (goal.at.bits-requires c).After-inputs_before-to).1
+    let way = goal.at.bits-requires c in
+    let l = laid way.Start in
+    let long = step way.After-inputs_before-to l (input way.After-kind_of l) in
+    part-few _ _ _ _ (omega (arith, long)) (few way.After-inputs_before-to).0 (few way.After-inputs_before-to).1
 
 pub returns : goal.returns
 returns c =
