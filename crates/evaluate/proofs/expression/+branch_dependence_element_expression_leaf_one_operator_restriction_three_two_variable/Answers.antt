@@ -1,5 +1,5 @@
 -- The evaluators of `evaluate::expression` meet their contracts, together: each answer is the definition's outcome. The measure is the
--- remaining depth, and then the remaining nodes. Each need cites one law: the ways through a node (proofs/Ways.antt), its operands or its
+-- remaining depth, and then the remaining nodes. Each answer cites one law: the ways through a node (proofs/Ways.antt), its operands or its
 -- child (proofs/Operands.antt), and elements with their bodies (proofs/Elements.antt). Assumes nothing.
 use mathlib.Core.Path.{sym, ap, ◌∙◌, subst}
 use Prim.Native.Nat.{ℕ, ◌+◌, ◌≤◌}
