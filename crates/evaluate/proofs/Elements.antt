@@ -32,7 +32,6 @@ use Rattle.integer.specs.Range as Range
 use Rattle.affine.specs.Value.{point_of, Padded}
 use Rattle.sheet.specs.Record.{dimension_at}
 use Rattle.points.specs.declared.Found.{Found}
-use Rattle.points.specs.declared.Found.TheVariants as Found
 use Rattle.points.specs.Number.{box_of, number_in}
 use Rattle.tree.specs.declared.LeafKind.TheVariants.{Variable}
 use Rattle.tree.specs.Classes.{leaf_code}

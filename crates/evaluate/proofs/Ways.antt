@@ -1,7 +1,7 @@
 -- The ways through the evaluator of expressions, one for each kind of node: what is worked out of the tree at a place, from what was
 -- worked out of its operands. Assumes nothing.
 use mathlib.Core.Path.{◌≡◌, refl, sym, ap, ◌∙◌, subst}
-use Prim.Native.Nat.{ℕ, ◌+◌, ◌-◌}
+use Prim.Native.Nat.{ℕ, ◌+◌}
 use native.Mathlib.Omega.{arith}
 use mathlib.Core.Bool.{true, ◌&&◌}
 use mathlib.Core.List.{List}
@@ -19,7 +19,7 @@ use Rattle.alpha.specs.Sheet.{Expr.un, Expr.bin, Expr.ite, Expr.kase, Expr.restr
 use Rattle.alpha.specs.Affine.{image}
 use Rattle.alpha.specs.Read.{unary_of, binary_of}
 use Rattle.alpha.specs.Shape.{fits}
-use Rattle.alpha.specs.Outcome.{Outcome, value, and_then, unary, binary, choose, is_true, eval, outcome}
+use Rattle.alpha.specs.Outcome.{value, and_then, unary, binary, choose, is_true, eval, outcome}
 use Rattle.laws.specs.At.{code_of, node_read, node_end, At}
 use Rattle.laws.specs.Sheets.{heads_of, vars_of, sheet_of}
 use Rattle.laws.proofs.Tests.{&&-left, &&-right}

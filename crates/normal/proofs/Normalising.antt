@@ -31,7 +31,6 @@ use Rattle.normal.specs.declared.Plan.{Plan}
 use Rattle.normal.specs.declared.Plan.TheVariants.{Total, WideAt}
 use Rattle.normal.specs.Plan.{Size, planned, front_of, sized, Small, PlansFrom}
 use Rattle.normal.specs.Stored.{bodies_from, Stored, WritesFrom}
-use Rattle.normal.specs.Stored as Storing
 use Rattle.normal.specs.Planned.{Planned}
 use Rattle.normal.proofs.Laying.{sets-after, length-nat}
 

@@ -7,7 +7,7 @@ use mathlib.Core.Bool.{true, ◌&&◌}
 use mathlib.Core.List.{List, [], ◌∷◌, ◌++◌, append_assoc}
 use lib.ListN.{length, length-append}
 use lib.Seq.{sets, length-sets}
-use Rattle.alpha.specs.Sheet.{Node.n_case, Expr, Expr.kase, Expr.restr, Exprs, Exprs.none, Exprs.more}
+use Rattle.alpha.specs.Sheet.{Node.n_case, Expr, Expr.kase, Expr.restr, Exprs, Exprs.more}
 use Rattle.alpha.specs.Read.{got, dimension}
 use Rattle.alpha.specs.Shape.{fits, all_fit}
 use Rattle.alpha.specs.Reach.{top_reach, reach, reach_all}

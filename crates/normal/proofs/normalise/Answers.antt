@@ -1,7 +1,6 @@
 -- `normal::normalise` keeps its promise: the sheet's refusals, then WIDE, then ROOM, or the normal form's bytes. Assumes nothing.
 use mathlib.Core.Path.{refl, ◌∙◌}
 use native.Mathlib.Omega.{arith}
-use borrow.Author.Rules.{rules}
 use Rattle.alpha.specs.declared.Refusal.TheVariants.{Long}
 use Rattle.tree.proofs.Heading.{prepared-read}
 use Rattle.accept.proofs.Steps.{long-refuses}

@@ -1,9 +1,6 @@
 -- `run::run` meets its contract, way by way. Assumes nothing.
 use mathlib.Core.Path.{◌≡◌, refl, sym, ap, ◌∙◌}
-use Prim.Native.Nat.{ℕ}
 use native.Mathlib.Omega.{arith}
-use lib.ListN.{length-replicate}
-use borrow.Author.Rules.{rules}
 use Rattle.alpha.specs.Answer.{accepted}
 use Rattle.alpha.specs.Check.{total}
 use Rattle.alpha.specs.Run.{inputs}
@@ -53,11 +50,13 @@ returns-in-Refused c =
 
 pub returns-then-codes-total : goal.returns-then-codes-total
 returns-then-codes-total c =
-    codes-runs _ _ _ c.args.values.now _ (admits (goal.at.returns-then-codes-total c).In-Accepted-judged).sheet-is (taken (goal.at.returns-then-codes-total c).In_default-r) _ (many (goal.at.returns-then-codes-total c).In-Accepted-judged) c.if-codes-total.true _ refl
+    let way = goal.at.returns-then-codes-total c in
+    codes-runs _ _ _ c.args.values.now _ (admits way.In-Accepted-judged).sheet-is (taken way.In_default-r) _ (many way.In-Accepted-judged) c.if-codes-total.true _ refl
 
 pub returns-then-values-total : goal.returns-then-values-total
 returns-then-values-total c =
-    values-runs _ _ _ _ _ (admits (goal.at.returns-then-values-total c).In-Accepted-judged).sheet-is (taken (goal.at.returns-then-values-total c).In_default-r) _ (many (goal.at.returns-then-values-total c).In-Accepted-judged) c.if-codes-total.false c.if-values-total.true _ refl
+    let way = goal.at.returns-then-values-total c in
+    values-runs _ _ _ _ _ (admits way.In-Accepted-judged).sheet-is (taken way.In_default-r) _ (many way.In-Accepted-judged) c.if-codes-total.false c.if-values-total.true _ refl
 
 pub keep_all-requires : goal.keep_all-requires
 keep_all-requires c =

@@ -1,5 +1,4 @@
 -- `evaluate::constant` meets its contract. Assumes nothing.
-use mathlib.Core.Path.{refl}
 use native.Mathlib.Omega.{arith}
 use Rattle.tree.proofs.Classes.{leaf-there}
 use Rattle.evaluate.proofs.expression.constant.Goals as goal

@@ -1,11 +1,9 @@
 -- `evaluate::known` meets its contract: the entry's code and value are those that the memo has. Assumes nothing.
-use mathlib.Core.Path.{◌≡◌, refl, ap, ◌∙◌}
+use mathlib.Core.Path.{◌≡◌, refl, ◌∙◌}
 use native.Mathlib.Omega.{arith}
 use lib.ListN.{get_or}
-use lib.IntN.{nat_abs}
-use borrow.Author.Rules.{rules}
 use Rattle.evaluate.specs.Memo.{value_in}
-use Rattle.evaluate.proofs.Entries.{entry-code, entry_value, value-in-small}
+use Rattle.evaluate.proofs.Entries.{entry-code, entry_value}
 use Rattle.evaluate.proofs.memo.known.Goals.{After-sub-x}
 use Rattle.evaluate.proofs.memo.known.Goals as goal
 

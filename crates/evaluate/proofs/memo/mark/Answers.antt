@@ -1,7 +1,5 @@
 -- `evaluate::mark` meets its contract. Assumes nothing.
 use mathlib.Core.Path.{◌∙◌}
-use native.Mathlib.Omega.{arith}
-use borrow.Author.Rules.{rules}
 use Rattle.evaluate.proofs.Entries.{entry-noted}
 use Rattle.evaluate.proofs.memo.mark.Goals as goal
 

@@ -1,11 +1,7 @@
 -- `evaluate::note` meets its contract: an outcome has its own code and value, and any other answer is unknown. Assumes nothing.
 use mathlib.Core.Path.{sym, ap, ◌∙◌}
-use native.Mathlib.Omega.{arith}
-use borrow.Author.Rules.{rules}
-use Rattle.alpha.specs.Verdict.{outcome_of}
-use Rattle.integer.specs.Range as Range
-use Rattle.evaluate.specs.Memo.{Small, code_of, value_of}
-use Rattle.evaluate.proofs.Entries.{code-few, value-small, entry-noted}
+use Rattle.evaluate.specs.Memo.{code_of, value_of}
+use Rattle.evaluate.proofs.Entries.{entry-noted}
 use Rattle.evaluate.proofs.memo.note.Goals as goal
 
 pub returns-in-Done : goal.returns-in-Done

@@ -1,10 +1,9 @@
 -- `evaluate::owner` meets its contract. The loop's invariant: the variables up to v start at or before the element. The measure is how
 -- many variables are left. Assumes nothing.
-use Prim.Native.Nat.{◌-◌, ◌<◌}
+use Prim.Native.Nat.{◌<◌}
 use native.Mathlib.Omega.{arith}
-use Rattle.laws.specs.Sheets.{vars_of}
 use Rattle.domain.proofs.Records.{laid-variable}
-use Rattle.evaluate.proofs.Owning.{Reached, reached-first, reached-next, reached-owns}
+use Rattle.evaluate.proofs.Owning.{reached-first, reached-next}
 use Rattle.evaluate.proofs.settle.owner.Goals.{At-loop-v}
 use Rattle.evaluate.proofs.settle.owner.Goals as goal
 

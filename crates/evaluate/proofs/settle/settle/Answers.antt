@@ -1,9 +1,5 @@
 -- `evaluate::settle` meets its contract: the element is settled already, or by one attempt, or else on a stack. Assumes nothing.
-use Prim.Native.Nat.{◌<◌}
-use native.Mathlib.Omega.{arith}
-use borrow.Author.Rules.{rules}
-use Rattle.evaluate.proofs.Doing.{setting-with, ready-kept}
-use Rattle.evaluate.proofs.Stacks.{settled_before, alone-after, attempted, settled-after}
+use Rattle.evaluate.proofs.Stacks.{settled_before, attempted, settled-after}
 use Rattle.evaluate.proofs.settle.settle.Goals as goal
 
 pub returns-in-Done : goal.returns-in-Done

@@ -1,14 +1,8 @@
 -- `evaluate::settle_deep` meets its contract. The loop's invariant: the elements in progress stand on the stack, each waiting for the
 -- next, and the first of them is the one that was asked for. The measure is what is still to be done. Assumes nothing.
-use Prim.Native.Nat.{ℕ, ◌≤◌, ◌<◌}
-use native.Mathlib.Omega.{arith}
-use lib.ListN.{replicate, length-replicate}
-use lib.IntN.{pos}
-use borrow.Author.Rules.{rules}
 use Rattle.laws.specs.Sheets.{sheet_of}
-use Rattle.evaluate.specs.Memo.{busy, memo_of, sum, to_do, noted}
-use Rattle.evaluate.proofs.Doing.{setting-with}
-use Rattle.evaluate.proofs.Stacks.{Going, going-first, going_on, going-last, last-known}
+use Rattle.evaluate.specs.Memo.{memo_of, sum, to_do}
+use Rattle.evaluate.proofs.Stacks.{Going}
 use Rattle.evaluate.proofs.settle.settle_deep.Given as goal
 
 abbrev pub invariant-loop-high : goal.invariant-loop-high

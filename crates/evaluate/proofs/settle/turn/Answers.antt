@@ -5,10 +5,10 @@ use native.Mathlib.Omega.{arith}
 use lib.ListN.{set}
 use Rattle.laws.specs.Sheets.{sheet_of}
 use Rattle.evaluate.specs.declared.Work.TheVariants.{Deep}
-use Rattle.evaluate.specs.Memo.{Memo, memo_of}
+use Rattle.evaluate.specs.Memo.{memo_of}
 use Rattle.evaluate.specs.Working.{WorksOut}
 use Rattle.evaluate.specs.Settling.{body_of, standing, Turned}
-use Rattle.evaluate.proofs.Stacks.{high-few, top-element, top-marked, popped-turn, wanted-element, high-low, pushed-turn}
+use Rattle.evaluate.proofs.Stacks.{high-few, popped-turn, high-low, pushed-turn}
 use borrow.Author.Rules.{rules}
 use Rattle.evaluate.proofs.settle.turn.Goals.{In-Deep, Start}
 use Rattle.evaluate.proofs.settle.turn.Goals as goal

@@ -1,9 +1,5 @@
 -- `normal::put_from` meets its contract: a branch, and then those after it. Assumes nothing.
-use borrow.Fn.PlainCycle.{Measures, is, falls, and}
-use Rattle.normal.proofs.body.+put_from.{statement}
-use Prim.Native.Nat.{ℕ, ◌-◌, ◌<◌}
 use native.Mathlib.Omega.{arith}
-use borrow.Author.Rules.{rules}
 use Rattle.normal.proofs.Bodies.{store-none, first-room, rest-room, store-more}
 use Rattle.normal.proofs.body.+put_from.Goals as goal
 

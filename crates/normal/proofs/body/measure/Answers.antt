@@ -2,7 +2,6 @@
 use Prim.Native.Nat.{◌*◌, ◌≤◌}
 use native.Mathlib.Omega.{arith}
 use Rattle.normal.proofs.Bodies.{measure-route, measured-low, measured}
-use borrow.Author.Rules.{rules}
 use Rattle.normal.proofs.body.measure.Goals.{After-follow-term}
 use Rattle.normal.proofs.body.measure.Goals as goal
 

@@ -7,8 +7,7 @@ use lib.ListN.{length}
 use lib.Seq.{sets, length-sets}
 use Rattle.alpha.specs.Field.{nat}
 use Rattle.normal.proofs.Laying.{sets-after, length-nat}
-use Rattle.normal.proofs.Bodies.{stored-long, room-there, given-route, term-route, branch-stored}
-use borrow.Author.Rules.{rules}
+use Rattle.normal.proofs.Bodies.{room-there, given-route, term-route, branch-stored}
 use Rattle.normal.proofs.body.put_branch.Goals.{After-put_nat-2, Start}
 use Rattle.normal.proofs.body.put_branch.Goals as goal
 

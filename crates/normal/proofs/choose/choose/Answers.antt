@@ -2,8 +2,6 @@
 -- invariant: what is chosen from the children from here on is what is chosen from all of them. Assumes nothing.
 use native.Mathlib.Omega.{arith}
 use Rattle.tree.proofs.Standings.{first-standing}
-use Rattle.normal.specs.declared.Chosen.{Chosen}
-use Rattle.normal.specs.Counted.{ChildrenAt, Picks}
 use Rattle.normal.proofs.Counting.{children-some, children-standing, last-way, first_way, children-rest, later-way}
 use Rattle.normal.proofs.choose.choose.Goals as goal
 

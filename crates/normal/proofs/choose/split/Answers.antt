@@ -1,6 +1,6 @@
 -- `normal::split` meets its contract: one combination is not counted; otherwise the others have those that the first one's count leaves.
 -- Assumes nothing.
-use Rattle.normal.proofs.Counting.{operand-standing, one_split, first_some, rest_some, counted-split}
+use Rattle.normal.proofs.Counting.{rest_some, counted-split}
 use Rattle.normal.proofs.choose.split.Goals as goal
 
 pub nonzero_div-branch : goal.nonzero_div-branch

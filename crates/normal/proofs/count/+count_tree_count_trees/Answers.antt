@@ -1,18 +1,12 @@
 -- `normal::count_tree` and `normal::count_trees` meet their contracts, class by class: a leaf has one branch, an operator its operands'
 -- combinations, a case its children's branches, any other node its child's; and a tree ends where its children end. Assumes nothing.
-use borrow.Fn.PlainCycle.{Measures, is, falls, and}
-use Rattle.normal.proofs.count.+count_tree_count_trees.{statement}
-use Prim.Native.Nat.{ℕ, ◌+◌, ◌*◌, ◌≤◌, ◌<◌}
+use Prim.Native.Nat.{ℕ, ◌≤◌}
 use mathlib.Core.Path.{◌≡◌, sym, ◌∙◌}
 use native.Mathlib.Omega.{arith}
-use borrow.Author.Rules.{rules}
-use Rattle.laws.specs.Sheets.{vars_of}
 use Rattle.tree.specs.declared.Class.{Class}
-use Rattle.tree.specs.Standing.{NodedAs, StandingAll}
-use Rattle.tree.specs.Ends.{AllEnd}
+use Rattle.tree.specs.Standing.{NodedAs}
 use Rattle.tree.proofs.Classes.{restriction-arity, dependence-arity}
 use Rattle.tree.proofs.Standings.{standing-noded, standing-some, standing-children, first-standing, rest-standing, node-ends, none-ends, more-ends}
-use Rattle.normal.specs.Counted.{CountsAll}
 use Rattle.normal.proofs.Counting.{leaf-way, leaf-ends, operator-way, case-way, restriction-below, dependence-below, below-standing, below-way, below-ends}
 use Rattle.normal.proofs.Counting.{none-way, more-way}
 use Rattle.normal.proofs.count.+count_tree_count_trees.Goals.{count_tree-After-node_end-next, count_tree-Start}

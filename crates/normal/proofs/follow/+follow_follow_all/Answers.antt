@@ -1,20 +1,14 @@
 -- `normal::follow` and `normal::follow_all` meet their contracts: a node by its class; operands one after another. Assumes nothing.
-use borrow.Fn.PlainCycle.{Measures, is, falls, and}
-use Rattle.normal.proofs.follow.+follow_follow_all.{statement}
-use Prim.Native.Nat.{ℕ, ◌+◌, ◌*◌, ◌≤◌, ◌<◌}
+use Prim.Native.Nat.{ℕ, ◌≤◌, ◌<◌}
 use mathlib.Core.Path.{◌≡◌, refl, sym, ◌∙◌}
-use mathlib.Core.List.{List}
 use native.Mathlib.Omega.{arith}
 use borrow.Author.Rules.{rules}
-use lib.ListN.{length}
 use Rattle.laws.specs.Sheets.{vars_of}
 use Rattle.tree.specs.declared.Class.{Class}
 use Rattle.tree.specs.Classes.{class_at}
 use Rattle.tree.specs.Standing.{Noded}
 use Rattle.tree.proofs.Classes.{code-there}
 use Rattle.tree.proofs.Standings.{standing-noded, standing-some}
-use Rattle.normal.specs.declared.Pen.{Pen}
-use Rattle.normal.specs.Followed.{room_of, RouteAll, FollowsAll}
 use Rattle.normal.proofs.Routes.{route-standing, route-leaf, route-operator, route-operands, route-choice, route-chosen}
 use Rattle.normal.proofs.Routes.{route-restriction, route-inside, route-composes, route-below, route-operand, route-first, route-next, route-only}
 use Rattle.normal.proofs.Routes.{leaf-way, operator-way, case-way, restriction-way, dependence-way, none-way, one_way, more-way}

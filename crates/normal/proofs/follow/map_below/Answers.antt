@@ -1,7 +1,6 @@
 -- `normal::map_below` meets its contract: the dependence's rows are read, and their map is composed with the one above. Assumes nothing.
 use Rattle.affine.specs.Reading.{MapRead}
-use Rattle.affine.proofs.Fetched.{rows-there, rows-map}
-use borrow.Author.Rules.{rules}
+use Rattle.affine.proofs.Fetched.{rows-map}
 use Rattle.normal.proofs.follow.map_below.Goals.{After-rows_read}
 use Rattle.normal.proofs.follow.map_below.Goals as goal
 

@@ -1,6 +1,5 @@
 -- `normal::limits_size` meets its contract: the constraints of a restriction, and nothing of any other class. Assumes nothing.
 use mathlib.Core.Path.{◌≡◌, sym, ◌∙◌}
-use mathlib.Core.Bool.{false}
 use Prim.Native.Nat.{◌+◌, ◌*◌, ◌≤◌}
 use native.Mathlib.Nat.{mul-le-mul_right}
 use native.Mathlib.Omega.{arith}
@@ -9,8 +8,7 @@ use Rattle.tree.specs.Standing.{NodedAs}
 use Rattle.tree.proofs.Classes.{restriction-fields}
 use Rattle.tree.specs.declared.Class.{Class}
 use Rattle.tree.specs.Classes.{class_at}
-use Rattle.normal.proofs.Spots.{nothing-sized, leaf-free, operator-free, case-silent, dependence-silent, limits-sizes}
-use borrow.Author.Rules.{rules}
+use Rattle.normal.proofs.Spots.{limits-sizes}
 use Rattle.normal.proofs.node.limits_size.Goals.{After-class_of-class, In-Restriction}
 use Rattle.normal.proofs.node.limits_size.Goals as goal
 
@@ -36,7 +34,8 @@ natural-count-requires c =
 
 pub overflow_mul-result-in-Restriction : goal.overflow_mul-result-in-Restriction
 overflow_mul-result-in-Restriction c =
-    let many = (restriction-fields _ _ (a-restriction (goal.at.overflow_mul-result-in-Restriction c).In-Restriction (class (goal.at.overflow_mul-result-in-Restriction c).After-class_of-class))).many in
+    let way = goal.at.overflow_mul-result-in-Restriction c in
+    let many = (restriction-fields _ _ (a-restriction way.In-Restriction (class way.After-class_of-class))).many in
     let few : c.natural-count.result ≤ 64 = omega (arith, many, c.natural-count.ensures) in
     omega (arith, mul-le-mul_right (16 + 8 * c.args.m.width) few, c.requires.1.cols-few)
 

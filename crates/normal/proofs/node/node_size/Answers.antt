@@ -1,14 +1,10 @@
 -- `normal::node_size` meets its contract: a leaf with its map, an operator as long as it stands, and nothing of any other class. Assumes nothing.
 use mathlib.Core.Path.{◌≡◌, sym, ◌∙◌}
-use mathlib.Core.Bool.{true}
-use Prim.Native.Nat.{◌+◌, ◌*◌, ◌≤◌}
-use native.Mathlib.Nat.{mul-le-mul_right}
 use native.Mathlib.Omega.{arith}
 use Rattle.tree.proofs.Classes.{end-far}
 use Rattle.tree.specs.declared.Class.{Class}
 use Rattle.tree.specs.Classes.{class_at}
-use Rattle.normal.proofs.Spots.{nothing-sized, case-silent, restriction-bare, dependence-silent, leaf-sizes, operator-sizes}
-use borrow.Author.Rules.{rules}
+use Rattle.normal.proofs.Spots.{leaf-sizes, operator-sizes}
 use Rattle.normal.proofs.node.node_size.Goals.{After-class_of-class}
 use Rattle.normal.proofs.node.node_size.Goals as goal
 

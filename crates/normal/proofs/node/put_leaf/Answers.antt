@@ -1,7 +1,6 @@
 -- `normal::put_leaf` meets its contract: the map's dependence, and then the leaf's two fields. Assumes nothing.
 use mathlib.Core.Path.{ap, ◌∙◌}
 use Prim.Native.Nat.{◌+◌, ◌*◌, ◌≤◌}
-use native.Mathlib.Nat.{mul-le-mul_right}
 use native.Mathlib.Omega.{arith}
 use lib.ListN.{length}
 use lib.Seq.{length-sets}
@@ -11,7 +10,6 @@ use Rattle.tree.specs.Standing.{NodedAs}
 use Rattle.tree.proofs.Classes.{leaf-there}
 use Rattle.normal.specs.Part.{map_bytes}
 use Rattle.normal.proofs.Spots.{leaf-stores, leaf_room}
-use borrow.Author.Rules.{rules}
 use Rattle.normal.proofs.node.put_leaf.Goals.{Start}
 use Rattle.normal.proofs.node.put_leaf.Goals as goal
 

@@ -1,6 +1,5 @@
 -- `normal::put_limits` meets its contract: the constraints of a restriction, and nothing of any other class. Assumes nothing.
 use mathlib.Core.Path.{◌≡◌, sym, ◌∙◌}
-use mathlib.Core.Bool.{false}
 use Prim.Native.Nat.{◌+◌, ◌≤◌}
 use native.Mathlib.Omega.{arith}
 use lib.ListN.{length}
@@ -9,8 +8,7 @@ use Rattle.tree.specs.Standing.{NodedAs}
 use Rattle.tree.proofs.Classes.{restriction-fields}
 use Rattle.tree.specs.declared.Class.{Class}
 use Rattle.tree.specs.Classes.{class_at}
-use Rattle.normal.proofs.Spots.{nothing_stored, leaf-free, operator-free, case-silent, dependence-silent, limits-stores, limits-room}
-use borrow.Author.Rules.{rules}
+use Rattle.normal.proofs.Spots.{limits-stores, limits-room}
 use Rattle.normal.proofs.node.put_limits.Goals.{After-class_of-class, In-Restriction}
 use Rattle.normal.proofs.node.put_limits.Goals as goal
 
@@ -69,5 +67,6 @@ put_constraints-requires c =
 pub returns-in-Restriction : goal.returns-in-Restriction
 returns-in-Restriction c =
     let a = c.args in
-    limits-stores _ _ a.m (a-restriction (goal.at.returns-in-Restriction c).In-Restriction (class (goal.at.returns-in-Restriction c).After-class_of-class)) a.to _ _ a.out.now c.natural-count.ensures c.natural-n.ensures
+    let way = goal.at.returns-in-Restriction c in
+    limits-stores _ _ a.m (a-restriction way.In-Restriction (class way.After-class_of-class)) a.to _ _ a.out.now c.natural-count.ensures c.natural-n.ensures
     c.put_constraints.ensures

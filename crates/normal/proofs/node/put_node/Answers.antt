@@ -1,12 +1,10 @@
 -- `normal::put_node` meets its contract: a leaf, an operator, and nothing of any other class. Assumes nothing.
 use mathlib.Core.Path.{◌≡◌, sym, ◌∙◌}
-use mathlib.Core.Bool.{true}
 use Rattle.tree.specs.declared.Class.{Class}
 use Rattle.tree.specs.declared.Class.TheVariants.{Operator}
 use Rattle.tree.specs.Classes.{class_at}
 use Rattle.tree.specs.Standing.{NodedAs}
-use Rattle.normal.proofs.Spots.{operator-room, nothing_stored, case-silent, restriction-bare, dependence-silent}
-use borrow.Author.Rules.{rules}
+use Rattle.normal.proofs.Spots.{operator-room}
 use Rattle.normal.proofs.node.put_node.Goals.{After-class_of-class}
 use Rattle.normal.proofs.node.put_node.Goals as goal
 

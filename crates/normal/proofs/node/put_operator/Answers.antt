@@ -1,13 +1,11 @@
 -- `normal::put_operator` meets its contract: two fields, or an if's code. Assumes nothing.
-use mathlib.Core.Path.{◌≡◌, ap, ◌∙◌}
-use Prim.Native.Nat.{ℕ}
+use mathlib.Core.Path.{◌≡◌, ap}
 use native.Mathlib.Omega.{arith}
 use Rattle.laws.specs.At.{code_of, node_read}
 use Rattle.laws.specs.Sheets.{vars_of}
-use Rattle.tree.specs.declared.OperatorKind.TheVariants.{Unary, Binary, If}
+use Rattle.tree.specs.declared.OperatorKind.TheVariants.{Unary, Binary}
 use Rattle.tree.specs.Classes.{operator_code}
-use Rattle.normal.proofs.Spots.{operator-long, if-stores, two-long-here, two-there, two-stores}
-use borrow.Author.Rules.{rules}
+use Rattle.normal.proofs.Spots.{two-long-here, two-there, two-stores}
 use Rattle.normal.proofs.node.put_operator.Goals.{After-operator_of-kind}
 use Rattle.normal.proofs.node.put_operator.Goals as goal
 

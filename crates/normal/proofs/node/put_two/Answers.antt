@@ -5,7 +5,6 @@ use lib.Seq.{sets}
 use lib.IntN.{nat_abs}
 use Rattle.alpha.specs.Field.{field, nat, num}
 use Rattle.normal.proofs.Laying.{sets-after, length-nat}
-use borrow.Author.Rules.{rules}
 use Rattle.normal.proofs.node.put_two.Goals as goal
 
 pub returns : goal.returns

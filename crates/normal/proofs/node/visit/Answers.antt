@@ -1,6 +1,5 @@
 -- `normal::visit` meets its contract: measured, and stored where it is not only measured. Assumes nothing.
-use Rattle.normal.proofs.Spots.{visit-room, visit-is, stored-spot, dry-laid, stored-laid}
-use borrow.Author.Rules.{rules}
+use Rattle.normal.proofs.Spots.{visit-room}
 use Rattle.normal.proofs.node.visit.Goals as goal
 
 pub moved-requires : goal.moved-requires

@@ -1,5 +1,4 @@
 -- `normal::put_constraint` meets its contract: its relation, then its row after the map. Assumes nothing.
-use borrow.Author.Rules.{rules}
 use Rattle.normal.proofs.Composed.{constraint-fits, constraint-laid}
 use Rattle.normal.proofs.rows.put_constraint.Goals as goal
 

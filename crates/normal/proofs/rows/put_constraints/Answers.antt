@@ -1,19 +1,17 @@
 -- `normal::put_constraints` meets its contract. The loop's invariant: storing the constraints that are left gives what storing them all gives
 -- at the start. Assumes nothing.
-use mathlib.Core.Path.{◌≡◌, refl, ap, ◌∙◌}
+use mathlib.Core.Path.{ap, ◌∙◌}
 use Prim.Native.Nat.{ℕ, ◌+◌, ◌*◌}
 use native.Mathlib.Nat.{mul-le-mul_right}
 use native.Mathlib.Omega.{arith}
-use borrow.Author.Rules.{rules}
 use lib.ListN.{length}
-use lib.Seq.{sets, length-sets}
+use lib.Seq.{length-sets}
 use mathlib.Core.List.{List}
 use Rattle.alpha.specs.Affine.{constraint_after}
 use Rattle.alpha.specs.Written.{constraint_bytes}
 use Rattle.affine.specs.declared.Map.{Map}
 use Rattle.affine.specs.Value.{map_of}
 use Rattle.domain.specs.Constraints.{constraint_fields}
-use Rattle.normal.specs.Rows.{limit_bytes, AllComposable}
 use Rattle.normal.proofs.Laying.{one_less}
 use Rattle.normal.proofs.Composed.{composable-first, composable-rest, limits-again, limits-over}
 use Rattle.normal.proofs.rows.put_constraints.Goals as goal

@@ -1,21 +1,10 @@
 -- `normal::put_constraints` meets its contract. The loop's invariant: storing the constraints that are left gives what storing them all gives
 -- at the start. Assumes nothing.
-use mathlib.Core.Path.{◌≡◌, refl, ap, ◌∙◌}
-use Prim.Native.Nat.{ℕ, ◌+◌, ◌*◌}
-use native.Mathlib.Nat.{mul-le-mul_right}
-use native.Mathlib.Omega.{arith}
-use borrow.Author.Rules.{rules}
+use mathlib.Core.Path.{◌≡◌}
+use Prim.Native.Nat.{◌+◌, ◌*◌}
 use lib.ListN.{length}
-use lib.Seq.{sets, length-sets}
-use mathlib.Core.List.{List}
-use Rattle.alpha.specs.Affine.{constraint_after}
-use Rattle.alpha.specs.Written.{constraint_bytes}
-use Rattle.affine.specs.declared.Map.{Map}
-use Rattle.affine.specs.Value.{map_of}
-use Rattle.domain.specs.Constraints.{constraint_fields}
+use lib.Seq.{sets}
 use Rattle.normal.specs.Rows.{limit_bytes, AllComposable}
-use Rattle.normal.proofs.Laying.{one_less}
-use Rattle.normal.proofs.Composed.{composable-first, composable-rest, limits-again, limits-over}
 use Rattle.normal.proofs.rows.put_constraints.Given as goal
 
 abbrev pub invariant-loop-left : goal.invariant-loop-left

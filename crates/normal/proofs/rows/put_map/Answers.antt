@@ -1,5 +1,4 @@
 -- `normal::put_map` meets its contract: the three numbers, then the rows. Assumes nothing.
-use borrow.Author.Rules.{rules}
 use Rattle.normal.proofs.Composed.{map-laid}
 use Rattle.normal.proofs.rows.put_map.Goals as goal
 

@@ -1,19 +1,18 @@
 -- `normal::put_row` meets its contract. The loop's invariant: storing the coefficients that are left, and the constant, gives what storing
 -- the whole row gives at the start. Assumes nothing.
-use mathlib.Core.Path.{◌≡◌, refl, sym, ap, ◌∙◌}
+use mathlib.Core.Path.{refl, sym, ap, ◌∙◌}
 use mathlib.Core.List.{List, ◌++◌}
-use Prim.Native.Nat.{ℕ, ◌+◌, ◌*◌, ◌-◌, ◌≤◌}
+use Prim.Native.Nat.{ℕ}
 use native.Mathlib.Omega.{arith}
-use borrow.Author.Rules.{rules}
 use lib.ListN.{length}
 use lib.Seq.{sets, length-sets}
 use Rattle.alpha.specs.declared.Int.{Int}
 use Rattle.alpha.specs.Field.{num}
-use Rattle.alpha.specs.Written.{flat, row_bytes}
-use Rattle.affine.specs.Value.{at, several}
+use Rattle.alpha.specs.Written.{flat}
+use Rattle.affine.specs.Value.{at}
 use Rattle.affine.proofs.Several.{map-several}
 use Rattle.laws.proofs.Written.{length-num}
-use Rattle.normal.proofs.Laying.{run, run-start, run-again, run-over}
+use Rattle.normal.proofs.Laying.{run-start, run-again, run-over}
 use Rattle.normal.proofs.rows.put_row.Goals as goal
 
 -- the field of a coefficient

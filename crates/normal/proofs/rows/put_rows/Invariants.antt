@@ -1,19 +1,15 @@
 -- `normal::put_rows` meets its contract. The loop's invariant: storing the rows that are left gives what storing them all gives at the start.
 -- Assumes nothing.
-use mathlib.Core.Path.{◌≡◌, refl, sym, ap, ◌∙◌}
-use mathlib.Core.List.{List, [], ◌++◌, append-nil}
+use mathlib.Core.Path.{◌≡◌}
+use mathlib.Core.List.{List, [], ◌++◌}
 use Prim.Native.Nat.{ℕ, ◌+◌, ◌*◌, ◌-◌, ◌≤◌}
-use native.Mathlib.Nat.{mul-le-mul_right}
-use native.Mathlib.Omega.{arith}
-use borrow.Author.Rules.{rules}
 use lib.ListN.{length, get_or}
-use lib.Seq.{sets, length-sets}
+use lib.Seq.{sets}
 use lib.IntN.{pos}
 use Rattle.alpha.specs.Written.{flat, row_bytes}
 use Rattle.affine.specs.declared.Row.{Row}
-use Rattle.affine.specs.Value.{at, several, line, row_of}
-use Rattle.affine.proofs.Several.{length-several, map-several}
-use Rattle.normal.proofs.Laying.{row-long, run, run-start, run-again, run-over}
+use Rattle.affine.specs.Value.{several, row_of}
+use Rattle.normal.proofs.Laying.{run}
 use Rattle.normal.proofs.rows.put_rows.Given as goal
 
 -- the bytes of row i, of n coefficients

@@ -1,9 +1,6 @@
 -- `normal::plan_from` meets its contract: an input adds nothing, a body its own sizes. Assumes nothing.
-use borrow.Fn.PlainCycle.{Measures, is, falls, and}
-use Rattle.normal.proofs.totals.+plan_from.{statement}
-use Prim.Native.Nat.{ℕ, ◌-◌, ◌<◌, ◌≤◌}
+use Prim.Native.Nat.{ℕ, ◌<◌, ◌≤◌}
 use native.Mathlib.Omega.{arith}
-use borrow.Author.Rules.{rules}
 use Rattle.laws.specs.Sheets.{vars_of}
 use Rattle.tree.proofs.Heading.{prepared-sections}
 use Rattle.tree.proofs.Passing.{is-input, no-input}

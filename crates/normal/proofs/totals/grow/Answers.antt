@@ -2,8 +2,7 @@
 use mathlib.Core.Path.{refl}
 use native.Mathlib.Omega.{arith}
 use Rattle.tree.proofs.Passing.{few}
-use Rattle.normal.proofs.Plans.{body-standing, body-at, many-way, wide-way, fits-way}
-use borrow.Author.Rules.{rules}
+use Rattle.normal.proofs.Plans.{many-way, wide-way, fits-way}
 use Rattle.normal.proofs.totals.grow.Goals as goal
 
 pub body_place-at-requires : goal.body_place-at-requires

@@ -1,14 +1,8 @@
 -- `normal::measure_children` and `normal::measure_tree` meet their contracts: a case has its children's branches, and any other tree its own.
 -- Assumes nothing.
-use borrow.Fn.PlainCycle.{Measures, is, falls, and}
-use Rattle.normal.proofs.turn.+measure_children_measure_tree.{statement}
-use Prim.Native.Nat.{ℕ, ◌+◌, ◌*◌, ◌<◌}
 use mathlib.Core.Path.{sym, ◌∙◌}
 use native.Mathlib.Omega.{arith}
-use borrow.Author.Rules.{rules}
 use Rattle.tree.proofs.Standings.{standing-noded, standing-some, first-standing}
-use Rattle.normal.specs.declared.Taken.{Taken}
-use Rattle.normal.specs.Body.{BodiesAt, Spare, TakesAll}
 use Rattle.normal.proofs.Bodies.{tree-standing}
 use Rattle.normal.proofs.Turns.{case-bodies, case-takes, trees-standing, counted-exact, first-low, first_body, rest-bodies, more-takes}
 use Rattle.normal.proofs.Turns.{last-body, last-takes}

@@ -1,15 +1,9 @@
 -- `normal::put_children` and `normal::put_tree` meet their contracts: a case has its children's branches, and any other tree its own.
 -- Assumes nothing.
-use borrow.Fn.PlainCycle.{Measures, is, falls, and}
-use Rattle.normal.proofs.turn.+put_children_put_tree.{statement}
-use Prim.Native.Nat.{ℕ, ◌+◌, ◌*◌, ◌^◌, ◌<◌, min}
-use mathlib.Core.Path.{◌≡◌, refl, sym, ◌∙◌}
+use Prim.Native.Nat.{◌<◌}
+use mathlib.Core.Path.{sym, ◌∙◌}
 use native.Mathlib.Omega.{arith}
-use borrow.Author.Rules.{rules}
-use mathlib.Core.List.{List}
-use lib.ListN.{length}
 use Rattle.tree.proofs.Standings.{standing-noded, standing-some, first-standing}
-use Rattle.normal.specs.Body.{BodiesAt, RoomAll, StoresAll}
 use Rattle.normal.proofs.Bodies.{tree-standing}
 use Rattle.normal.proofs.Turns.{case-bodies, case-room, case-stores, trees-standing, counted-exact, first-low, first_body, rest-bodies}
 use Rattle.normal.proofs.Turns.{first-room, stored-long, rest-room, more-stores, last-body, last-room, last-stores}

@@ -1,9 +1,7 @@
 -- `normal::copy` meets its contract. The loop's invariant: the first i bytes are stored. Assumes nothing.
-use mathlib.Core.Path.{◌≡◌, refl, ap, ◌∙◌}
-use Prim.Native.Nat.{◌-◌, ◌≤◌}
+use mathlib.Core.Path.{ap, ◌∙◌}
 use native.Mathlib.Omega.{arith}
-use lib.ListN.{length, get_or, take, set}
-use lib.Seq.{sets, length-sets}
+use lib.ListN.{get_or, set}
 use Rattle.normal.proofs.Laying.{copied_more}
 use Rattle.normal.proofs.write.copy.Goals as goal
 

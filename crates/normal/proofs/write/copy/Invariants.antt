@@ -1,10 +1,8 @@
 -- `normal::copy` meets its contract. The loop's invariant: the first i bytes are stored. Assumes nothing.
-use mathlib.Core.Path.{◌≡◌, refl, ap, ◌∙◌}
+use mathlib.Core.Path.{◌≡◌}
 use Prim.Native.Nat.{◌-◌, ◌≤◌}
-use native.Mathlib.Omega.{arith}
-use lib.ListN.{length, get_or, take, set}
-use lib.Seq.{sets, length-sets}
-use Rattle.normal.proofs.Laying.{copied_more}
+use lib.ListN.{take}
+use lib.Seq.{sets}
 use Rattle.normal.proofs.write.copy.Given as goal
 
 abbrev pub invariant-loop-i : goal.invariant-loop-i

@@ -7,8 +7,7 @@ use lib.Seq.{length-sets}
 use Rattle.alpha.specs.Field.{nat}
 use Rattle.tree.proofs.Passing.{few}
 use Rattle.normal.proofs.Laying.{sets-after, length-nat}
-use Rattle.normal.specs.Stored.{body_of}
-use Rattle.normal.proofs.Plans.{body-standing, body-at}
+use Rattle.normal.proofs.Plans.{body-at}
 use Rattle.normal.proofs.Storing.{few-branches, body-stored, head-room, branch-rooms}
 use Rattle.normal.proofs.write.put_body.Goals as goal
 

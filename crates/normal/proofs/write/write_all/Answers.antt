@@ -1,7 +1,6 @@
 -- `normal::write_all` meets its contract: ROOM, or the copied sections, the node count and the bodies. Assumes nothing.
 use mathlib.Core.Path.{ap, ◌∙◌}
 use native.Mathlib.Omega.{arith}
-use borrow.Author.Rules.{rules}
 use lib.ListN.{length, take}
 use lib.Seq.{length-sets}
 use Rattle.alpha.specs.Field.{nat}

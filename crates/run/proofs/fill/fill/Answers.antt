@@ -1,7 +1,7 @@
 -- `run::fill` meets its contract. The loop's invariant: the first i entries of the stretch are filled. The measure is how many are left.
 -- Assumes nothing.
 use mathlib.Core.Path.{◌≡◌, ◌∙◌}
-use Prim.Native.Nat.{◌+◌, ◌-◌, ◌<◌}
+use Prim.Native.Nat.{◌+◌, ◌<◌}
 use native.Mathlib.Omega.{arith}
 use Rattle.alpha.specs.Box.{size}
 use Rattle.alpha.specs.Holds.{variable}
@@ -10,9 +10,8 @@ use Rattle.alpha.specs.Ask.{before}
 use Rattle.laws.specs.Sheets.{sheet_of}
 use Rattle.laws.proofs.Elements.{before-fits}
 use Rattle.domain.proofs.Records.{VariableLaid, laid-variable}
-use Rattle.evaluate.specs.Memo.{memo_of}
 use Rattle.evaluate.proofs.Doing.{setting-with}
-use Rattle.run.proofs.Tabling.{FillsBelow, fills-none, fills-next, fills-whole}
+use Rattle.run.proofs.Tabling.{fills-next}
 use Rattle.run.proofs.fill.fill.Goals.{After-first_element-first, In-loop-i, Start}
 use Rattle.run.proofs.fill.fill.Goals as goal
 
@@ -45,16 +44,24 @@ first_element-first-requires c = omega (arith, (laid (goal.at.first_element-firs
 
 pub overflow_add-e : goal.overflow_add-e
 overflow_add-e c =
-    let f = first-is (goal.at.overflow_add-e c).After-first_element-first (laid (goal.at.overflow_add-e c).Start) in omega (arith, number-low (goal.at.overflow_add-e c).In-loop-i (first-is (goal.at.overflow_add-e c).After-first_element-first (laid (goal.at.overflow_add-e c).Start)) (laid (goal.at.overflow_add-e c).Start))
+    let way = goal.at.overflow_add-e c in
+    let l = laid way.Start in
+    let first = first-is way.After-first_element-first l in
+    omega (arith, number-low way.In-loop-i first l)
 
 pub settle-o-requires : goal.settle-o-requires
 settle-o-requires c =
+    let way = goal.at.settle-o-requires c in
+    let l = laid way.Start in
+    let first = first-is way.After-first_element-first l in
     let m = c.loop-i.invariant.advances in
-    (setting-with _ _ _ _ _ _ c.requires.0 m.ready, record { idle = m.idle; element = omega (arith, number-low (goal.at.settle-o-requires c).In-loop-i (first-is (goal.at.settle-o-requires c).After-first_element-first (laid (goal.at.settle-o-requires c).Start)) (laid (goal.at.settle-o-requires c).Start)) })
+    (setting-with _ _ _ _ _ _ c.requires.0 m.ready, record { idle = m.idle; element = omega (arith, number-low way.In-loop-i first l) })
 
 pub loop-i-preserved : goal.loop-i-preserved
 loop-i-preserved c =
-    let here = first-is (goal.at.loop-i-preserved c).After-first_element-first (laid (goal.at.loop-i-preserved c).Start) in
+    let way = goal.at.loop-i-preserved c in
+    let l = laid way.Start in
+    let first = first-is way.After-first_element-first l in
     let w = c.put.ensures in
-    fills-next _ _ _ _ _ _ _ _ c.loop-i.invariant (many (goal.at.loop-i-preserved c).In-loop-i) (rw here at (number-low (goal.at.loop-i-preserved c).In-loop-i (first-is (goal.at.loop-i-preserved c).After-first_element-first (laid (goal.at.loop-i-preserved c).Start)) (laid (goal.at.loop-i-preserved c).Start))) _ (rw here at c.settle-o.ensures) _ _
+    fills-next _ _ _ _ _ _ _ _ c.loop-i.invariant (many way.In-loop-i) (rw first at (number-low way.In-loop-i first l)) _ (rw first at c.settle-o.ensures) _ _
     w.0 w.1

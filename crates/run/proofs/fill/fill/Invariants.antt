@@ -1,18 +1,9 @@
 -- `run::fill` meets its contract. The loop's invariant: the first i entries of the stretch are filled. The measure is how many are left.
 -- Assumes nothing.
-use mathlib.Core.Path.{◌≡◌, ◌∙◌}
-use Prim.Native.Nat.{◌+◌, ◌-◌, ◌<◌}
-use native.Mathlib.Omega.{arith}
-use Rattle.alpha.specs.Box.{size}
-use Rattle.alpha.specs.Holds.{variable}
-use Rattle.alpha.specs.Check.{total}
-use Rattle.alpha.specs.Ask.{before}
+use Prim.Native.Nat.{◌-◌}
 use Rattle.laws.specs.Sheets.{sheet_of}
-use Rattle.laws.proofs.Elements.{before-fits}
-use Rattle.domain.proofs.Records.{VariableLaid, laid-variable}
 use Rattle.evaluate.specs.Memo.{memo_of}
-use Rattle.evaluate.proofs.Doing.{setting-with}
-use Rattle.run.proofs.Tabling.{FillsBelow, fills-none, fills-next, fills-whole}
+use Rattle.run.proofs.Tabling.{FillsBelow}
 use Rattle.run.proofs.fill.fill.Given as goal
 
 abbrev pub invariant-loop-i : goal.invariant-loop-i

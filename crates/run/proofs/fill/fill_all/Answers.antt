@@ -1,6 +1,6 @@
 -- `run::fill_all` meets its contract. The loop's invariant: the stretches of the variables before v are filled. The measure is how many are
 -- left. Assumes nothing.
-use mathlib.Core.Path.{◌≡◌, ap, ◌∙◌}
+use mathlib.Core.Path.{◌≡◌, ◌∙◌}
 use Prim.Native.Nat.{suc, ◌+◌, ◌-◌, ◌≤◌, ◌<◌}
 use native.Mathlib.Omega.{arith}
 use borrow.Author.Rules.{rules}
@@ -9,13 +9,10 @@ use Rattle.alpha.specs.Box.{size}
 use Rattle.alpha.specs.Holds.{variable}
 use Rattle.alpha.specs.Ask.{before}
 use Rattle.laws.specs.Sheets.{vars_of, sheet_of}
-use Rattle.laws.proofs.Elements.{before-fits, before-suc, before-all}
-use Rattle.tree.proofs.Heading.{prepared-sections}
-use Rattle.domain.proofs.Records.{VariableLaid, laid-variable, laid-length}
-use Rattle.evaluate.specs.Memo.{memo_of}
+use Rattle.laws.proofs.Elements.{before-fits, before-suc}
+use Rattle.domain.proofs.Records.{VariableLaid, laid-variable}
 use Rattle.evaluate.proofs.Doing.{setting-with}
-use Rattle.run.specs.Filling.{Advances, FillsAll}
-use Rattle.run.proofs.Tabling.{part-long, advances-none, advances-on, fills-start, fills-on, fills-at}
+use Rattle.run.proofs.Tabling.{part-long, advances-on, fills-on, fills-at}
 use Rattle.run.proofs.fill.fill_all.Goals.{After-first_element-from, After-first_element-to, After-variable_count-n, In-loop-v}
 use Rattle.run.proofs.fill.fill_all.Goals as goal
 
@@ -97,52 +94,77 @@ first_element-to-requires c =
 
 pub slice_bounds-fill-count : goal.slice_bounds-fill-count
 slice_bounds-fill-count c =
-    omega (arith, order (goal.at.slice_bounds-fill-count c).After-first_element-to (from_is (goal.at.slice_bounds-fill-count c).After-first_element-from (laid (goal.at.slice_bounds-fill-count c).In-loop-v (count-is (goal.at.slice_bounds-fill-count c).After-variable_count-n))) (laid (goal.at.slice_bounds-fill-count c).In-loop-v (count-is (goal.at.slice_bounds-fill-count c).After-variable_count-n)), in-codes (goal.at.slice_bounds-fill-count c).After-first_element-to (laid (goal.at.slice_bounds-fill-count c).In-loop-v (count-is (goal.at.slice_bounds-fill-count c).After-variable_count-n)))
+    let way = goal.at.slice_bounds-fill-count c in
+    let l = laid way.In-loop-v (count-is way.After-variable_count-n) in
+    let from = from_is way.After-first_element-from l in
+    omega (arith, order way.After-first_element-to from l, in-codes way.After-first_element-to l)
 
 pub slice_bounds-fill-start : goal.slice_bounds-fill-start
 slice_bounds-fill-start c =
-    omega (arith, order (goal.at.slice_bounds-fill-start c).After-first_element-to (from_is (goal.at.slice_bounds-fill-start c).After-first_element-from (laid (goal.at.slice_bounds-fill-start c).In-loop-v (count-is (goal.at.slice_bounds-fill-start c).After-variable_count-n))) (laid (goal.at.slice_bounds-fill-start c).In-loop-v (count-is (goal.at.slice_bounds-fill-start c).After-variable_count-n)))
+    let way = goal.at.slice_bounds-fill-start c in
+    let l = laid way.In-loop-v (count-is way.After-variable_count-n) in
+    let from = from_is way.After-first_element-from l in
+    omega (arith, order way.After-first_element-to from l)
 
 pub slice_bounds-fill-end : goal.slice_bounds-fill-end
 slice_bounds-fill-end c =
-    omega (arith, in-codes (goal.at.slice_bounds-fill-end c).After-first_element-to (laid (goal.at.slice_bounds-fill-end c).In-loop-v (count-is (goal.at.slice_bounds-fill-end c).After-variable_count-n)))
+    let way = goal.at.slice_bounds-fill-end c in
+    let l = laid way.In-loop-v (count-is way.After-variable_count-n) in
+    omega (arith, in-codes way.After-first_element-to l)
 
 pub offset_bounds-values-from : goal.offset_bounds-values-from
 offset_bounds-values-from c =
-    let small : c.first_element-from.result ≤ 4096 = omega (arith, from_is (goal.at.offset_bounds-values-from c).After-first_element-from (laid (goal.at.offset_bounds-values-from c).In-loop-v (count-is (goal.at.offset_bounds-values-from c).After-variable_count-n)), (laid (goal.at.offset_bounds-values-from c).In-loop-v (count-is (goal.at.offset_bounds-values-from c).After-variable_count-n)).few) in search rules
+    let way = goal.at.offset_bounds-values-from c in
+    let l = laid way.In-loop-v (count-is way.After-variable_count-n) in
+    let from = from_is way.After-first_element-from l in
+    let small : c.first_element-from.result ≤ 4096 = omega (arith, from, l.few) in search rules
 
 pub slice_bounds-fill-count-in-loop-v : goal.slice_bounds-fill-count-in-loop-v
 slice_bounds-fill-count-in-loop-v c =
-    omega (arith, order (goal.at.slice_bounds-fill-count-in-loop-v c).After-first_element-to (from_is (goal.at.slice_bounds-fill-count-in-loop-v c).After-first_element-from (laid (goal.at.slice_bounds-fill-count-in-loop-v c).In-loop-v (count-is (goal.at.slice_bounds-fill-count-in-loop-v c).After-variable_count-n))) (laid (goal.at.slice_bounds-fill-count-in-loop-v c).In-loop-v (count-is (goal.at.slice_bounds-fill-count-in-loop-v c).After-variable_count-n)), in-codes (goal.at.slice_bounds-fill-count-in-loop-v c).After-first_element-to (laid (goal.at.slice_bounds-fill-count-in-loop-v c).In-loop-v (count-is (goal.at.slice_bounds-fill-count-in-loop-v c).After-variable_count-n)))
+    let way = goal.at.slice_bounds-fill-count-in-loop-v c in
+    let l = laid way.In-loop-v (count-is way.After-variable_count-n) in
+    let from = from_is way.After-first_element-from l in
+    omega (arith, order way.After-first_element-to from l, in-codes way.After-first_element-to l)
 
 pub slice_bounds-fill-start-in-loop-v : goal.slice_bounds-fill-start-in-loop-v
 slice_bounds-fill-start-in-loop-v c =
-    omega (arith, order (goal.at.slice_bounds-fill-start-in-loop-v c).After-first_element-to (from_is (goal.at.slice_bounds-fill-start-in-loop-v c).After-first_element-from (laid (goal.at.slice_bounds-fill-start-in-loop-v c).In-loop-v (count-is (goal.at.slice_bounds-fill-start-in-loop-v c).After-variable_count-n))) (laid (goal.at.slice_bounds-fill-start-in-loop-v c).In-loop-v (count-is (goal.at.slice_bounds-fill-start-in-loop-v c).After-variable_count-n)))
+    let way = goal.at.slice_bounds-fill-start-in-loop-v c in
+    let l = laid way.In-loop-v (count-is way.After-variable_count-n) in
+    let from = from_is way.After-first_element-from l in
+    omega (arith, order way.After-first_element-to from l)
 
 pub slice_bounds-fill-end-in-loop-v : goal.slice_bounds-fill-end-in-loop-v
 slice_bounds-fill-end-in-loop-v c =
-    omega (arith, in-values (goal.at.slice_bounds-fill-end-in-loop-v c).After-first_element-to (laid (goal.at.slice_bounds-fill-end-in-loop-v c).In-loop-v (count-is (goal.at.slice_bounds-fill-end-in-loop-v c).After-variable_count-n)))
+    let way = goal.at.slice_bounds-fill-end-in-loop-v c in
+    let l = laid way.In-loop-v (count-is way.After-variable_count-n) in
+    omega (arith, in-values way.After-first_element-to l)
 
 pub fill-requires : goal.fill-requires
 fill-requires c =
+    let way = goal.at.fill-requires c in
+    let l = laid way.In-loop-v (count-is way.After-variable_count-n) in
+    let from = from_is way.After-first_element-from l in
     let m = c.loop-v.invariant.1 in
-    let wide = stretch-is (goal.at.fill-requires c).After-first_element-to (from_is (goal.at.fill-requires c).After-first_element-from (laid (goal.at.fill-requires c).In-loop-v (count-is (goal.at.fill-requires c).After-variable_count-n))) (laid (goal.at.fill-requires c).In-loop-v (count-is (goal.at.fill-requires c).After-variable_count-n)) in (
+    let wide = stretch-is way.After-first_element-to from l in (
       setting-with _ _ _ _ _ _ c.requires.0 m.ready,
       record {
         idle = m.idle;
-        known = known (goal.at.fill-requires c).In-loop-v (count-is (goal.at.fill-requires c).After-variable_count-n);
-        codes-long = part-long _ _ _ _ wide (in-codes (goal.at.fill-requires c).After-first_element-to (laid (goal.at.fill-requires c).In-loop-v (count-is (goal.at.fill-requires c).After-variable_count-n))) (order (goal.at.fill-requires c).After-first_element-to (from_is (goal.at.fill-requires c).After-first_element-from (laid (goal.at.fill-requires c).In-loop-v (count-is (goal.at.fill-requires c).After-variable_count-n))) (laid (goal.at.fill-requires c).In-loop-v (count-is (goal.at.fill-requires c).After-variable_count-n)));
-        values-long = part-long _ _ _ _ wide (in-values (goal.at.fill-requires c).After-first_element-to (laid (goal.at.fill-requires c).In-loop-v (count-is (goal.at.fill-requires c).After-variable_count-n))) (order (goal.at.fill-requires c).After-first_element-to (from_is (goal.at.fill-requires c).After-first_element-from (laid (goal.at.fill-requires c).In-loop-v (count-is (goal.at.fill-requires c).After-variable_count-n))) (laid (goal.at.fill-requires c).In-loop-v (count-is (goal.at.fill-requires c).After-variable_count-n)));
+        known = known way.In-loop-v (count-is way.After-variable_count-n);
+        codes-long = part-long _ _ _ _ wide (in-codes way.After-first_element-to l) (order way.After-first_element-to from l);
+        values-long = part-long _ _ _ _ wide (in-values way.After-first_element-to l) (order way.After-first_element-to from l);
       },
     )
 
 pub loop-v-preserved : goal.loop-v-preserved
 loop-v-preserved c =
+    let way = goal.at.loop-v-preserved c in
+    let l = laid way.In-loop-v (count-is way.After-variable_count-n) in
+    let from = from_is way.After-first_element-from l in
     let sheet = sheet_of c.args.s.now in
     let m = c.loop-v.invariant in
     let F = c.fill.ensures in
     let next =
-    fills-on sheet c.loop-v.v _ _ (from_is (goal.at.loop-v-preserved c).After-first_element-from (laid (goal.at.loop-v-preserved c).In-loop-v (count-is (goal.at.loop-v-preserved c).After-variable_count-n))) (to_is (goal.at.loop-v-preserved c).After-first_element-to (laid (goal.at.loop-v-preserved c).In-loop-v (count-is (goal.at.loop-v-preserved c).After-variable_count-n))) _ _ _ m.1 _ _ _ _ _ _ m.0 F
-    (omega (arith, (room (goal.at.loop-v-preserved c).After-first_element-to (laid (goal.at.loop-v-preserved c).In-loop-v (count-is (goal.at.loop-v-preserved c).After-variable_count-n))).0)) (omega (arith, (room (goal.at.loop-v-preserved c).After-first_element-to (laid (goal.at.loop-v-preserved c).In-loop-v (count-is (goal.at.loop-v-preserved c).After-variable_count-n))).1)) in
-    let one : c.first_element-to.result ≡ before sheet (c.loop-v.v + 1) = ends (goal.at.loop-v-preserved c).After-first_element-to (laid (goal.at.loop-v-preserved c).In-loop-v (count-is (goal.at.loop-v-preserved c).After-variable_count-n)) in
-    (fills-at _ _ _ _ _ _ _ _ one next, advances-on _ _ _ _ m.1 F.advances, omega (arith, known (goal.at.loop-v-preserved c).In-loop-v (count-is (goal.at.loop-v-preserved c).After-variable_count-n)))
+    fills-on sheet c.loop-v.v _ _ from (to_is way.After-first_element-to l) _ _ _ m.1 _ _ _ _ _ _ m.0 F
+    (omega (arith, (room way.After-first_element-to l).0)) (omega (arith, (room way.After-first_element-to l).1)) in
+    let one : c.first_element-to.result ≡ before sheet (c.loop-v.v + 1) = ends way.After-first_element-to l in
+    (fills-at _ _ _ _ _ _ _ _ one next, advances-on _ _ _ _ m.1 F.advances, omega (arith, known way.In-loop-v (count-is way.After-variable_count-n)))

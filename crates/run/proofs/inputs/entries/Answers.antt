@@ -1,14 +1,13 @@
 -- `run::entries` meets its contract. The loop's invariant: the variables from v on decide. The measure is how many are left.
 -- Assumes nothing.
 use mathlib.Core.Path.{◌≡◌, sym, ap, ◌∙◌}
-use Prim.Native.Nat.{◌-◌, ◌<◌}
+use Prim.Native.Nat.{◌<◌}
 use native.Mathlib.Omega.{arith}
-use borrow.Author.Rules.{rules}
 use lib.ListN.{length}
 use Rattle.laws.specs.Sheets.{vars_of, sheet_of}
 use Rattle.tree.specs.Ruled.{ruled}
 use Rattle.domain.proofs.Records.{laid-length}
-use Rattle.run.proofs.Listing.{EntriesFrom, entries-start, entries-fail, entries-on, entries-end}
+use Rattle.run.proofs.Listing.{entries-fail, entries-on, entries-end}
 use Rattle.run.proofs.inputs.entries.Goals.{After-variable_count-n, In-loop-v}
 use Rattle.run.proofs.inputs.entries.Goals as goal
 
@@ -29,7 +28,8 @@ returns-in_default c =
 
 pub loop-v-preserved : goal.loop-v-preserved
 loop-v-preserved c =
-    entries-on _ _ _ (known (goal.at.loop-v-preserved c).In-loop-v (count-is (goal.at.loop-v-preserved c).After-variable_count-n)) c.loop-v.invariant (sym c.entries_of-r.ensures ∙ ap ruled c.in-Passes.is)
+    let way = goal.at.loop-v-preserved c in
+    entries-on _ _ _ (known way.In-loop-v (count-is way.After-variable_count-n)) c.loop-v.invariant (sym c.entries_of-r.ensures ∙ ap ruled c.in-Passes.is)
 
 pub returns : goal.returns
 returns c =

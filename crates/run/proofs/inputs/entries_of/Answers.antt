@@ -1,19 +1,18 @@
 -- `run::entries_of` meets its contract: only a boolean input's entries are looked at. Assumes nothing.
 use mathlib.Core.Path.{◌≡◌, ap, ◌∙◌}
-use Prim.Native.Nat.{suc, ◌+◌, ◌-◌, ◌≤◌}
+use Prim.Native.Nat.{suc, ◌+◌, ◌≤◌}
 use native.Mathlib.Omega.{arith}
 use borrow.Author.Rules.{rules}
 use mathlib.Core.Bool.{true}
 use lib.ListN.{length}
-use Rattle.alpha.specs.Sheet.{Sort.boolean}
 use Rattle.alpha.specs.Box.{size}
 use Rattle.alpha.specs.Read.{kind_of, sort_of}
 use Rattle.alpha.specs.Holds.{variable, is_input, is_input_kind}
 use Rattle.laws.specs.Sheets.{sheet_of}
 use Rattle.domain.proofs.Records.{VariableLaid, laid-variable, laid-total}
-use Rattle.tree.proofs.Passing.{input-is as input-kind, other-is as other-kind}
-use Rattle.run.proofs.Listing.{size-input, before-step, before-count, count-total, entries_none, entries-integer}
-use Rattle.run.proofs.Listing.{bits-entries, part-few, integer-sort, boolean-sort}
+use Rattle.tree.proofs.Passing.{input-is as input-kind}
+use Rattle.run.proofs.Listing.{size-input, before-step, before-count, count-total}
+use Rattle.run.proofs.Listing.{bits-entries, part-few, boolean-sort}
 use Rattle.run.proofs.inputs.entries_of.Goals.{After-inputs_before-to, After-kind_of, After-sort_of, Start}
 use Rattle.run.proofs.inputs.entries_of.Goals as goal
 
@@ -66,23 +65,38 @@ few c =
 
 pub offset_bounds-ins-from : goal.offset_bounds-ins-from
 offset_bounds-ins-from c =
-    let small : c.inputs_before-from.result ≤ 4096 = omega (arith, (few (goal.at.offset_bounds-ins-from c).After-inputs_before-to).0, (few (goal.at.offset_bounds-ins-from c).After-inputs_before-to).1, step (goal.at.offset_bounds-ins-from c).After-inputs_before-to (laid (goal.at.offset_bounds-ins-from c).Start) (input (goal.at.offset_bounds-ins-from c).After-kind_of (laid (goal.at.offset_bounds-ins-from c).Start))) in search rules
+    let way = goal.at.offset_bounds-ins-from c in
+    let l = laid way.Start in
+    let long = step way.After-inputs_before-to l (input way.After-kind_of l) in
+    let small : c.inputs_before-from.result ≤ 4096 = omega (arith, (few way.After-inputs_before-to).0, (few way.After-inputs_before-to).1, long) in search rules
 
 pub slice_bounds-bits-count : goal.slice_bounds-bits-count
 slice_bounds-bits-count c =
-    omega (arith, step (goal.at.slice_bounds-bits-count c).After-inputs_before-to (laid (goal.at.slice_bounds-bits-count c).Start) (input (goal.at.slice_bounds-bits-count c).After-kind_of (laid (goal.at.slice_bounds-bits-count c).Start)), (few (goal.at.slice_bounds-bits-count c).After-inputs_before-to).0)
+    let way = goal.at.slice_bounds-bits-count c in
+    let l = laid way.Start in
+    let long = step way.After-inputs_before-to l (input way.After-kind_of l) in
+    omega (arith, long, (few way.After-inputs_before-to).0)
 
 pub slice_bounds-bits-start : goal.slice_bounds-bits-start
 slice_bounds-bits-start c =
-    omega (arith, step (goal.at.slice_bounds-bits-start c).After-inputs_before-to (laid (goal.at.slice_bounds-bits-start c).Start) (input (goal.at.slice_bounds-bits-start c).After-kind_of (laid (goal.at.slice_bounds-bits-start c).Start)), (few (goal.at.slice_bounds-bits-start c).After-inputs_before-to).0)
+    let way = goal.at.slice_bounds-bits-start c in
+    let l = laid way.Start in
+    let long = step way.After-inputs_before-to l (input way.After-kind_of l) in
+    omega (arith, long, (few way.After-inputs_before-to).0)
 
 pub slice_bounds-bits-end : goal.slice_bounds-bits-end
 slice_bounds-bits-end c =
-    omega (arith, step (goal.at.slice_bounds-bits-end c).After-inputs_before-to (laid (goal.at.slice_bounds-bits-end c).Start) (input (goal.at.slice_bounds-bits-end c).After-kind_of (laid (goal.at.slice_bounds-bits-end c).Start)), (few (goal.at.slice_bounds-bits-end c).After-inputs_before-to).0)
+    let way = goal.at.slice_bounds-bits-end c in
+    let l = laid way.Start in
+    let long = step way.After-inputs_before-to l (input way.After-kind_of l) in
+    omega (arith, long, (few way.After-inputs_before-to).0)
 
 pub bits-requires : goal.bits-requires
 bits-requires c =
-    part-few _ _ _ _ (omega (arith, step (goal.at.bits-requires c).After-inputs_before-to (laid (goal.at.bits-requires c).Start) (input (goal.at.bits-requires c).After-kind_of (laid (goal.at.bits-requires c).Start)))) (few (goal.at.bits-requires c).After-inputs_before-to).0 (few (goal.at.bits-requires c).After-inputs_before-to).1
+    let way = goal.at.bits-requires c in
+    let l = laid way.Start in
+    let long = step way.After-inputs_before-to l (input way.After-kind_of l) in
+    part-few _ _ _ _ (omega (arith, long)) (few way.After-inputs_before-to).0 (few way.After-inputs_before-to).1
 
 pub returns : goal.returns
 returns c =

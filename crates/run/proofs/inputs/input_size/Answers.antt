@@ -1,12 +1,11 @@
 -- `run::input_size` meets its contract. Assumes nothing.
 use mathlib.Core.Path.{◌≡◌, ap, ◌∙◌}
-use Prim.Native.Nat.{◌-◌}
 use native.Mathlib.Omega.{arith}
 use Rattle.alpha.specs.Holds.{variable, is_input, is_input_kind}
 use Rattle.laws.specs.Sheets.{sheet_of}
 use Rattle.domain.proofs.Records.{VariableLaid, laid-variable}
-use Rattle.tree.proofs.Passing.{input-is as input-kind, other-is as other-kind}
-use Rattle.run.proofs.Listing.{size-input, size-other}
+use Rattle.tree.proofs.Passing.{input-is as input-kind}
+use Rattle.run.proofs.Listing.{size-input}
 use Rattle.alpha.specs.Read.{kind_of}
 use Rattle.run.proofs.inputs.input_size.Goals.{After-kind_of, Start}
 use Rattle.run.proofs.inputs.input_size.Goals as goal

@@ -1,8 +1,5 @@
 -- `run::inputs` meets its contract: the length first, then the entries. Assumes nothing.
 use mathlib.Core.Path.{◌≡◌, sym, ap, ◌∙◌}
-use Prim.Native.Nat.{◌-◌}
-use native.Mathlib.Omega.{arith}
-use borrow.Author.Rules.{rules}
 use lib.ListN.{length}
 use Rattle.alpha.specs.Outcome.{inputs_before}
 use Rattle.alpha.specs.Run.{input_count}

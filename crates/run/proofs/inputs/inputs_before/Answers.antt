@@ -1,9 +1,8 @@
 -- `run::inputs_before` meets its contract. The loop's invariant: the sum so far is that of the variables before k. The measure is how many
 -- are left. Assumes nothing.
-use mathlib.Core.Path.{◌≡◌, refl, ap, ◌∙◌}
-use Prim.Native.Nat.{suc, ◌+◌, ◌-◌, ◌≤◌}
+use mathlib.Core.Path.{◌≡◌}
+use Prim.Native.Nat.{suc, ◌+◌, ◌≤◌}
 use native.Mathlib.Omega.{arith}
-use borrow.Author.Rules.{rules}
 use Rattle.alpha.specs.Outcome.{inputs_before}
 use Rattle.laws.specs.Sheets.{sheet_of}
 use Rattle.domain.proofs.Records.{laid-length, laid-total}

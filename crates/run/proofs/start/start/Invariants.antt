@@ -1,17 +1,10 @@
 -- `run::start` meets its contract. The loop's invariant: the entries of the variables before v are those before the run. The measure is how
 -- many are left. Assumes nothing.
-use mathlib.Core.Path.{◌≡◌, ap, ◌∙◌}
 use Prim.Native.Nat.{◌-◌, ◌≤◌}
-use native.Mathlib.Omega.{arith}
-use borrow.Author.Rules.{rules}
-use lib.ListN.{length}
 use Rattle.alpha.specs.Ask.{before}
-use Rattle.laws.specs.Sheets.{vars_of, sheet_of}
-use Rattle.laws.proofs.Elements.{before-all}
-use Rattle.domain.proofs.Records.{laid-length}
+use Rattle.laws.specs.Sheets.{sheet_of}
 use Rattle.evaluate.specs.Memo.{memo_of}
 use Rattle.run.specs.Starting.{Started}
-use Rattle.run.proofs.Beginning.{started-at}
 use Rattle.run.proofs.start.start.Given as goal
 
 abbrev pub invariant-loop-v : goal.invariant-loop-v

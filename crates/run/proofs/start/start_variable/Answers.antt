@@ -1,7 +1,7 @@
 -- `run::start_variable` meets its contract. The loop's invariant: the entries of the variable's first i elements are those before the run.
 -- The measure is how many are left. Assumes nothing.
 use mathlib.Core.Path.{◌≡◌, sym, ap, ◌∙◌, subst}
-use Prim.Native.Nat.{suc, ◌+◌, ◌-◌, ◌≤◌, ◌<◌}
+use Prim.Native.Nat.{suc, ◌+◌, ◌≤◌, ◌<◌}
 use native.Mathlib.Omega.{arith}
 use mathlib.Core.Bool.{true}
 use lib.ListN.{length}
@@ -12,7 +12,6 @@ use Rattle.alpha.specs.Ask.{before}
 use Rattle.laws.specs.Sheets.{sheet_of}
 use Rattle.laws.proofs.Elements.{before-suc}
 use Rattle.domain.proofs.Records.{VariableLaid, laid-variable, laid-total}
-use Rattle.evaluate.specs.Memo.{memo_of}
 use Rattle.run.specs.Starting.{Started}
 use Rattle.run.proofs.Listing.{kind-test, size-input, before-step, before-count, count-total}
 use Rattle.run.proofs.Beginning.{started-next}
@@ -102,22 +101,32 @@ overflow_sub-size c =
 
 pub overflow_add-from : goal.overflow_add-from
 overflow_add-from c =
+    let way = goal.at.overflow_add-from c in
+    let l = laid way.Start in
+    let first = first-is way.After-first_element-first l in
     let n = c.inputs_before-from.ensures in
-    omega (arith, n, before-count (sheet_of c.args.s.now) c.args.v, c.requires.0.many, many (goal.at.overflow_add-from c).In-loop-i (laid (goal.at.overflow_add-from c).Start) (first-is (goal.at.overflow_add-from c).After-first_element-first (laid (goal.at.overflow_add-from c).Start)), (laid (goal.at.overflow_add-from c).Start).few, short (goal.at.overflow_add-from c).Start)
+    omega (arith, n, before-count (sheet_of c.args.s.now) c.args.v, c.requires.0.many, many way.In-loop-i l first, l.few, short way.Start)
 
 pub start_element-requires : goal.start_element-requires
 start_element-requires c =
-    (omega (arith, first-is (goal.at.start_element-requires c).After-first_element-first (laid (goal.at.start_element-requires c).Start), many (goal.at.start_element-requires c).In-loop-i (laid (goal.at.start_element-requires c).Start) (first-is (goal.at.start_element-requires c).After-first_element-first (laid (goal.at.start_element-requires c).Start)), (laid (goal.at.start_element-requires c).Start).few), λ t. listed (goal.at.start_element-requires c).In-loop-i (laid (goal.at.start_element-requires c).Start) (first-is (goal.at.start_element-requires c).After-first_element-first (laid (goal.at.start_element-requires c).Start)) (input-is (goal.at.start_element-requires c).After-kind_of-input (laid (goal.at.start_element-requires c).Start) ∙ t))
+    let way = goal.at.start_element-requires c in
+    let l = laid way.Start in
+    let first = first-is way.After-first_element-first l in
+    (omega (arith, first, many way.In-loop-i l first, l.few), λ t. listed way.In-loop-i l first (input-is way.After-kind_of-input l ∙ t))
 
 pub loop-i-preserved : goal.loop-i-preserved
 loop-i-preserved c =
-    let here = first-is (goal.at.loop-i-preserved c).After-first_element-first (laid (goal.at.loop-i-preserved c).Start) in
+    let way = goal.at.loop-i-preserved c in
+    let l = laid way.Start in
+    let first = first-is way.After-first_element-first l in
     let from = c.inputs_before-from.ensures in
-    let next = started-next _ _ _ _ (laid (goal.at.loop-i-preserved c).Start) (many (goal.at.loop-i-preserved c).In-loop-i (laid (goal.at.loop-i-preserved c).Start) (first-is (goal.at.loop-i-preserved c).After-first_element-first (laid (goal.at.loop-i-preserved c).Start))) _ c.requires.0.inside_is _ _ c.loop-i.invariant.0 _ (sym (input-is (goal.at.loop-i-preserved c).After-kind_of-input (laid (goal.at.loop-i-preserved c).Start))) in
-    (rw (c.start_element.ensures, here, from) next, omega (arith, c.loop-i-test.true))
+    let next = started-next _ _ _ _ l (many way.In-loop-i l first) _ c.requires.0.inside_is _ _ c.loop-i.invariant.0 _ (sym (input-is way.After-kind_of-input l)) in
+    (rw (c.start_element.ensures, first, from) next, omega (arith, c.loop-i-test.true))
 
 pub returns : goal.returns
 returns c =
-    let l = laid (goal.at.returns c).Start in
-    let done : before (sheet_of c.args.s.now) c.args.v + c.loop-i.i ≡ before (sheet_of c.args.s.now) (c.args.v + 1) = whole (goal.at.returns c).After-loop-i (laid (goal.at.returns c).Start) (first-is (goal.at.returns c).After-first_element-first (laid (goal.at.returns c).Start)) in
+    let way = goal.at.returns c in
+    let l = laid way.Start in
+    let first = first-is way.After-first_element-first l in
+    let done : before (sheet_of c.args.s.now) c.args.v + c.loop-i.i ≡ before (sheet_of c.args.s.now) (c.args.v + 1) = whole way.After-loop-i l first in
     subst (Started _ _ _) done c.loop-i.invariant.0

@@ -1,21 +1,10 @@
 -- `run::start_variable` meets its contract. The loop's invariant: the entries of the variable's first i elements are those before the run.
 -- The measure is how many are left. Assumes nothing.
-use mathlib.Core.Path.{◌≡◌, sym, ap, ◌∙◌, subst}
-use Prim.Native.Nat.{suc, ◌+◌, ◌-◌, ◌≤◌, ◌<◌}
-use native.Mathlib.Omega.{arith}
-use mathlib.Core.Bool.{true}
-use lib.ListN.{length}
-use lib.Dec.{eqb}
-use Rattle.alpha.specs.Box.{size}
-use Rattle.alpha.specs.Holds.{variable, is_input, is_input_kind}
+use Prim.Native.Nat.{◌+◌, ◌-◌, ◌≤◌}
 use Rattle.alpha.specs.Ask.{before}
 use Rattle.laws.specs.Sheets.{sheet_of}
-use Rattle.laws.proofs.Elements.{before-suc}
-use Rattle.domain.proofs.Records.{VariableLaid, laid-variable, laid-total}
 use Rattle.evaluate.specs.Memo.{memo_of}
 use Rattle.run.specs.Starting.{Started}
-use Rattle.run.proofs.Listing.{kind-test, size-input, before-step, before-count, count-total}
-use Rattle.run.proofs.Beginning.{started-next}
 use Rattle.run.proofs.start.start_variable.Given as goal
 
 abbrev pub invariant-loop-i : goal.invariant-loop-i

@@ -1,13 +1,9 @@
 -- `text::coordinates` meets its contract: after k coordinates those from the k-th on are left. Assumes nothing.
-use mathlib.Core.Path.{◌≡◌, refl, ap}
-use Prim.Native.Nat.{◌+◌, ◌-◌, ◌≤◌}
-use mathlib.Core.List.{[], ◌∷◌}
+use mathlib.Core.Path.{◌≡◌, refl}
+use Prim.Native.Nat.{◌+◌, ◌-◌}
 use native.Mathlib.Omega.{arith}
-use borrow.Author.Rules.{rules}
-use Rattle.alpha.specs.Program.{int_text, spaced}
-use Rattle.affine.specs.Value.{point_of, at as coordinate}
-use Rattle.text.proofs.Writing.{Going, going_start, going-wrote, going_end, going-room}
-use Rattle.text.proofs.Elements.{point_from, point_from-zero, spaced-more}
+use Rattle.text.proofs.Writing.{going-wrote}
+use Rattle.text.proofs.Elements.{spaced-more}
 use Rattle.text.proofs.line.coordinates.Goals as goal
 
 pub loop-k-preserved : goal.loop-k-preserved

@@ -10,7 +10,6 @@ use Rattle.affine.specs.Value.{point_of}
 use Rattle.text.proofs.Writing.{wrote-more, wrote-is}
 use Rattle.text.proofs.Elements.{name-length}
 use Rattle.text.proofs.Variables.{laid, laid-name, laid-point, laid-length}
-use borrow.Author.Rules.{rules}
 use Rattle.text.proofs.line.element.Goals.{After-dimension_of-n}
 use Rattle.text.proofs.line.element.Goals as goal
 

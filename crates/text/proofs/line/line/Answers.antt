@@ -1,17 +1,15 @@
 -- `text::line` meets its contract: the element, the outcome that the tables have at its number, and a newline. Assumes nothing.
 use Rattle.std.proofs.Common.{w32}
 use mathlib.Core.Path.{◌≡◌, ap, ◌∙◌}
-use Prim.Native.Nat.{ℕ, ◌+◌, ◌<◌}
+use Prim.Native.Nat.{◌+◌, ◌<◌}
 use native.Mathlib.Omega.{arith}
 use lib.ListN.{get_or}
 use lib.IntN.{pos}
 use mir.Facts.{to_z-of_z}
 use borrow.Author.Rules.{sfits_of}
-use Rattle.alpha.specs.Sheet.{Variable}
 use Rattle.alpha.specs.Read.{sort_of}
 use Rattle.alpha.specs.Holds.{variable}
 use Rattle.alpha.specs.Ask.{before}
-use Rattle.alpha.specs.Outcome.{Outcome}
 use Rattle.alpha.specs.Program.{outcome_text}
 use Rattle.laws.specs.Coded.{decoded}
 use Rattle.laws.specs.Sheets.{sheet_of}
@@ -19,7 +17,6 @@ use Rattle.text.specs.Lines.{outcome_in, line_of}
 use Rattle.text.proofs.Writing.{wrote-more, wrote-is}
 use Rattle.text.proofs.Outcomes.{outcome-length}
 use Rattle.text.proofs.Variables.{laid, laid-sort, laid-number}
-use borrow.Author.Rules.{rules}
 use Rattle.text.proofs.line.line.Goals.{After-first_element, After-sort_of-sort}
 use Rattle.text.proofs.line.line.Goals as goal
 

@@ -1,15 +1,9 @@
 -- `text::name` meets its contract: after i bytes the name from its i-th byte on is left. Assumes nothing.
-use mathlib.Core.Path.{◌≡◌, ap}
 use Prim.Native.Nat.{◌+◌, ◌-◌, ◌≤◌}
-use native.Mathlib.Omega.{arith}
-use borrow.Author.Rules.{rules}
-use lib.ListN.{length}
 use Rattle.alpha.specs.Field.{eight}
 use Rattle.alpha.specs.Program.{trimmed}
 use Rattle.sheet.specs.Name.{bytes_at}
-use Rattle.sheet.proofs.Names.{eight-bytes}
-use Rattle.text.proofs.Writing.{Going, going_start, going-byte, going_end}
-use Rattle.text.proofs.Elements.{trimmed-none, trimmed-stop, trimmed-more}
+use Rattle.text.proofs.Writing.{Going}
 use Rattle.text.proofs.line.name.Given as goal
 
 abbrev pub invariant-loop-i : goal.invariant-loop-i

@@ -2,14 +2,12 @@
 -- Assumes nothing.
 use mathlib.Core.Path.{sym, ap, ◌∙◌}
 use mathlib.Core.List.{[], ◌∷◌, ◌++◌}
-use Prim.Native.Nat.{ℕ, ◌/◌, ◌<◌}
+use Prim.Native.Nat.{◌/◌}
 use native.Mathlib.Omega.{arith}
 use lib.ListN.{length}
-use borrow.Fn.PlainCycle.{Measures, is, falls, and}
 use Rattle.alpha.specs.Program.{nat_text}
 use Rattle.text.proofs.Writing.{wrote-more, wrote-is}
 use Rattle.text.proofs.Numbers.{nat_text-one, nat_text-more, nat_text-longer}
-use Rattle.text.proofs.number.+natural.{statement}
 use Rattle.text.proofs.number.+natural.Goals as goal
 
 pub byte-requires : goal.byte-requires

@@ -1,12 +1,8 @@
 -- `text::outcome` meets its contract, code by code. Assumes nothing.
-use mathlib.Core.Path.{sym, ap}
-use Prim.Native.Nat.{◌≤◌}
-use native.Mathlib.Omega.{arith}
-use lib.ListN.{length}
+use mathlib.Core.Path.{sym}
 use Rattle.alpha.specs.Read.{sort_of}
-use Rattle.text.proofs.Writing.{wrote-more, wrote-is}
-use Rattle.text.proofs.Outcomes.{outcome-coded, outcome-other}
-use borrow.Author.Rules.{rules}
+use Rattle.text.proofs.Writing.{wrote-is}
+use Rattle.text.proofs.Outcomes.{outcome-coded}
 use Rattle.text.proofs.outcome.outcome.Goals as goal
 
 pub returns-in-3 : goal.returns-in-3

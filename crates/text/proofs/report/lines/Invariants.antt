@@ -1,17 +1,12 @@
 -- `text::lines` meets its contract: before variable v the lines from that variable on are left. The measure is how many variables are
 -- left. Assumes nothing.
-use mathlib.Core.Path.{◌≡◌, sym, ap, ◌∙◌}
-use Prim.Native.Nat.{suc, ◌+◌, ◌*◌, ◌-◌, ◌≤◌, ◌<◌}
-use native.Mathlib.Omega.{arith}
-use borrow.Author.Rules.{rules}
-use lib.ListN.{length}
+use Prim.Native.Nat.{◌+◌, ◌*◌, ◌-◌, ◌≤◌}
 use Rattle.alpha.specs.Check.{elements}
 use Rattle.alpha.specs.Ask.{before}
-use Rattle.laws.specs.Sheets.{vars_of, sheet_of}
-use Rattle.laws.proofs.Elements.{before-suc, before-all, before-fits}
+use Rattle.laws.specs.Sheets.{sheet_of}
 use Rattle.text.specs.Lines.{lines_from}
-use Rattle.text.proofs.Writing.{Going, going_start, going-wrote, going_end}
-use Rattle.text.proofs.Lines.{variable_lines, variables-end, variables-more}
+use Rattle.text.proofs.Writing.{Going}
+use Rattle.text.proofs.Lines.{variable_lines}
 use Rattle.text.proofs.report.lines.Given as goal
 
 abbrev pub invariant-loop-v : goal.invariant-loop-v

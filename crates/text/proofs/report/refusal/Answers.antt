@@ -4,7 +4,6 @@ use native.Mathlib.Omega.{arith}
 use Rattle.alpha.specs.Program.{nat_text, refusal}
 use Rattle.text.proofs.Writing.{wrote-more, wrote-is}
 use Rattle.text.proofs.Numbers.{nat_text-few}
-use borrow.Author.Rules.{rules}
 use Rattle.text.proofs.report.refusal.Goals as goal
 
 pub natural-numbered-requires : goal.natural-numbered-requires

@@ -8,7 +8,6 @@ use Rattle.domain.proofs.Records.{laid-total}
 use Rattle.text.specs.Lines.{report_in}
 use Rattle.text.proofs.Writing.{wrote-more, wrote-is}
 use Rattle.text.proofs.Numbers.{nat_text-length}
-use borrow.Author.Rules.{rules}
 use Rattle.text.proofs.report.report.Goals.{Start}
 use Rattle.text.proofs.report.report.Goals as goal
 

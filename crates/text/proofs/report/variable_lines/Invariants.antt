@@ -1,17 +1,12 @@
 -- `text::variable_lines` meets its contract: before point i the lines from the i-th point on are left, and each line before has at most
 -- 51 bytes. The measure is how many points are left. Assumes nothing.
-use mathlib.Core.Path.{◌≡◌}
-use Prim.Native.Nat.{◌+◌, ◌*◌, ◌-◌, ◌≤◌, ◌<◌}
-use native.Mathlib.Omega.{arith}
-use Rattle.alpha.specs.Box as Box
-use Rattle.alpha.specs.Holds.{variable}
+use Prim.Native.Nat.{◌+◌, ◌*◌, ◌-◌, ◌≤◌}
 use Rattle.alpha.specs.Ask.{before}
 use Rattle.laws.specs.Sheets.{sheet_of}
 use Rattle.domain.specs.Element.{elements_of}
 use Rattle.text.specs.Lines.{lines_from}
-use Rattle.text.proofs.Writing.{Going, going_start, going-wrote, going_end}
-use Rattle.text.proofs.Lines.{point_lines, points-start, points-end, points-more}
-use Rattle.text.proofs.Variables.{laid}
+use Rattle.text.proofs.Writing.{Going}
+use Rattle.text.proofs.Lines.{point_lines}
 use Rattle.text.proofs.report.variable_lines.Given as goal
 
 abbrev pub invariant-loop-i : goal.invariant-loop-i

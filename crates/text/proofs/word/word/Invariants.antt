@@ -1,12 +1,7 @@
 -- `text::word` meets its contract: after i bytes the word from its i-th byte on is left. Assumes nothing.
-use mathlib.Core.Path.{◌≡◌}
-use Prim.Native.Nat.{◌+◌, ◌-◌, ◌≤◌, ◌<◌}
-use native.Mathlib.Omega.{arith}
-use native.Mathlib.Numerals.{add-one}
-use borrow.Author.Rules.{rules}
-use lib.ListN.{length, drop, drop_of_length-le}
-use lib.Seq.{drop-cons}
-use Rattle.text.proofs.Writing.{Going, going_start, going-byte, going_end}
+use Prim.Native.Nat.{◌+◌, ◌-◌, ◌≤◌}
+use lib.ListN.{length, drop}
+use Rattle.text.proofs.Writing.{Going}
 use Rattle.text.proofs.word.word.Given as goal
 
 abbrev pub invariant-loop-i : goal.invariant-loop-i
