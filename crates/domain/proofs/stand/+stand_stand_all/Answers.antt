@@ -62,7 +62,7 @@ stand-node_end-next-requires t c = noded t (goal.at.stand-node_end-next-requires
 
 pub stand-leaf_stands-how-requires : goal.stand-leaf_stands-how-requires
 stand-leaf_stands-how-requires t c =
-    (c.requires.0, record { noded = noded t (goal.at.stand-leaf_stands-how-requires t c).Start; class-is = is-class t (goal.at.stand-leaf_stands-how-requires t c).After-node_end-next _ c.in-Leaf.is })
+    (c.requires.0, record { noded = noded t (goal.at.stand-leaf_stands-how-requires t c).Start; class_is = is-class t (goal.at.stand-leaf_stands-how-requires t c).After-node_end-next _ c.in-Leaf.is })
 
 pub stand-returns-in-Leaf : goal.stand-returns-in-Leaf
 stand-returns-in-Leaf t c = rw c.node_end-next.ensures c.leaf_stands-how.ensures

@@ -9,8 +9,8 @@ use Rattle.program.proofs.input.frame_of.Goals.{After-at_most, After-not_negativ
 use Rattle.program.proofs.input.frame_of.Goals as goal
 
 -- the length of the sheet is at most 65,536, or it is not
-length-is : (c : After-at_most) → c.at_most.result ≡ le_z (field c.args.input.now 0) (pos 65536)
-length-is c =
+length_is : (c : After-at_most) → c.at_most.result ≡ le_z (field c.args.input.now 0) (pos 65536)
+length_is c =
     let x : c.of.result.v ≡ pos 65536 = c.of.ensures in
     c.at_most.ensures ∙ rw (c.number_at-n.ensures, x)
 
@@ -25,22 +25,22 @@ returns-then-input-lt8 c = frame-short _ c.if-input-lt8.true
 
 pub returns-then-not-at_most : goal.returns-then-not-at_most
 returns-then-not-at_most c =
-    frame-long _ c.if-input-lt8.false (sym (length-is (goal.at.returns-then-not-at_most c).After-at_most) ∙ c.if-not-at_most.true)
+    frame-long _ c.if-input-lt8.false (sym (length_is (goal.at.returns-then-not-at_most c).After-at_most) ∙ c.if-not-at_most.true)
 
 pub returns-then-not-not_negative : goal.returns-then-not-not_negative
 returns-then-not-not_negative c =
-    let small = sym (length-is (goal.at.returns-then-not-not_negative c).After-at_most) ∙ c.if-not-at_most.false in
+    let small = sym (length_is (goal.at.returns-then-not-not_negative c).After-at_most) ∙ c.if-not-at_most.false in
     frame-negative _ c.if-input-lt8.false small (sym (sign-is (goal.at.returns-then-not-not_negative c).After-not_negative) ∙ c.if-not-not_negative.true)
 
 pub returns-then-input-len : goal.returns-then-input-len
 returns-then-input-len c =
-    let small = sym (length-is (goal.at.returns-then-input-len c).After-at_most) ∙ c.if-not-at_most.false in
+    let small = sym (length_is (goal.at.returns-then-input-len c).After-at_most) ∙ c.if-not-at_most.false in
     let positive = sym (sign-is (goal.at.returns-then-input-len c).After-not_negative) ∙ c.if-not-not_negative.false in
     frame_past _ c.if-input-lt8.false small positive
     (omega (arith, c.to_usize-len.ensures, ap nat_abs c.number_at-n.ensures, c.if-input-len.true))
 
 pub returns : goal.returns
 returns c =
-    let small = sym (length-is (goal.at.returns c).After-at_most) ∙ c.if-not-at_most.false in
+    let small = sym (length_is (goal.at.returns c).After-at_most) ∙ c.if-not-at_most.false in
     let positive = sym (sign-is (goal.at.returns c).After-not_negative) ∙ c.if-not-not_negative.false in
     frame-sheet _ c.if-input-lt8.false small positive _ (c.to_usize-len.ensures ∙ ap nat_abs c.number_at-n.ensures) c.if-input-len.false

@@ -20,24 +20,24 @@ laid : (c : Start) → VariableLaid c.args.s.now c.args.tab.now c.args.v
 laid c = laid-variable _ _ c.requires.0.formed.placed _ c.requires.1.known
 
 -- its first element
-first-is : (c : After-first_element-first) →
+first_is : (c : After-first_element-first) →
     (laid : VariableLaid c.args.s.now c.args.tab.now c.args.v) →
     c.first_element-first.result ≡ before (sheet_of c.args.s.now) c.args.v
-first-is c laid =
-    c.first_element-first.ensures ∙ laid.first-is
+first_is c laid =
+    c.first_element-first.ensures ∙ laid.first_is
 
 -- the next is one of its elements
 many : (c : In-loop-i) → c.loop-i.i < size
     (variable (sheet_of c.args.s.now) c.args.v).head.box
 many c =
-    omega (arith, c.loop-i-test.true, c.requires.1.codes-long)
+    omega (arith, c.loop-i-test.true, c.requires.1.codes_long)
 
 number-low : (c : In-loop-i) →
-    (first-is : c.first_element-first.result ≡ before (sheet_of c.args.s.now) c.args.v) →
+    (first_is : c.first_element-first.result ≡ before (sheet_of c.args.s.now) c.args.v) →
     (laid : VariableLaid c.args.s.now c.args.tab.now c.args.v) →
     c.first_element-first.result + c.loop-i.i < total (sheet_of c.args.s.now)
-number-low c first-is laid =
-    omega (arith, first-is, many c, before-fits (sheet_of c.args.s.now) c.args.v laid.known)
+number-low c first_is laid =
+    omega (arith, first_is, many c, before-fits (sheet_of c.args.s.now) c.args.v laid.known)
 
 pub first_element-first-requires : goal.first_element-first-requires
 first_element-first-requires c = omega (arith, (laid (goal.at.first_element-first-requires c).Start).low)
@@ -46,14 +46,14 @@ pub overflow_add-e : goal.overflow_add-e
 overflow_add-e c =
     let way = goal.at.overflow_add-e c in
     let l = laid way.Start in
-    let first = first-is way.After-first_element-first l in
+    let first = first_is way.After-first_element-first l in
     omega (arith, number-low way.In-loop-i first l)
 
 pub settle-o-requires : goal.settle-o-requires
 settle-o-requires c =
     let way = goal.at.settle-o-requires c in
     let l = laid way.Start in
-    let first = first-is way.After-first_element-first l in
+    let first = first_is way.After-first_element-first l in
     let m = c.loop-i.invariant.advances in
     (setting-with _ _ _ _ _ _ c.requires.0 m.ready, record { idle = m.idle; element = omega (arith, number-low way.In-loop-i first l) })
 
@@ -61,7 +61,7 @@ pub loop-i-preserved : goal.loop-i-preserved
 loop-i-preserved c =
     let way = goal.at.loop-i-preserved c in
     let l = laid way.Start in
-    let first = first-is way.After-first_element-first l in
+    let first = first_is way.After-first_element-first l in
     let w = c.put.ensures in
     fills-next _ _ _ _ _ _ _ _ c.loop-i.invariant (many way.In-loop-i) (rw first at (number-low way.In-loop-i first l)) _ (rw first at c.settle-o.ensures) _ _
     w.0 w.1

@@ -36,7 +36,7 @@ laid c count-is = laid-variable _ _ c.requires.0.formed.placed _ (known c count-
 from_is : (c : After-first_element-from) →
     (laid : VariableLaid c.args.s.now c.args.tab.now c.loop-v.v) →
     c.first_element-from.result ≡ before (sheet_of c.args.s.now) c.loop-v.v
-from_is c laid = c.first_element-from.ensures ∙ laid.first-is
+from_is c laid = c.first_element-from.ensures ∙ laid.first_is
 
 to_is : (c : After-first_element-to) →
     (laid : VariableLaid c.args.s.now c.args.tab.now c.loop-v.v) →
@@ -50,19 +50,19 @@ room : (c : After-first_element-to) →
     (c.first_element-to.result ≤ length c.args.codes.now) × (c.first_element-to.result ≤ length c.args.values.now)
 room c laid =
     let fits = before-fits (sheet_of c.args.s.now) c.loop-v.v laid.known in
-    (omega (arith, to_is c laid, fits, c.requires.1.in-codes), omega (arith, to_is c laid, fits, c.requires.1.in-values))
+    (omega (arith, to_is c laid, fits, c.requires.1.in_codes), omega (arith, to_is c laid, fits, c.requires.1.in_values))
 
-in-codes : (c : After-first_element-to) →
+in_codes : (c : After-first_element-to) →
     (laid : VariableLaid c.args.s.now c.args.tab.now c.loop-v.v) →
     c.first_element-to.result ≤ length c.loop-v.codes
-in-codes c laid =
-    omega (arith, (room c laid).0, c.loop-v.invariant.0.codes-long)
+in_codes c laid =
+    omega (arith, (room c laid).0, c.loop-v.invariant.0.codes_long)
 
-in-values : (c : After-first_element-to) →
+in_values : (c : After-first_element-to) →
     (laid : VariableLaid c.args.s.now c.args.tab.now c.loop-v.v) →
     c.first_element-to.result ≤ length c.loop-v.values
-in-values c laid =
-    omega (arith, (room c laid).1, c.loop-v.invariant.0.values-long)
+in_values c laid =
+    omega (arith, (room c laid).1, c.loop-v.invariant.0.values_long)
 
 order : (c : After-first_element-to) →
     (from_is : c.first_element-from.result ≡ before (sheet_of c.args.s.now) c.loop-v.v) →
@@ -97,7 +97,7 @@ slice_bounds-fill-count c =
     let way = goal.at.slice_bounds-fill-count c in
     let l = laid way.In-loop-v (count-is way.After-variable_count-n) in
     let from = from_is way.After-first_element-from l in
-    omega (arith, order way.After-first_element-to from l, in-codes way.After-first_element-to l)
+    omega (arith, order way.After-first_element-to from l, in_codes way.After-first_element-to l)
 
 pub slice_bounds-fill-start : goal.slice_bounds-fill-start
 slice_bounds-fill-start c =
@@ -110,7 +110,7 @@ pub slice_bounds-fill-end : goal.slice_bounds-fill-end
 slice_bounds-fill-end c =
     let way = goal.at.slice_bounds-fill-end c in
     let l = laid way.In-loop-v (count-is way.After-variable_count-n) in
-    omega (arith, in-codes way.After-first_element-to l)
+    omega (arith, in_codes way.After-first_element-to l)
 
 pub offset_bounds-values-from : goal.offset_bounds-values-from
 offset_bounds-values-from c =
@@ -124,7 +124,7 @@ slice_bounds-fill-count-in-loop-v c =
     let way = goal.at.slice_bounds-fill-count-in-loop-v c in
     let l = laid way.In-loop-v (count-is way.After-variable_count-n) in
     let from = from_is way.After-first_element-from l in
-    omega (arith, order way.After-first_element-to from l, in-codes way.After-first_element-to l)
+    omega (arith, order way.After-first_element-to from l, in_codes way.After-first_element-to l)
 
 pub slice_bounds-fill-start-in-loop-v : goal.slice_bounds-fill-start-in-loop-v
 slice_bounds-fill-start-in-loop-v c =
@@ -137,7 +137,7 @@ pub slice_bounds-fill-end-in-loop-v : goal.slice_bounds-fill-end-in-loop-v
 slice_bounds-fill-end-in-loop-v c =
     let way = goal.at.slice_bounds-fill-end-in-loop-v c in
     let l = laid way.In-loop-v (count-is way.After-variable_count-n) in
-    omega (arith, in-values way.After-first_element-to l)
+    omega (arith, in_values way.After-first_element-to l)
 
 pub fill-requires : goal.fill-requires
 fill-requires c =
@@ -150,8 +150,8 @@ fill-requires c =
       record {
         idle = m.idle;
         known = known way.In-loop-v (count-is way.After-variable_count-n);
-        codes-long = part-long _ _ _ _ wide (in-codes way.After-first_element-to l) (order way.After-first_element-to from l);
-        values-long = part-long _ _ _ _ wide (in-values way.After-first_element-to l) (order way.After-first_element-to from l);
+        codes_long = part-long _ _ _ _ wide (in_codes way.After-first_element-to l) (order way.After-first_element-to from l);
+        values_long = part-long _ _ _ _ wide (in_values way.After-first_element-to l) (order way.After-first_element-to from l);
       },
     )
 

@@ -28,31 +28,31 @@ input-is : (c : After-kind_of-input) →
     is_input (variable (sheet_of c.args.s.now) c.args.v)
     ≡ eqb c.kind_of-input.result 0
 input-is c laid =
-    ap (λ h. is_input_kind h.kind) laid.head-is ∙ ap is_input_kind c.kind_of-input.ensures.0 ∙ kind-test _ c.kind_of-input.ensures.1
+    ap (λ h. is_input_kind h.kind) laid.head_is ∙ ap is_input_kind c.kind_of-input.ensures.0 ∙ kind-test _ c.kind_of-input.ensures.1
 
 -- its first element
-first-is : (c : After-first_element-first) →
+first_is : (c : After-first_element-first) →
     (laid : VariableLaid c.args.s.now c.args.tab.now c.args.v) →
     c.first_element-first.result ≡ before (sheet_of c.args.s.now) c.args.v
-first-is c laid =
-    c.first_element-first.ensures ∙ laid.first-is
+first_is c laid =
+    c.first_element-first.ensures ∙ laid.first_is
 
 -- the next is one of its elements
 many : (c : In-loop-i) →
     (laid : VariableLaid c.args.s.now c.args.tab.now c.args.v) →
-    (first-is : c.first_element-first.result ≡ before (sheet_of c.args.s.now) c.args.v) →
+    (first_is : c.first_element-first.result ≡ before (sheet_of c.args.s.now) c.args.v) →
     c.loop-i.i < size (variable (sheet_of c.args.s.now) c.args.v).head.box
-many c laid first-is =
+many c laid first_is =
     let l = laid in
-    omega (arith, c.loop-i-test.true, first-is, l.last-is, c.first_element.ensures)
+    omega (arith, c.loop-i-test.true, first_is, l.last-is, c.first_element.ensures)
 
 -- an input's element has an entry
 listed : (c : In-loop-i) →
     (laid : VariableLaid c.args.s.now c.args.tab.now c.args.v) →
-    (first-is : c.first_element-first.result ≡ before (sheet_of c.args.s.now) c.args.v) →
+    (first_is : c.first_element-first.result ≡ before (sheet_of c.args.s.now) c.args.v) →
     is_input (variable (sheet_of c.args.s.now) c.args.v) ≡ true →
     c.inputs_before-from.result + c.loop-i.i < length c.args.ins.now
-listed c laid first-is t =
+listed c laid first_is t =
     let sheet = sheet_of c.args.s.now in
     omega (
       arith,
@@ -60,7 +60,7 @@ listed c laid first-is t =
       before-step sheet c.args.v laid.known,
       before-count sheet (suc c.args.v),
       size-input sheet c.args.v t,
-      many c laid first-is,
+      many c laid first_is,
       c.requires.0.many,
     )
 
@@ -72,9 +72,9 @@ short c =
 -- after its last element
 whole : (c : After-loop-i) →
     (laid : VariableLaid c.args.s.now c.args.tab.now c.args.v) →
-    (first-is : c.first_element-first.result ≡ before (sheet_of c.args.s.now) c.args.v) →
+    (first_is : c.first_element-first.result ≡ before (sheet_of c.args.s.now) c.args.v) →
     before (sheet_of c.args.s.now) c.args.v + c.loop-i.i ≡ before (sheet_of c.args.s.now) (c.args.v + 1)
-whole c laid first-is =
+whole c laid first_is =
     let sheet = sheet_of c.args.s.now in
     let l = laid in
     let one : c.args.v + 1 ≡ suc c.args.v = omega arith in
@@ -84,7 +84,7 @@ whole c laid first-is =
       before-suc sheet c.args.v l.known,
       c.loop-i-test.false,
       all,
-      first-is,
+      first_is,
       l.last-is,
       c.first_element.ensures,
     ))
@@ -97,13 +97,13 @@ first_element-requires c = omega (arith, (laid (goal.at.first_element-requires c
 
 pub overflow_sub-size : goal.overflow_sub-size
 overflow_sub-size c =
-    let l = laid (goal.at.overflow_sub-size c).Start in omega (arith, l.first-is, l.last-is, c.first_element.ensures, c.first_element-first.ensures)
+    let l = laid (goal.at.overflow_sub-size c).Start in omega (arith, l.first_is, l.last-is, c.first_element.ensures, c.first_element-first.ensures)
 
 pub overflow_add-from : goal.overflow_add-from
 overflow_add-from c =
     let way = goal.at.overflow_add-from c in
     let l = laid way.Start in
-    let first = first-is way.After-first_element-first l in
+    let first = first_is way.After-first_element-first l in
     let n = c.inputs_before-from.ensures in
     omega (arith, n, before-count (sheet_of c.args.s.now) c.args.v, c.requires.0.many, many way.In-loop-i l first, l.few, short way.Start)
 
@@ -111,14 +111,14 @@ pub start_element-requires : goal.start_element-requires
 start_element-requires c =
     let way = goal.at.start_element-requires c in
     let l = laid way.Start in
-    let first = first-is way.After-first_element-first l in
+    let first = first_is way.After-first_element-first l in
     (omega (arith, first, many way.In-loop-i l first, l.few), λ t. listed way.In-loop-i l first (input-is way.After-kind_of-input l ∙ t))
 
 pub loop-i-preserved : goal.loop-i-preserved
 loop-i-preserved c =
     let way = goal.at.loop-i-preserved c in
     let l = laid way.Start in
-    let first = first-is way.After-first_element-first l in
+    let first = first_is way.After-first_element-first l in
     let from = c.inputs_before-from.ensures in
     let next = started-next _ _ _ _ l (many way.In-loop-i l first) _ c.requires.0.inside_is _ _ c.loop-i.invariant.0 _ (sym (input-is way.After-kind_of-input l)) in
     (rw (c.start_element.ensures, first, from) next, omega (arith, c.loop-i-test.true))
@@ -127,6 +127,6 @@ pub returns : goal.returns
 returns c =
     let way = goal.at.returns c in
     let l = laid way.Start in
-    let first = first-is way.After-first_element-first l in
+    let first = first_is way.After-first_element-first l in
     let done : before (sheet_of c.args.s.now) c.args.v + c.loop-i.i ≡ before (sheet_of c.args.s.now) (c.args.v + 1) = whole way.After-loop-i l first in
     subst (Started _ _ _) done c.loop-i.invariant.0

@@ -21,4 +21,4 @@ returns-in_default c =
     let is = c.natural-code.ensures ∙ code_here _ _ c.requires.noded in
     let rest = c.in_default.in_default-own.rest in
     let nd = node_read (vars_of c.args.s.now) c.args.s.now c.args.at in
-    omega (arith, is, rest.0.1, rest.1, operator-low nd c.requires.class-is, operator-high nd c.requires.class-is)
+    omega (arith, is, rest.0.1, rest.1, operator-low nd c.requires.class_is, operator-high nd c.requires.class_is)

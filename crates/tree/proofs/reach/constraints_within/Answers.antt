@@ -4,7 +4,7 @@ use mathlib.Core.Path.{refl, sym, ◌∙◌}
 use native.Mathlib.Omega.{arith}
 use borrow.Author.Rules.{rules}
 use borrow.Author.Tests.{not-true, not-false}
-use Rattle.tree.proofs.Reaching.{ConstraintsLeft, none-left-pass, first-there, first-fails, first_passes}
+use Rattle.tree.proofs.Reaching.{ConstraintsLeft, none-left-pass, first_there, first-fails, first_passes}
 use Rattle.tree.proofs.reach.constraints_within.Goals as goal
 
 pub returns-then-not-row_within : goal.returns-then-not-row_within

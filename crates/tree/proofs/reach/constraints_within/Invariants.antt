@@ -4,7 +4,7 @@ use mathlib.Core.Path.{refl, sym, ◌∙◌}
 use native.Mathlib.Omega.{arith}
 use borrow.Author.Rules.{rules}
 use borrow.Author.Tests.{not-true, not-false}
-use Rattle.tree.proofs.Reaching.{ConstraintsLeft, none-left-pass, first-there, first-fails, first_passes}
+use Rattle.tree.proofs.Reaching.{ConstraintsLeft, none-left-pass, first_there, first-fails, first_passes}
 use Rattle.tree.proofs.reach.constraints_within.Given as goal
 
 abbrev pub invariant-loop-left : goal.invariant-loop-left
