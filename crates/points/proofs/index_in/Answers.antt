@@ -1,15 +1,14 @@
 -- `points::index_in` meets its contract: coordinate by coordinate, the number from here is the number asked for. Assumes nothing.
 use mathlib.Core.Path.{◌≡◌, sym, ap, ◌∙◌}
-use mathlib.Core.List.{List, [], ◌∷◌}
+use mathlib.Core.List.{List}
 use native.Mathlib.Omega.{arith}
 use native.Mathlib.Nat.{mul-le-mul}
-use borrow.Author.Rules.{rules}
 use Rattle.alpha.specs.declared.Int.{Int}
 use Rattle.affine.specs.Value.{point_of}
 use Rattle.sheet.specs.Record.{range_at, box_at}
 use Rattle.points.specs.Number.{number_in}
 use Rattle.points.specs.declared.Found.{Found}
-use Rattle.points.proofs.Steps.{Kept, number_from-none, first_four, first-four, kept_low, kept-end, kept_off, kept-head, kept_more, digit_low}
+use Rattle.points.proofs.Steps.{first_four, first-four, kept_low, kept-end, kept_off, kept_more, digit_low}
 use Rattle.points.proofs.index_in.Goals.{After-x3-1}
 use Rattle.points.proofs.index_in.Goals as goal
 
