@@ -1,7 +1,6 @@
 -- `tree::class_of` meets its contract, code by code. Assumes nothing.
 use mathlib.Core.Path.{◌≡◌, sym, ◌∙◌}
 use native.Mathlib.Omega.{arith}
-use Rattle.alpha.specs.Sheet.{Node}
 use Rattle.laws.specs.At.{code_of, node_read}
 use Rattle.laws.specs.Sheets.{vars_of}
 use Rattle.tree.proofs.Classes.{code_here, code-there}
