@@ -3,15 +3,13 @@
 use mathlib.Core.Path.{◌≡◌, sym, ap, ◌∙◌}
 use Prim.Native.Nat.{◌+◌, ◌-◌, ◌<◌}
 use native.Mathlib.Omega.{arith}
-use borrow.Author.Rules.{rules}
-use borrow.Author.Tests.{not-true, not-false}
 use Rattle.alpha.specs.Box as Box
 use Rattle.alpha.specs.Holds.{variable}
 use Rattle.alpha.specs.Ask.{before}
 use Rattle.laws.specs.Sheets.{sheet_of}
 use Rattle.domain.specs.Element.{fault_of}
 use Rattle.domain.proofs.Records.{VariableLaid, laid-variable}
-use Rattle.domain.proofs.Checking.{BodyReached, body-start, body_end, body-fails, body-passes}
+use Rattle.domain.proofs.Checking.{body_end, body-fails, body-passes}
 use Rattle.domain.proofs.faults.body_faults.Goals.{After-first_element, After-first_element-first, In-loop-i, Start}
 use Rattle.domain.proofs.faults.body_faults.Goals as goal
 

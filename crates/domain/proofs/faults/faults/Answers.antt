@@ -1,13 +1,12 @@
 -- `domain::faults` meets its contract. The loop's invariant: the elements of the variables from v on decide. The measure is how many
 -- variables are left. Assumes nothing.
 use mathlib.Core.Path.{◌≡◌, sym, ap, ◌∙◌}
-use Prim.Native.Nat.{◌-◌, ◌<◌}
+use Prim.Native.Nat.{◌<◌}
 use native.Mathlib.Omega.{arith}
 use lib.ListN.{length}
-use borrow.Author.Rules.{rules}
 use Rattle.laws.specs.Sheets.{vars_of, sheet_of}
 use Rattle.tree.specs.Ruled.{ruled}
-use Rattle.domain.proofs.Checking.{AllReached, all_start, all_end, all-fail, all_pass}
+use Rattle.domain.proofs.Checking.{all_end, all-fail, all_pass}
 use Rattle.domain.proofs.faults.faults.Goals.{After-variable_count-n, In-loop-v}
 use Rattle.domain.proofs.faults.faults.Goals as goal
 

@@ -8,7 +8,7 @@ use Rattle.alpha.specs.Holds.{variable}
 use Rattle.alpha.specs.Ask.{before}
 use Rattle.laws.specs.Sheets.{sheet_of}
 use Rattle.domain.proofs.Records.{VariableLaid, laid-variable}
-use Rattle.domain.proofs.Filled.{FilledTo, fill_none, fill_one, fill-all}
+use Rattle.domain.proofs.Filled.{fill_one, fill-all}
 use Rattle.domain.proofs.inside.fill_variable.Goals.{After-first_element, After-first_element-first, In-loop-i, Start}
 use Rattle.domain.proofs.inside.fill_variable.Goals as goal
 
