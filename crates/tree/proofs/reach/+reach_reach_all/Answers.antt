@@ -28,7 +28,7 @@ reach-reach_all-requires t c =
     let many = c.children.ensures in
     let says = c.reach_below-r.ensures in
     let below = reach-some _ _ _ _ says h.1 (standing-noded _ _ _ _ h.0) _ c.in-Within.is in
-    (omega arith, (standing-children _ _ _ _ h.0 _ _ next many, below))
+    (omega arith, (standing-children _ _ _ _ h.0 _ _ next many, omega (arith, h.1, below)))
 
 pub reach-returns : goal.reach-returns
 reach-returns t c =
