@@ -8,7 +8,8 @@ use Rattle.domain.proofs.holding.holding.Given as goal
 -- what is taken of the branches from here on, and of the one that is spared here, is what the case takes
 abbrev pub invariant-loop-more : goal.invariant-loop-more
 invariant-loop-more l =
-    Walk l.s l.spared l.n l.z × WalkAll l.s l.next l.n l.more l.z × ((r : ℕ) → Sought l.s l.next l.n l.more l.z l.spared r → Sought l.s l.initial.next l.n l.initial.more l.z l.initial.spared r)
+    Walk l.s l.spared l.n l.z × WalkAll l.s l.next l.n l.more l.z ×
+    ((r : ℕ) → Sought l.s l.next l.n l.more l.z l.spared r → Sought l.s l.initial.next l.n l.initial.more l.z l.initial.spared r)
 
 abbrev pub decreases-loop-more : goal.decreases-loop-more
 decreases-loop-more l = l.more
