@@ -33,23 +33,23 @@ module _ (bs tab : List ℕ) (f : Formed bs tab) (v : ℕ) where
 
   module _ (lt : v < vars_of bs) (k : ℕ) (is : (get_or (heads_of bs) v no_head).kind ≡ kind_of k) where
     kind-is : is_input (variable (sheet_of bs) v) ≡ is_input_kind (kind_of k)
-    kind-is = ap (λ h. is_input_kind h.kind) (f.placed.head-is v lt) ∙ ap is_input_kind is
+    kind-is = ap (λ h. is_input_kind h.kind) (f.placed.head_is v lt) ∙ ap is_input_kind is
 
     pub input-part : k ≡ 0 → part_of (sheet_of bs) v ≡ no_part
     input-part e = rw (kind-is ∙ input-is k e) refl
 
     module _ (n : k ≡ 0 → ⊥) (few : k ≤ 2) where
-      no-input : is_input (variable (sheet_of bs) v) ≡ false
-      no-input = kind-is ∙ other-is k few n
+      no_input : is_input (variable (sheet_of bs) v) ≡ false
+      no_input = kind-is ∙ other-is k few n
 
       ordered : (variable (sheet_of bs) v).start ≤ (variable (sheet_of bs) v).end
       ordered =
-          let b = f.placed.body v lt no-input in omega
+          let b = f.placed.body v lt no_input in omega
           (arith, at_long (vars_of bs) bs (variable (sheet_of bs) v).body (variable (sheet_of bs) v).start (variable (sheet_of bs) v).end b.at)
 
       inside : (variable (sheet_of bs) v).end ≤ length bs
       inside =
-          let b = f.placed.body v lt no-input in at_there (vars_of bs) bs (variable (sheet_of bs) v).body (variable (sheet_of bs) v).start
+          let b = f.placed.body v lt no_input in at_there (vars_of bs) bs (variable (sheet_of bs) v).body (variable (sheet_of bs) v).start
           (variable (sheet_of bs) v).end b.at
 
       start_is : get_or tab (69 + v) 0 ≡ (variable (sheet_of bs) v).start
@@ -66,7 +66,7 @@ module _ (bs tab : List ℕ) (f : Formed bs tab) (v : ℕ) where
       body-part p a b =
           let len : p.len ≡ (variable (sheet_of bs) v).end - (variable (sheet_of bs) v).start = omega (arith, b, start_is, end_is) in
           record {
-            is = rw (no-input, a ∙ start_is, len) refl;
+            is = rw (no_input, a ∙ start_is, len) refl;
             there = omega (arith, a, len, start_is, ordered, inside);
           }
 

@@ -64,17 +64,17 @@ module _ (bs tab : List ℕ) (f : Formed bs tab) where
   points-total [] = refl
   points-total (x ∷ s) = ap (λ n. size x.head.box + n) (points-total s)
 
-  pub total-is : (n : ℕ) → accepted n ≡ read_answer bs → n ≡ total (sheet_of bs)
-  total-is n e =
+  pub total_is : (n : ℕ) → accepted n ≡ read_answer bs → n ≡ total (sheet_of bs)
+  total_is n e =
       let read_is = f.placed.prepared.accepted in
-      let heads = (bodies-read (raw_of bs) bs f.placed.shaped).heads-are in
+      let heads = (bodies-read (raw_of bs) bs f.placed.shaped).heads_are in
       let told : accepted n ≡ accepted (Record.points (heads_of bs)) = e ∙ ap answer_of read_is in
       let same : n ≡ Record.points (heads_of bs) = cc in
       same ∙ ap Record.points (sym heads) ∙ points-total (sheet_of bs)
 
   pub total-told : (n : ℕ) → accepted n ≡ read_answer bs → accepted tt ≡ faults (sheet_of bs) 0 (elements (sheet_of bs)) →
       accepted n ≡ total_of (check bs)
-  total-told n e g = ap accepted (total-is n e) ∙ sym (ap total_of (all_pass g))
+  total-told n e g = ap accepted (total_is n e) ∙ sym (ap total_of (all_pass g))
 
 -- ---- what a refusal and an acceptance leave
 
@@ -121,7 +121,7 @@ all-admit bs tab inside n g f i a p q =
     let pass : accepted tt ≡ faults (sheet_of bs) 0 (elements (sheet_of bs)) = sym (ap ruled p) ∙ q in
     record {
       answer = total-told bs tab f n a pass;
-      admitted = λ m h. record { sheet-is = all_pass bs tab f pass; formed = f; filled = i };
+      admitted = λ m h. record { sheet_is = all_pass bs tab f pass; formed = f; filled = i };
     }
 
 -- after reading, the walkers may walk

@@ -15,7 +15,7 @@ use Rattle.domain.specs.Inside.{Inside}
 
 -- a sheet that is accepted, with its table and its bytes
 pub record Admitted (bs tab inside : List ℕ) : Type 0 where
-  pub sheet-is : check bs ≡ accepted (sheet_of bs)
+  pub sheet_is : check bs ≡ accepted (sheet_of bs)
   pub formed : Formed bs tab
   pub filled : Inside (sheet_of bs) inside
 

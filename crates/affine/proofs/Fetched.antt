@@ -75,7 +75,7 @@ module _ {bs : List ℕ} {p i k n : ℕ} where
 abbrev pub RowsMap : List ℕ → ℕ → ℕ → ℕ → Map → Type 0
 RowsMap bs p n k m = (map_of m ≡ record { cols = n; rows = rows_fields k n bs p }) × Neat m × (m.height ≡ k) × (m.width ≡ n)
 
-module _ (bs : List ℕ) (p k n : ℕ) (cols-few : n ≤ 4) (rows_few : k ≤ 4) where
+module _ (bs : List ℕ) (p k n : ℕ) (cols_few : n ≤ 4) (rows_few : k ≤ 4) where
   pub rows_are :
       {a b c d : Row} → RowAmong bs p 0 k n a → RowAmong bs p 1 k n b → RowAmong bs p 2 k n c → RowAmong bs p 3 k n d →
       RowsMap bs p n k (record { rows = a ∷ b ∷ c ∷ d ∷ []; height = k; width = n })
@@ -86,7 +86,7 @@ module _ (bs : List ℕ) (p k n : ℕ) (cols-few : n ≤ 4) (rows_few : k ≤ 4)
         map_same (several-same k (λ i. row_of n (line m i)) (λ i. row_fields n bs (p + i * (8 * n + 8))) (λ i h. (each i (omega arith)).is h)),
         record {
           rows_few = rows_few;
-          cols-few = cols-few;
+          cols_few = cols_few;
           lines = λ i. ⊎_elim (λ l. (each i l).rest) (λ l. padded-more (line m i).coef (omega arith) (past i l).coefs) (lt-or-le i 4);
           beyond = λ i q. ⊎_elim (λ l. (each i l).zeros q) (past i) (lt-or-le i 4);
         },
@@ -119,13 +119,13 @@ module _ (bs : List ℕ) (p : ℕ) (m : Map) (neat : Neat m) where
 
 pub map-there : (bs : List ℕ) (p : ℕ) {f : Sheet.Map} {q : ℕ} → dependence bs p ≡ got (Sheet.Node.n_dep f) q → MapThere bs p
 map-there bs p e =
-    let g = dependence-got bs p e in record { cols-few = g.cols-few; rows_few = g.rows_few; inside = rw g.next at g.inside }
+    let g = dependence-got bs p e in record { cols_few = g.cols_few; rows_few = g.rows_few; inside = rw g.next at g.inside }
 
 module _ (bs : List ℕ) (p n k : ℕ) (wide : n ≡ nat_abs (field bs p)) (high : k ≡ nat_abs (field bs (p + 8))) where
   -- its rows can be read
   pub rows-there : MapThere bs p → (n ≤ 4) × (k ≤ 4) × (p + 16 + k * (8 * n + 8) ≤ length bs)
   rows-there t =
-      let low = t.cols-few in let few = t.rows_few in (omega arith, omega arith, omega (arith, span_same wide high, t.inside))
+      let low = t.cols_few in let few = t.rows_few in (omega arith, omega arith, omega (arith, span_same wide high, t.inside))
 
   -- and the map of these is its map
   pub rows-map : (m : Map) → RowsMap bs (p + 16) n k m → MapRead bs p m

@@ -28,7 +28,7 @@ pub neat-four : {n : ℕ} (r : Row) → n ≤ 4 → Padded n r.coef → NeatRow 
 neat-four r h e = record { few = omega arith; rest = padded-more r.coef h e }
 
 pub neat-line : (m : Map) → Neat m → (i : ℕ) → NeatRow m.width (line m i)
-neat-line m h i = record { few = h.cols-few; rest = h.lines i }
+neat-line m h i = record { few = h.cols_few; rest = h.lines i }
 
 -- a map's rows and columns are those of what it stands for
 pub height-length : (m : Map) {f : Sheet.Map} → map_of m ≡ f → m.height ≡ length f.rows
@@ -115,7 +115,7 @@ module _ (f : Map) (w : Row) (n : Neat f) (rest : Padded f.height w.coef) where
         let past : (j : ℕ) → 4 ≤ j → at y j ≡ pos 0 = λ j l. ap (λ (x : Int). x.v) (past-four a b c d (record { v = pos 0 }) j l) in
         let coefs : several f.width (at y) ≡ several f.width (λ j. dot ws (several f.height (λ i. at (line f i).coef j))) =
         several-same f.width (at y) _
-        (λ j l. each j (let q = n.cols-few in omega arith) ∙ fewer (λ i. at (line f i).coef j)) in
+        (λ j l. each j (let q = n.cols_few in omega arith) ∙ fewer (λ i. at (line f i).coef j)) in
         record {
           is =
               row_same
@@ -157,7 +157,7 @@ module _ (g f : Map) (ng : Neat g) (nf : Neat f) (e : g.width ≡ f.height) (a b
         map_same (rows ∙ sym (map-several (row_after (map_of f)) g.height (λ i. row_of g.width (line g i)))),
         record {
           rows_few = ng.rows_few;
-          cols-few = nf.cols-few;
+          cols_few = nf.cols_few;
           lines = λ i. ⊎_elim (λ l. (each i l).rest) (λ l. padded-more (line m i).coef (omega arith) (past i l).coefs) (lt-or-le i 4);
           beyond = λ i q. ⊎_elim (λ l. (each i l).zeros (ng.beyond i q)) (past i) (lt-or-le i 4);
         },
@@ -231,7 +231,7 @@ module _ (a b c d z : Int) where
           diagonal-is n h ea eb ec ed,
           record {
             rows_few = h;
-            cols-few = h;
+            cols_few = h;
             lines =
                 by-four (λ i. Padded n (line m i).coef) (at_first a z ez n oa) (at_second b z ez n ob) (at-third c z ez n oc)
                 (at-fourth d z ez n od) (λ i q. padded-more (line m i).coef (omega arith) (past-line _ _ _ _ n n i q).coefs);

@@ -65,8 +65,8 @@ pub record RowGot (n : ℕ) (bs : List ℕ) (p : ℕ) (w : Sheet.Row) (q : ℕ) 
   pub is : w ≡ row_fields n bs p
   pub next : q ≡ p + (8 * n + 8)
   pub room : q ≤ length bs
-  pub coefs-small : Near (2 ^ 40) w.coefs
-  pub const-small : nat_abs w.const ≤ 2 ^ 40
+  pub coefs_small : Near (2 ^ 40) w.coefs
+  pub const_small : nat_abs w.const ≤ 2 ^ 40
 
 module _ (n : ℕ) (bs : List ℕ) (p : ℕ) (cs : List ℤ) (t : ℕ) (c : ℤ) (u : ℕ) where
   row_from : FieldsGot n bs p cs t → Upto (Freed bs t) (t + 8) c u → RowGot n bs p (record { coefs = cs; const = c }) u
@@ -78,8 +78,8 @@ module _ (n : ℕ) (bs : List ℕ) (p : ℕ) (cs : List ℤ) (t : ℕ) (c : ℤ)
         is = row_same f.is (g.what.is ∙ ap (field bs) f.next);
         next = omega arith;
         room = omega arith;
-        coefs-small = f.small;
-        const-small = rw g.what.is g.what.small;
+        coefs_small = f.small;
+        const_small = rw g.what.is g.what.small;
       }
 
 pub row-got : (n : ℕ) (bs : List ℕ) (p : ℕ) {w : Sheet.Row} {q : ℕ} → Read.row_of n bs p ≡ got w q → RowGot n bs p w q
@@ -124,7 +124,7 @@ rows-got (suc k) n bs p {ws} {q} e =
 
 pub record MapGot (bs : List ℕ) (p : ℕ) (f : Sheet.Map) (q : ℕ) : Type 0 where
   pub room : p + 16 ≤ length bs
-  pub cols-few : nat_abs (field bs p) ≤ 4
+  pub cols_few : nat_abs (field bs p) ≤ 4
   pub rows_few : nat_abs (field bs (p + 8)) ≤ 4
   pub is : f ≡ map_fields bs p
   pub next : q ≡ p + 16 + nat_abs (field bs (p + 8)) * (8 * nat_abs (field bs p) + 8)
@@ -141,7 +141,7 @@ module _ (bs : List ℕ) (p n t k u : ℕ) (l : List Sheet.Row) (v : ℕ) where
       c.is ∙ ap (λ i. rows_fields i n bs u) high ∙ ap (λ i. rows_fields (nat_abs (field bs (p + 8))) n bs i) third in
       record {
         room = room;
-        cols-few = rw wide at a.what.high;
+        cols_few = rw wide at a.what.high;
         rows_few = rw high at b.what.high;
         is =
             ap (λ (ws : List Sheet.Row). record { cols = n; rows = ws }) rows

@@ -35,7 +35,7 @@ pub record MapRead (bs : List ℕ) (p : ℕ) (m : Map) : Type 0 where
 
 -- the fields of a dependence stand at p: no more than four rows and columns, and all of them are there
 pub record MapThere (bs : List ℕ) (p : ℕ) : Type 0 where
-  pub cols-few : nat_abs (field bs p) ≤ 4
+  pub cols_few : nat_abs (field bs p) ≤ 4
   pub rows_few : nat_abs (field bs (p + 8)) ≤ 4
   pub inside : p + 16 + nat_abs (field bs (p + 8)) * (8 * nat_abs (field bs p) + 8) ≤ length bs
 

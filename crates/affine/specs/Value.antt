@@ -52,7 +52,7 @@ pub record ZeroRow (r : Row) : Type 0 where
 -- m has the rows and columns that it says
 pub record Neat (m : Map) : Type 0 where
   pub rows_few : m.height ≤ 4
-  pub cols-few : m.width ≤ 4
+  pub cols_few : m.width ≤ 4
   pub lines : (i : ℕ) → Padded m.width (line m i).coef
   pub beyond : (i : ℕ) → m.height ≤ i → ZeroRow (line m i)
 

@@ -59,11 +59,11 @@ check-unique r r' h h' = same r r' h.answer h'.answer
 
 pub run-unique : {sheet codes codes₁ codes₂ : List ℕ} {ins values values₁ values₂ : List ℤ} (r r' : Verdict) →
     Runs sheet ins codes codes₁ values values₁ r → Runs sheet ins codes codes₂ values values₂ r' → (r ≡ r') × (codes₁ ≡ codes₂) × (values₁ ≡ values₂)
-run-unique r r' h h' = (same r r' h.answer h'.answer, h.codes-after ∙ sym h'.codes-after, h.values-after ∙ sym h'.values-after)
+run-unique r r' h h' = (same r r' h.answer h'.answer, h.codes_after ∙ sym h'.codes_after, h.values_after ∙ sym h'.values_after)
 
 pub normalise-unique : {sheet out out₁ out₂ : List ℕ} (r r' : Verdict) →
     Normalises sheet out out₁ r → Normalises sheet out out₂ r' → (r ≡ r') × (out₁ ≡ out₂)
-normalise-unique r r' h h' = (same r r' h.answer h'.answer, h.out-after ∙ sym h'.out-after)
+normalise-unique r r' h h' = (same r r' h.answer h'.answer, h.out_after ∙ sym h'.out_after)
 
 pub element-unique : {sheet : List ℕ} {v : ℕ} {z : Point} (r r' : Verdict) → Numbers sheet v z r → Numbers sheet v z r' → r ≡ r'
 element-unique r r' h h' = same r r' h.answer h'.answer

@@ -27,13 +27,13 @@ pub record Checks (sheet : List ℕ) (r : Verdict) : Type 0 where
 -- run: the element total and both tables filled, or a refusal
 pub record Runs (sheet : List ℕ) (ins : List ℤ) (codes codes' : List ℕ) (values values' : List ℤ) (r : Verdict) : Type 0 where
   pub answer : told r ≡ next (run sheet ins (length codes) (length values)) (λ _. total_of (check sheet))
-  pub codes-after : codes' ≡ lent_after (run sheet ins (length codes) (length values)) (λ t. t.codes) codes
-  pub values-after : values' ≡ lent_after (run sheet ins (length codes) (length values)) (λ t. t.values) values
+  pub codes_after : codes' ≡ lent_after (run sheet ins (length codes) (length values)) (λ t. t.codes) codes
+  pub values_after : values' ≡ lent_after (run sheet ins (length codes) (length values)) (λ t. t.values) values
 
 -- normalise: the length written and the normal form's bytes, or a refusal
 pub record Normalises (sheet : List ℕ) (out out' : List ℕ) (r : Verdict) : Type 0 where
   pub answer : told r ≡ next (normalise sheet (length out)) (λ bytes. accepted (length bytes))
-  pub out-after : out' ≡ lent_after (normalise sheet (length out)) (λ bytes. bytes) out
+  pub out_after : out' ≡ lent_after (normalise sheet (length out)) (λ bytes. bytes) out
 
 -- element number: the number, or a refusal
 pub record Numbers (sheet : List ℕ) (variable : ℕ) (point : Point) (r : Verdict) : Type 0 where

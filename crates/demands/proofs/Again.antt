@@ -73,7 +73,7 @@ module _ {bs : List ℕ} {r : Raw} {s : Sheet} (a : Accepted bs r s) (p : ℕ) w
 
 -- what the bytes o are, where they are the normal form of the sheet s that the bytes bs are
 pub record NormalOf (bs : List ℕ) (r : Raw) (s : Sheet) (o : List ℕ) : Type 0 where
-  pub bytes-are : o ≡ take r.third bs ++ nat (body_nodes s s) ++ body_bytes s s
+  pub bytes_are : o ≡ take r.third bs ++ nat (body_nodes s s) ++ body_bytes s s
   pub sections-copied : take r.third o ≡ take r.third bs
   pub nodes : ℕ
   pub read_is : read o ≡ got (record { heads = r.heads; decls = r.decls; second = r.second; third = r.third; first = r.third + 8; nodes = nodes }) (length o)
@@ -99,7 +99,7 @@ module _ {bs : List ℕ} {r : Raw} {s : Sheet} (a : Accepted bs r s) where
 
     normal-of-written : NormalOf bs r s (take r.third bs ++ nat w.nodes ++ w.out)
     normal-of-written = record {
-      bytes-are = rw (wrote.out-is, wrote.nodes-are, zero-add (body_nodes s s));
+      bytes_are = rw (wrote.out_is, wrote.nodes_are, zero-add (body_nodes s s));
       sections-copied = copied;
       nodes = w.nodes;
       read_is = read_out a w wrote;

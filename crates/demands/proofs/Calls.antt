@@ -18,17 +18,17 @@ use Rattle.demands.proofs.Kept.{normalise-wrote}
 
 module _ (bs : List ℕ) (s : Sheet) (o : List ℕ) (c : check bs ≡ accepted s) (f : NormalFormOf bs s o) where
   totals-same : total_of (check o) ≡ total_of (check bs)
-  totals-same = ap total_of f.accepts ∙ ap accepted (total-same s f.sheet f.same-heads) ∙ sym (ap total_of c)
+  totals-same = ap total_of f.accepts ∙ ap accepted (total-same s f.sheet f.same_heads) ∙ sym (ap total_of c)
 
   pub rewritten-calls : (n : ℕ) → length o ≡ n → RewrittenCalls bs o n
   rewritten-calls n long = record {
     same_check = λ r r' h h'. told-injective r' r (h'.answer ∙ totals-same ∙ sym h.answer);
-    same-run = λ ins codes codes₁ codes₂ values values₁ values₂ r r' h h'.
-        let e = f.same-run ins (length codes) (length values) in (
+    same_run = λ ins codes codes₁ codes₂ values values₁ values₂ r r' h h'.
+        let e = f.same_run ins (length codes) (length values) in (
           told-injective r' r
               (h'.answer ∙ ap (λ m. next m (λ _. total_of (check o))) e ∙ ap (λ t. next (run bs ins (length codes) (length values)) (λ _. t)) totals-same ∙ sym h.answer),
-          h'.codes-after ∙ ap (λ m. lent_after m (λ t. t.codes) codes) e ∙ sym h.codes-after,
-          h'.values-after ∙ ap (λ m. lent_after m (λ t. t.values) values) e ∙ sym h.values-after,
+          h'.codes_after ∙ ap (λ m. lent_after m (λ t. t.codes) codes) e ∙ sym h.codes_after,
+          h'.values_after ∙ ap (λ m. lent_after m (λ t. t.values) values) e ∙ sym h.values_after,
         );
     again = λ out out' r l h.
         let e = f.again (length out) (omega (arith, long)) in

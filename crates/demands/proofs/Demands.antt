@@ -29,7 +29,7 @@ use Rattle.alpha.specs.Normalise.{normal_form, normalise}
 use Rattle.laws.specs.Accepted.{Accepted}
 use Rattle.laws.specs.Normal.{rewritten}
 use Rattle.laws.specs.Sheets.{got_raw}
-use Rattle.laws.proofs.Checked.{check-accepts}
+use Rattle.laws.proofs.Checked.{check_accepts}
 use Rattle.laws.proofs.NormalSheet.{body-form}
 use Rattle.laws.proofs.NormalAccepted.{body_new, same_kind, rewritten-length, outcome-rewritten}
 use Rattle.demands.specs.Demands.{NormalFormOf, Demand1, Demand2, Demand3}
@@ -37,27 +37,27 @@ use Rattle.demands.proofs.Records.{elements_same, inputs-same, rewritten-heads, 
 use Rattle.demands.proofs.SameRun.{run-same, framed-same}
 use Rattle.demands.proofs.Again.{normal-of, normalise-again, normalise-form}
 use Rattle.demands.proofs.Limits.{kept-written}
-use Rattle.demands.proofs.Listed.{check-answers, run-answers, normalise-answers, number-answers, body-answers}
+use Rattle.demands.proofs.Listed.{check_answers, run_answers, normalise_answers, number_answers, body_answers}
 use Rattle.demands.proofs.Passes.{passes-exactly}
-use Rattle.demands.proofs.Kept.{check-refuses, check-accepts-only, check-accepted, run-refuses, run-accepts, run-accepted}
-use Rattle.demands.proofs.Kept.{normalise-refuses, normalise-wrote, normalise-accepts, normalise-accepted, number-refuses, number-accepts, number-accepted}
-use Rattle.demands.proofs.Kept.{body-refuses, body-found, body-absent}
+use Rattle.demands.proofs.Kept.{check_refuses, check-accepts-only, check_accepted, run_refuses, run_accepts, run_accepted}
+use Rattle.demands.proofs.Kept.{normalise_refuses, normalise-wrote, normalise_accepts, normalise_accepted, number_refuses, number_accepts, number_accepted}
+use Rattle.demands.proofs.Kept.{body_refuses, body_found, body_absent}
 use Rattle.demands.proofs.Calls.{rewritten-calls}
 
 -- ---- demand 1
 
 pub demand-1 : Demand1
 demand-1 = record {
-  check-answers = check-answers;
-  run-answers = run-answers;
-  normalise-answers = normalise-answers;
-  number-answers = number-answers;
-  body-answers = body-answers;
-  check-refuses = check-refuses;
-  run-refuses = run-refuses;
-  normalise-refuses = normalise-refuses;
-  number-refuses = number-refuses;
-  body-refuses = body-refuses;
+  check_answers = check_answers;
+  run_answers = run_answers;
+  normalise_answers = normalise_answers;
+  number_answers = number_answers;
+  body_answers = body_answers;
+  check_refuses = check_refuses;
+  run_refuses = run_refuses;
+  normalise_refuses = normalise_refuses;
+  number_refuses = number_refuses;
+  body_refuses = body_refuses;
 }
 
 -- ---- demand 2
@@ -65,16 +65,16 @@ demand-1 = record {
 pub demand-2 : Demand2
 demand-2 = record {
   passes = passes-exactly;
-  check-accepts = check-accepts-only;
-  check-accepted = check-accepted;
-  run-accepts = run-accepts;
-  run-accepted = run-accepted;
-  normalise-accepts = normalise-accepts;
-  normalise-accepted = normalise-accepted;
-  number-accepts = number-accepts;
-  number-accepted = number-accepted;
-  body-found = body-found;
-  body-absent = body-absent;
+  check_accepts = check-accepts-only;
+  check_accepted = check_accepted;
+  run_accepts = run_accepts;
+  run_accepted = run_accepted;
+  normalise_accepts = normalise_accepts;
+  normalise_accepted = normalise_accepted;
+  number_accepts = number_accepts;
+  number_accepted = number_accepted;
+  body_found = body_found;
+  body_absent = body_absent;
 }
 
 -- ---- demand 3
@@ -89,23 +89,23 @@ module _ {bs : List ℕ} {r : Raw} {s : Sheet} {q : ℕ} (a : Accepted bs r s) (
       record {
         sheet = t;
         accepts = n.accepts;
-        same-sections = ap (λ g. take (got_raw g).third o) n.read_is ∙ n.sections-copied ∙ sym (ap (λ g. take (got_raw g).third bs) is);
-        same-heads = hs;
-        same-declared = rewritten-declared s p;
-        in-form = λ v lt i.
+        same_sections = ap (λ g. take (got_raw g).third o) n.read_is ∙ n.sections-copied ∙ sym (ap (λ g. take (got_raw g).third bs) is);
+        same_heads = hs;
+        same_declared = rewritten-declared s p;
+        in_form = λ v lt i.
             let old : is_input (variable s v) ≡ false = sym (same_kind a p v) ∙ i in
             rw (body_new a p v old) (body-form a v (omega (arith, rewritten-length s s p)) old);
-        bodies-are = body_new a p;
+        bodies_are = body_new a p;
         same_inputs = inputs-same s t hs;
-        same-elements = elements_same s t hs;
+        same_elements = elements_same s t hs;
         same_outcome = λ ins v z. outcome-rewritten a p ins deepest v z;
-        same-run = run-same a p o c n.accepts;
-        same-report = framed-same a p o c n.accepts;
+        same_run = run-same a p o c n.accepts;
+        same_report = framed-same a p o c n.accepts;
         again = normalise-again o n.again;
       }
 
 normal-form-written : (bs : List ℕ) (s : Sheet) (lent : ℕ) (o : List ℕ) → check bs ≡ accepted s → normalise bs lent ≡ accepted o → NormalFormOf bs s o
-normal-form-written bs s lent o c e = let f = check-accepts c in normal-form-of f.holds-all f.read_is c o (normalise-form f lent o c e).form
+normal-form-written bs s lent o c e = let f = check_accepts c in normal-form-of f.holds-all f.read_is c o (normalise-form f lent o c e).form
 
 pub demand-3 : Demand3
 demand-3 = record {
@@ -113,7 +113,7 @@ demand-3 = record {
   holds = normal-form-written;
   calls = λ sheet out out' n h.
       let w = normalise-wrote sheet out out' n h in
-      let r = normalise-accepts sheet out out' n h in
-      let f = normal-form-written sheet r.sheet-is (length out) (take n out') r.checked w.0 in
-      rewritten-calls sheet r.sheet-is (take n out') r.checked f n w.1;
+      let r = normalise_accepts sheet out out' n h in
+      let f = normal-form-written sheet r.sheet_is (length out) (take n out') r.checked w.0 in
+      rewritten-calls sheet r.sheet_is (take n out') r.checked f n w.1;
 }

@@ -29,7 +29,7 @@ use Rattle.alpha.specs.declared.Verdict.TheVariants.{Accepted, Refused}
 use Rattle.alpha.proofs.Unique.{told-injective}
 use Rattle.laws.proofs.Tests.{&&-left, &&-right}
 use Rattle.laws.proofs.Elements.{get_d_map, length-elements, number-low, element-of-number}
-use Rattle.laws.proofs.Checked.{check-accepts}
+use Rattle.laws.proofs.Checked.{check_accepts}
 use Rattle.demands.specs.Demands.{normal_bytes, KeepsLimits, Ran, Rewrote, HasNumber}
 use Rattle.demands.proofs.Steps.{next-accepted, next-refused, room-enough, room-there}
 use Rattle.demands.proofs.Again.{normalise-form}
@@ -71,14 +71,14 @@ module _ {A : Type 0} (s : Sheet) (f : Element → A) (d : A) (old new : List A)
 
 -- ---- check
 
-pub check-refuses : (sheet : List ℕ) (k : Refusal) → Checks sheet (Refused k) → check sheet ≡ refused (number_of k) (place_of k)
-check-refuses sheet k h = next-refused (check sheet) _ (number_of k) (place_of k) (λ s e. (total s, refl)) (sym h.answer)
+pub check_refuses : (sheet : List ℕ) (k : Refusal) → Checks sheet (Refused k) → check sheet ≡ refused (number_of k) (place_of k)
+check_refuses sheet k h = next-refused (check sheet) _ (number_of k) (place_of k) (λ s e. (total s, refl)) (sym h.answer)
 
 pub check-accepts-only : (sheet : List ℕ) (n : ℕ) → Checks sheet (Accepted n) → (s : Sheet) × (check sheet ≡ accepted s) × (n ≡ total s)
 check-accepts-only sheet n h = let a = next-accepted (check sheet) _ n (sym h.answer) in let e = a.2 in (a.0, a.1, cc)
 
-pub check-accepted : (sheet : List ℕ) (s : Sheet) (r : Verdict) → check sheet ≡ accepted s → Checks sheet r → r ≡ Accepted (total s)
-check-accepted sheet s r c h = told-injective r (Accepted (total s)) (h.answer ∙ ap total_of c)
+pub check_accepted : (sheet : List ℕ) (s : Sheet) (r : Verdict) → check sheet ≡ accepted s → Checks sheet r → r ≡ Accepted (total s)
+check_accepted sheet s r c h = told-injective r (Accepted (total s)) (h.answer ∙ ap total_of c)
 
 -- ---- run
 
@@ -118,47 +118,47 @@ module _ (sheet : List ℕ) (ins : List ℤ) (codes values : ℕ) where
   run-made s c i k l = rw (c, i, room-enough (total s) codes k, room-enough (total s) values l)
 
 module _ (sheet : List ℕ) (ins : List ℤ) (codes codes' : List ℕ) (values values' : List ℤ) where
-  pub run-refuses : (k : Refusal) → Runs sheet ins codes codes' values values' (Refused k) →
+  pub run_refuses : (k : Refusal) → Runs sheet ins codes codes' values values' (Refused k) →
       (run sheet ins (length codes) (length values) ≡ refused (number_of k) (place_of k)) × (codes' ≡ codes) × (values' ≡ values)
-  run-refuses k h =
+  run_refuses k h =
       let e = next-refused (run sheet ins (length codes) (length values)) (λ _. total_of (check sheet)) (number_of k) (place_of k) (λ t a.
       let r = run-accepts-parts sheet ins (length codes) (length values) t a in (total r.of, ap total_of r.checked)) (sym h.answer) in
-      (e, h.codes-after ∙ ap (λ a. lent_after a (λ t. t.codes) codes) e, h.values-after ∙ ap (λ a. lent_after a (λ t. t.values) values) e)
+      (e, h.codes_after ∙ ap (λ a. lent_after a (λ t. t.codes) codes) e, h.values_after ∙ ap (λ a. lent_after a (λ t. t.values) values) e)
 
   ran : (s : Sheet) (n : ℕ) → check sheet ≡ accepted s → inputs s ins ≡ accepted tt → total s ≤ length codes → total s ≤ length values → total s ≡ n →
       run sheet ins (length codes) (length values) ≡ accepted (tables s ins) → Runs sheet ins codes codes' values values' (Accepted n) →
       Ran sheet ins codes codes' values values' n
   ran s n c i k l n-is made h =
-      let cs = h.codes-after ∙ ap (λ m. lent_after m (λ t. t.codes) codes) made in
-      let vs = h.values-after ∙ ap (λ m. lent_after m (λ t. t.values) values) made in
+      let cs = h.codes_after ∙ ap (λ m. lent_after m (λ t. t.codes) codes) made in
+      let vs = h.values_after ∙ ap (λ m. lent_after m (λ t. t.values) values) made in
       let code : Element → ℕ = λ e. code_of (outcome_at s ins e) in
       let val : Element → ℤ = λ e. value_of (outcome_at s ins e) in
       record {
-        sheet-is = s;
+        sheet_is = s;
         checked = c;
         taken = i;
-        total-is = sym n-is;
-        codes-are = by-element s code 0 codes codes' cs;
-        values-are = by-element s val (pos 0) values values' vs;
-        codes-by-number = λ j e lt. by_number s code 0 codes codes' cs j e (omega (arith, n-is));
-        values-by-number = λ j e lt. by_number s val (pos 0) values values' vs j e (omega (arith, n-is));
-        codes-beyond = rw n-is at (table-beyond s code 0 codes codes' cs);
-        values-beyond = rw n-is at (table-beyond s val (pos 0) values values' vs);
-        codes-length = table_same s code 0 codes codes' cs k;
+        total_is = sym n-is;
+        codes_are = by-element s code 0 codes codes' cs;
+        values_are = by-element s val (pos 0) values values' vs;
+        codes_by_number = λ j e lt. by_number s code 0 codes codes' cs j e (omega (arith, n-is));
+        values_by_number = λ j e lt. by_number s val (pos 0) values values' vs j e (omega (arith, n-is));
+        codes_beyond = rw n-is at (table-beyond s code 0 codes codes' cs);
+        values_beyond = rw n-is at (table-beyond s val (pos 0) values values' vs);
+        codes_length = table_same s code 0 codes codes' cs k;
         values_length = table_same s val (pos 0) values values' vs l;
       }
 
-  pub run-accepts : (n : ℕ) → Runs sheet ins codes codes' values values' (Accepted n) → Ran sheet ins codes codes' values values' n
-  run-accepts n h =
+  pub run_accepts : (n : ℕ) → Runs sheet ins codes codes' values values' (Accepted n) → Ran sheet ins codes codes' values values' n
+  run_accepts n h =
       let a = next-accepted (run sheet ins (length codes) (length values)) (λ _. total_of (check sheet)) n (sym h.answer) in
       let r = run-accepts-parts sheet ins (length codes) (length values) a.0 a.1 in
       let n-is : total r.of ≡ n = let e = sym (ap total_of r.checked) ∙ a.2 in cc in
       ran r.of n r.checked r.taken r.codes-fit r.values-fit n-is (a.1 ∙ ap accepted (sym r.tables-are)) h
 
-  pub run-accepted : (s : Sheet) (r : Verdict) →
+  pub run_accepted : (s : Sheet) (r : Verdict) →
       check sheet ≡ accepted s → inputs s ins ≡ accepted tt → total s ≤ length codes → total s ≤ length values →
       Runs sheet ins codes codes' values values' r → r ≡ Accepted (total s)
-  run-accepted s r c i k l h =
+  run_accepted s r c i k l h =
       told-injective r (Accepted (total s))
       (h.answer ∙ ap (λ m. next m (λ _. total_of (check sheet))) (run-made sheet ins (length codes) (length values) s c i k l) ∙ ap total_of c)
 
@@ -169,19 +169,19 @@ record NormaliseAccepts (sheet : List ℕ) (lent : ℕ) (o : List ℕ) : Type 0 
   of : Sheet
   checked : check sheet ≡ accepted of
   keeps : KeepsLimits sheet of
-  bytes-are : normal_bytes sheet of ≡ o
+  bytes_are : normal_bytes sheet of ≡ o
   fits : length o ≤ lent
 
 normalise-accepts-parts : (sheet : List ℕ) (lent : ℕ) (o : List ℕ) → normalise sheet lent ≡ accepted o → NormaliseAccepts sheet lent o
 normalise-accepts-parts sheet lent o h =
     let s = sheet-of h in
     let c = s.1 in
-    let f = check-accepts c in
+    let f = check_accepts c in
     let n = normalise-form f lent o c h in
     let keeps = form-kept f.holds-all f.read_is o n.form in
     let form = kept-form f.holds-all f.read_is keeps in
     let same : accepted (normal_bytes sheet s.0) ≡ accepted o = sym form ∙ n.form in
-    record { of = s.0; checked = c; keeps = keeps; bytes-are = cc; fits = n.room-is }
+    record { of = s.0; checked = c; keeps = keeps; bytes_are = cc; fits = n.room-is }
   where
     sheet-of : normalise sheet lent ≡ accepted o → (s : Sheet) × (check sheet ≡ accepted s)
     sheet-of e = unfold normalise check in
@@ -193,21 +193,21 @@ normalise-accepts-parts sheet lent o h =
         go (bad n p) out e = unfold normal_after in let z : ◌≡◌ {A = ℕ} 0 1 = cc in absurd (omega arith)
 
 module _ (sheet out out' : List ℕ) where
-  pub normalise-refuses : (k : Refusal) → Normalises sheet out out' (Refused k) →
+  pub normalise_refuses : (k : Refusal) → Normalises sheet out out' (Refused k) →
       (normalise sheet (length out) ≡ refused (number_of k) (place_of k)) × (out' ≡ out)
-  normalise-refuses k h =
+  normalise_refuses k h =
       let e = next-refused (normalise sheet (length out)) (λ o. accepted (length o)) (number_of k) (place_of k) (λ o a. (length o, refl)) (sym h.answer) in
-      (e, h.out-after ∙ ap (λ a. lent_after a (λ o. o) out) e)
+      (e, h.out_after ∙ ap (λ a. lent_after a (λ o. o) out) e)
 
   rewrote : (n : ℕ) (o : List ℕ) → length o ≡ n → out' ≡ o ++ drop (length o) out → NormaliseAccepts sheet (length out) o → Rewrote sheet out out' n
   rewrote n o n-is os r = record {
-    sheet-is = r.of;
+    sheet_is = r.of;
     checked = r.checked;
     keeps = r.keeps;
-    length-is = sym n-is ∙ ap length (sym r.bytes-are);
-    bytes-are = rw (← n-is) (front-written o out out' os ∙ sym r.bytes-are);
+    length_is = sym n-is ∙ ap length (sym r.bytes_are);
+    bytes_are = rw (← n-is) (front-written o out out' os ∙ sym r.bytes_are);
     beyond = rw (← n-is) (rest-same o out out' os);
-    out-length = length-same o out out' os r.fits;
+    out_length = length-same o out out' os r.fits;
   }
 
   -- what was written
@@ -215,37 +215,37 @@ module _ (sheet out out' : List ℕ) where
   normalise-wrote n h =
       let a = next-accepted (normalise sheet (length out)) (λ o. accepted (length o)) n (sym h.answer) in
       let n-is : length a.0 ≡ n = let e = a.2 in cc in
-      let os = h.out-after ∙ ap (λ m. lent_after m (λ o. o) out) a.1 in
+      let os = h.out_after ∙ ap (λ m. lent_after m (λ o. o) out) a.1 in
       let is : take n out' ≡ a.0 = ap (λ m. take m out') (sym n-is) ∙ front-written a.0 out out' os in
       (a.1 ∙ ap accepted (sym is), ap length is ∙ n-is)
 
-  pub normalise-accepts : (n : ℕ) → Normalises sheet out out' (Accepted n) → Rewrote sheet out out' n
-  normalise-accepts n h =
+  pub normalise_accepts : (n : ℕ) → Normalises sheet out out' (Accepted n) → Rewrote sheet out out' n
+  normalise_accepts n h =
       let w = normalise-wrote n h in
       let o = take n out' in
-      rewrote n o w.1 (h.out-after ∙ ap (λ m. lent_after m (λ o. o) out) w.0) (normalise-accepts-parts sheet (length out) o w.0)
+      rewrote n o w.1 (h.out_after ∙ ap (λ m. lent_after m (λ o. o) out) w.0) (normalise-accepts-parts sheet (length out) o w.0)
 
-  pub normalise-accepted : (s : Sheet) (r : Verdict) → check sheet ≡ accepted s → KeepsLimits sheet s → length (normal_bytes sheet s) ≤ length out →
+  pub normalise_accepted : (s : Sheet) (r : Verdict) → check sheet ≡ accepted s → KeepsLimits sheet s → length (normal_bytes sheet s) ≤ length out →
       Normalises sheet out out' r → r ≡ Accepted (length (normal_bytes sheet s))
-  normalise-accepted s r c k l h =
+  normalise_accepted s r c k l h =
       told-injective r (Accepted (length (normal_bytes sheet s))) (h.answer ∙ ap (λ m. next m (λ o. accepted (length o))) (kept-written sheet s (length out) c k l))
 
 -- ---- the element number
 
 module _ (sheet : List ℕ) (v : ℕ) (z : Point) where
-  pub number-refuses : (k : Refusal) → Numbers sheet v z (Refused k) → element_number sheet v z ≡ refused (number_of k) (place_of k)
-  number-refuses k h = sym h.answer
+  pub number_refuses : (k : Refusal) → Numbers sheet v z (Refused k) → element_number sheet v z ≡ refused (number_of k) (place_of k)
+  number_refuses k h = sym h.answer
 
-  pub number-accepts : (n : ℕ) → Numbers sheet v z (Accepted n) → HasNumber sheet v z n
+  pub number_accepts : (n : ℕ) → Numbers sheet v z (Accepted n) → HasNumber sheet v z n
   unfolding element_number
-  number-accepts n h =
+  number_accepts n h =
       let a = next-accepted (check sheet) (λ s. ifb (asks s v z) (λ _. accepted (Ask.number_of s v z)) (λ _. refused ASK 0)) n (sym h.answer) in
       go a.0 a.1 (asks a.0 v z) refl a.2
     where
       go : (s : Sheet) → check sheet ≡ accepted s → (t : Bool) → asks s v z ≡ t →
           ifb t (λ _. accepted (Ask.number_of s v z)) (λ _. refused ASK 0) ≡ accepted n → HasNumber sheet v z n
       go s c true e h = record {
-        sheet-is = s;
+        sheet_is = s;
         checked = c;
         known = ltb-true v (length s) (&&-left (ltb v (length s)) (in_box (variable s v).head.box z) e);
         inside = &&-right (ltb v (length s)) (in_box (variable s v).head.box z) e;
@@ -253,19 +253,19 @@ module _ (sheet : List ℕ) (v : ℕ) (z : Point) where
       }
       go s c false e h = let w : ◌≡◌ {A = ℕ} 0 1 = cc in absurd (omega arith)
 
-  pub number-accepted : (s : Sheet) (r : Verdict) → check sheet ≡ accepted s → v < length s → in_box (variable s v).head.box z ≡ true →
+  pub number_accepted : (s : Sheet) (r : Verdict) → check sheet ≡ accepted s → v < length s → in_box (variable s v).head.box z ≡ true →
       Numbers sheet v z r → r ≡ Accepted (Ask.number_of s v z)
-  number-accepted s r c lt b h = told-injective r (Accepted (Ask.number_of s v z)) (h.answer ∙ unfold element_number in rw (c, lt-ltb v (length s) lt, b))
+  number_accepted s r c lt b h = told-injective r (Accepted (Ask.number_of s v z)) (h.answer ∙ unfold element_number in rw (c, lt-ltb v (length s) lt, b))
 
 -- ---- the body of a variable
 
 module _ (sheet part : List ℕ) (v : ℕ) where
-  pub body-refuses : (n p : ℕ) → check sheet ≡ refused n p → Finds sheet v part → part ≡ []
-  body-refuses n p c h = h.answer ∙ unfold body_part in ap (λ a. bytes_in (part_in a v) sheet) c
+  pub body_refuses : (n p : ℕ) → check sheet ≡ refused n p → Finds sheet v part → part ≡ []
+  body_refuses n p c h = h.answer ∙ unfold body_part in ap (λ a. bytes_in (part_in a v) sheet) c
 
-  pub body-found : (s : Sheet) → check sheet ≡ accepted s → is_input (variable s v) ≡ false → Finds sheet v part →
+  pub body_found : (s : Sheet) → check sheet ≡ accepted s → is_input (variable s v) ≡ false → Finds sheet v part →
       part ≡ take ((variable s v).end - (variable s v).start) (drop (variable s v).start sheet)
-  body-found s c i h = h.answer ∙ unfold body_part in rw (c, i)
+  body_found s c i h = h.answer ∙ unfold body_part in rw (c, i)
 
-  pub body-absent : (s : Sheet) → check sheet ≡ accepted s → is_input (variable s v) ≡ true → Finds sheet v part → part ≡ []
-  body-absent s c i h = h.answer ∙ unfold body_part in rw (c, i)
+  pub body_absent : (s : Sheet) → check sheet ≡ accepted s → is_input (variable s v) ≡ true → Finds sheet v part → part ≡ []
+  body_absent s c i h = h.answer ∙ unfold body_part in rw (c, i)

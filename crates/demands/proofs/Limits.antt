@@ -24,7 +24,7 @@ use Rattle.laws.specs.Accepted.{Accepted}
 use Rattle.laws.specs.Normal.{body_bytes, body_nodes}
 use Rattle.laws.specs.Sheets.{got_raw}
 use Rattle.laws.proofs.Tests.{&&-left, &&-right, &&-true}
-use Rattle.laws.proofs.Checked.{check-accepts}
+use Rattle.laws.proofs.Checked.{check_accepts}
 use Rattle.laws.proofs.Written.{length-bytes_of}
 use Rattle.laws.proofs.Rewritten.{Kept, AllKept, write-wrote}
 use Rattle.laws.proofs.NormalAccepted.{kept_at}
@@ -93,14 +93,14 @@ module _ (s : Sheet) (front : ℕ) where
           let long = length-append w.out (bytes e ++ body_bytes s xs) in
           let first = length-append w.out (bytes e) in
           let parts = length-append (bytes e) (body_bytes s xs) in
-          let nodes-low : w.nodes + node_count e ≤ 2048 = omega arith in
+          let nodes_low : w.nodes + node_count e ≤ 2048 = omega arith in
           let bytes_low : front + length (w.out ++ bytes e) ≤ 65536 = omega arith in
-          let out-is : (w.out ++ bytes e) ++ body_bytes s xs ≡ w.out ++ (bytes e ++ body_bytes s xs) = append_assoc w.out (bytes e) (body_bytes s xs) in
-          let nodes-are : w.nodes + node_count e + body_nodes s xs ≡ w.nodes + (node_count e + body_nodes s xs) = omega arith in
-          rw (limits-kept s x (w.nodes + node_count e) (front + length (w.out ++ bytes e)) kept nodes-low bytes_low)
-          (ih (written w e) k.1 (omega arith) (rw out-is l)
-          ∙ ap {B = Answer Body} (λ m. accepted (record { nodes = m; out = (w.out ++ bytes e) ++ body_bytes s xs })) nodes-are
-          ∙ ap {B = Answer Body} (λ o. accepted (record { nodes = w.nodes + (node_count e + body_nodes s xs); out = o })) out-is)
+          let out_is : (w.out ++ bytes e) ++ body_bytes s xs ≡ w.out ++ (bytes e ++ body_bytes s xs) = append_assoc w.out (bytes e) (body_bytes s xs) in
+          let nodes_are : w.nodes + node_count e + body_nodes s xs ≡ w.nodes + (node_count e + body_nodes s xs) = omega arith in
+          rw (limits-kept s x (w.nodes + node_count e) (front + length (w.out ++ bytes e)) kept nodes_low bytes_low)
+          (ih (written w e) k.1 (omega arith) (rw out_is l)
+          ∙ ap {B = Answer Body} (λ m. accepted (record { nodes = m; out = (w.out ++ bytes e) ++ body_bytes s xs })) nodes_are
+          ∙ ap {B = Answer Body} (λ o. accepted (record { nodes = w.nodes + (node_count e + body_nodes s xs); out = o })) out_is)
 
 -- ---- the normal form
 
@@ -117,7 +117,7 @@ module _ {bs : List ℕ} {r : Raw} {s : Sheet} {q : ℕ} (a : Accepted bs r s) (
         length-append (t ++ nat (body_nodes s s)) (body_bytes s s),
         length-append t (nat (body_nodes s s)),
         length-bytes_of 8 (body_nodes s s),
-        length-take-le r.third bs (omega (arith, a.parts.first-is, a.parts.first-there)),
+        length-take-le r.third bs (omega (arith, a.parts.first_is, a.parts.first_there)),
       )
 
   -- the normal form is written where it keeps the limits
@@ -135,8 +135,8 @@ module _ {bs : List ℕ} {r : Raw} {s : Sheet} {q : ℕ} (a : Accepted bs r s) (
       let h = write-wrote s (r.third + 8) 0 w.1 in
       record {
         bodies = λ v lt i. kept-keeps s (variable s v) (kept_at s s h.kept v lt i);
-        nodes = omega (arith, h.nodes-are, h.few-nodes (omega arith));
-        long = omega (arith, normal-length, ap length h.out-is, h.few_bytes (omega (arith, a.short, a.parts.first-is, a.parts.first-there)));
+        nodes = omega (arith, h.nodes_are, h.few_nodes (omega arith));
+        long = omega (arith, normal-length, ap length h.out_is, h.few_bytes (omega (arith, a.short, a.parts.first_is, a.parts.first_there)));
       }
 
 -- with the room lent
@@ -144,7 +144,7 @@ pub kept-written : (bs : List ℕ) (s : Sheet) (lent : ℕ) → check bs ≡ acc
     normalise bs lent ≡ accepted (normal_bytes bs s)
 unfolding normalise
 kept-written bs s lent c k l =
-    let f = check-accepts c in
+    let f = check_accepts c in
     let o = normal_bytes bs s in
     ap (λ m. next m (λ out. next (room (length out) lent) (λ _. accepted out))) (after-found f c ∙ kept-form f.holds-all f.read_is k)
     ∙ ap (λ m. next m (λ _. accepted o)) (room-enough (length o) lent l)

@@ -358,24 +358,24 @@ verdict-for (refused n p) h =
 told-total : (bs : List ℕ) → Told (total_of (check bs))
 told-total bs = told-next (check bs) _ (told-check bs) (λ s. tt)
 
-pub check-answers : (sheet : List ℕ) → (r : Verdict) × Checks sheet r
-check-answers sheet = let v = verdict-for (total_of (check sheet)) (told-total sheet) in (v.0, record { answer = v.1 })
+pub check_answers : (sheet : List ℕ) → (r : Verdict) × Checks sheet r
+check_answers sheet = let v = verdict-for (total_of (check sheet)) (told-total sheet) in (v.0, record { answer = v.1 })
 
-pub run-answers : (sheet : List ℕ) (ins : List ℤ) (codes : List ℕ) (values : List ℤ) →
+pub run_answers : (sheet : List ℕ) (ins : List ℤ) (codes : List ℕ) (values : List ℤ) →
     (r : Verdict) × (codes' : List ℕ) × (values' : List ℤ) × Runs sheet ins codes codes' values values' r
-run-answers sheet ins codes values =
+run_answers sheet ins codes values =
     let a = run sheet ins (length codes) (length values) in
     let v = verdict-for (next a (λ _. total_of (check sheet))) (told-next a _ (told-run sheet ins (length codes) (length values)) (λ _. told-total sheet)) in
-    (v.0, lent_after a (λ t. t.codes) codes, lent_after a (λ t. t.values) values, record { answer = v.1; codes-after = refl; values-after = refl })
+    (v.0, lent_after a (λ t. t.codes) codes, lent_after a (λ t. t.values) values, record { answer = v.1; codes_after = refl; values_after = refl })
 
-pub normalise-answers : (sheet out : List ℕ) → (r : Verdict) × (out' : List ℕ) × Normalises sheet out out' r
-normalise-answers sheet out =
+pub normalise_answers : (sheet out : List ℕ) → (r : Verdict) × (out' : List ℕ) × Normalises sheet out out' r
+normalise_answers sheet out =
     let a = normalise sheet (length out) in
     let v = verdict-for (next a (λ o. accepted (length o))) (told-next a _ (told-normalise sheet (length out)) (λ o. tt)) in
-    (v.0, lent_after a (λ o. o) out, record { answer = v.1; out-after = refl })
+    (v.0, lent_after a (λ o. o) out, record { answer = v.1; out_after = refl })
 
-pub number-answers : (sheet : List ℕ) (v : ℕ) (z : Point) → (r : Verdict) × Numbers sheet v z r
-number-answers sheet v z = let w = verdict-for (element_number sheet v z) (told-number sheet v z) in (w.0, record { answer = w.1 })
+pub number_answers : (sheet : List ℕ) (v : ℕ) (z : Point) → (r : Verdict) × Numbers sheet v z r
+number_answers sheet v z = let w = verdict-for (element_number sheet v z) (told-number sheet v z) in (w.0, record { answer = w.1 })
 
-pub body-answers : (sheet : List ℕ) (v : ℕ) → (part : List ℕ) × Finds sheet v part
-body-answers sheet v = (bytes_in (body_part sheet v) sheet, record { answer = refl })
+pub body_answers : (sheet : List ℕ) (v : ℕ) → (part : List ℕ) × Finds sheet v part
+body_answers sheet v = (bytes_in (body_part sheet v) sheet, record { answer = refl })

@@ -18,35 +18,35 @@ use Rattle.laws.proofs.Trees.{at-expr_at}
 use Rattle.laws.proofs.Local.{local-heads, local-repeat, local-declared}
 use Rattle.laws.proofs.Prefix.{row-repeat}
 use Rattle.laws.proofs.SectionsAgain.{heads_at-got, count-known}
-use Rattle.laws.proofs.Checked.{Faultless, tested-body, tested-inside, first_passes, faults-pass, check-accepts}
+use Rattle.laws.proofs.Checked.{Faultless, tested-body, tested-inside, first_passes, faults-pass, check_accepts}
 
 -- ---- the sections
 
 module _ {bs : List ℕ} {r : Raw} (s : Sections bs r) where
   heads-got : heads (length r.heads) [] 0 bs 8 ≡ got r.heads r.second
-  heads-got = heads_at-got r.heads [] 0 bs 8 r.second s.heads-stand (omega (arith, s.small))
+  heads-got = heads_at-got r.heads [] 0 bs 8 r.second s.heads_stand (omega (arith, s.small))
 
   declared-got : repeat (length r.decls) (declared r.heads) bs (r.second + 8) ≡ got r.decls r.third
-  declared-got = row-repeat (declared r.heads) bs r.decls (r.second + 8) r.third s.declared-stand
+  declared-got = row-repeat (declared r.heads) bs r.decls (r.second + 8) r.third s.declared_stand
 
   nodes-got : repeat r.nodes (node (length r.heads)) bs (r.third + 8) ≡ got s.listed (length bs)
   nodes-got =
-      rw (← s.first-is)
-      (subst (λ n. repeat n (node (length r.heads)) bs r.first ≡ got s.listed (length bs)) s.listed-count
-      (row-repeat (node (length r.heads)) bs s.listed r.first (length bs) s.nodes-stand))
+      rw (← s.first_is)
+      (subst (λ n. repeat n (node (length r.heads)) bs r.first ≡ got s.listed (length bs)) s.listed_count
+      (row-repeat (node (length r.heads)) bs s.listed r.first (length bs) s.nodes_stand))
 
   sections-back : sections bs 0 ≡ got r (length bs)
   unfolding sections ended
   sections-back =
       let on₁ = (local-heads bs bs (length r.heads) [] 0 8 r.heads r.second heads-got).onward in
       let on₂ = (local-repeat bs bs (length r.decls) (declared r.heads) (local-declared bs bs r.heads) (r.second + 8) r.decls r.third declared-got).onward in
-      let there : r.third + 8 ≤ length bs = omega (arith, s.first-is, s.first-there) in
-      let e₁ = count-known 1 32 (length r.heads) bs 0 (omega arith) s.heads-count s.some s.few in
-      let e₂ = count-known 0 256 (length r.decls) bs r.second (omega arith) s.declared-count (omega arith) s.few-declared in
-      let e₃ = count-known 0 2048 r.nodes bs r.third there s.node-count (omega arith) s.few-nodes in
+      let there : r.third + 8 ≤ length bs = omega (arith, s.first_is, s.first_there) in
+      let e₁ = count-known 1 32 (length r.heads) bs 0 (omega arith) s.heads_count s.some s.few in
+      let e₂ = count-known 0 256 (length r.decls) bs r.second (omega arith) s.declared_count (omega arith) s.few_declared in
+      let e₃ = count-known 0 2048 r.nodes bs r.third there s.node-count (omega arith) s.few_nodes in
       rw (e₁, heads-got, e₂, declared-got, e₃, nodes-got, eq-eqb (length bs) (length bs) refl)
       (ap {B = Got Raw} (λ p. got (record { heads = r.heads; decls = r.decls; second = r.second; third = r.third; first = p; nodes = r.nodes }) (length bs))
-      (sym s.first-is))
+      (sym s.first_is))
 
   read_back : length bs ≤ 65536 → read bs ≡ got r (length bs)
   unfolding read
@@ -73,7 +73,7 @@ module _ (r : Raw) (bs : List ℕ) where
   bodies-back [] v p m h = rw h
   bodies-back (x ∷ s) v p m h =
       rw (body_back x.head.kind x v p m h.left h.body-at, bodies-back s (suc v) x.end h.left h.after)
-      (ap {B = Answer Sheet} (λ cs. accepted (record { head = x.head; declared = cs; body = x.body; start = p; end = x.end } ∷ s)) (sym h.declared-is)
+      (ap {B = Answer Sheet} (λ cs. accepted (record { head = x.head; declared = cs; body = x.body; start = p; end = x.end } ∷ s)) (sym h.declared_is)
       ∙ ap {B = Answer Sheet} (λ q. accepted (record { head = x.head; declared = x.declared; body = x.body; start = q; end = x.end } ∷ s)) (sym h.start_is))
 
 -- ---- the whole check
@@ -89,7 +89,7 @@ module _ {bs : List ℕ} {r : Raw} {s : Sheet} (a : Accepted bs r s) where
   unfolding check after_read checked
   passing-accepted =
       let stand : bodies r bs r.heads 0 r.first r.nodes ≡ accepted s =
-      subst (λ hs. bodies r bs hs 0 r.first r.nodes ≡ accepted s) a.heads-are (bodies-back r bs s 0 r.first r.nodes a.stand) in
+      subst (λ hs. bodies r bs hs 0 r.first r.nodes ≡ accepted s) a.heads_are (bodies-back r bs s 0 r.first r.nodes a.stand) in
       rw (
         read_back a.parts a.short,
         stand,
@@ -99,4 +99,4 @@ module _ {bs : List ℕ} {r : Raw} {s : Sheet} (a : Accepted bs r s) where
       )
 
 pub passes-exactly : (bs : List ℕ) (s : Sheet) → (check bs ≡ accepted s) ↔ ((r : Raw) × Accepted bs r s)
-passes-exactly bs s = (λ c. let f = check-accepts c in (f.raw, f.holds-all), λ a. passing-accepted a.1)
+passes-exactly bs s = (λ c. let f = check_accepts c in (f.raw, f.holds-all), λ a. passing-accepted a.1)

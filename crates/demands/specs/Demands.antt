@@ -50,84 +50,84 @@ pub record KeepsLimits (bs : List ℕ) (s : Sheet) : Type 0 where
 
 pub record Demand1 : Type 0 where
   -- every call has an answer for all that it is given
-  pub check-answers : (sheet : List ℕ) → (r : Verdict) × Checks sheet r
-  pub run-answers : (sheet : List ℕ) (ins : List ℤ) (codes : List ℕ) (values : List ℤ) →
+  pub check_answers : (sheet : List ℕ) → (r : Verdict) × Checks sheet r
+  pub run_answers : (sheet : List ℕ) (ins : List ℤ) (codes : List ℕ) (values : List ℤ) →
       (r : Verdict) × (codes' : List ℕ) × (values' : List ℤ) × Runs sheet ins codes codes' values values' r
-  pub normalise-answers : (sheet out : List ℕ) → (r : Verdict) × (out' : List ℕ) × Normalises sheet out out' r
-  pub number-answers : (sheet : List ℕ) (v : ℕ) (z : Point) → (r : Verdict) × Numbers sheet v z r
-  pub body-answers : (sheet : List ℕ) (v : ℕ) → (part : List ℕ) × Finds sheet v part
+  pub normalise_answers : (sheet out : List ℕ) → (r : Verdict) × (out' : List ℕ) × Normalises sheet out out' r
+  pub number_answers : (sheet : List ℕ) (v : ℕ) (z : Point) → (r : Verdict) × Numbers sheet v z r
+  pub body_answers : (sheet : List ℕ) (v : ℕ) → (part : List ℕ) × Finds sheet v part
   -- the refusals
-  pub check-refuses : (sheet : List ℕ) (k : Refusal) → Checks sheet (Refused k) → check sheet ≡ refused (number_of k) (place_of k)
-  pub run-refuses : (sheet : List ℕ) (ins : List ℤ) (codes codes' : List ℕ) (values values' : List ℤ) (k : Refusal) →
+  pub check_refuses : (sheet : List ℕ) (k : Refusal) → Checks sheet (Refused k) → check sheet ≡ refused (number_of k) (place_of k)
+  pub run_refuses : (sheet : List ℕ) (ins : List ℤ) (codes codes' : List ℕ) (values values' : List ℤ) (k : Refusal) →
       Runs sheet ins codes codes' values values' (Refused k) →
       (run sheet ins (length codes) (length values) ≡ refused (number_of k) (place_of k)) × (codes' ≡ codes) × (values' ≡ values)
-  pub normalise-refuses : (sheet out out' : List ℕ) (k : Refusal) → Normalises sheet out out' (Refused k) →
+  pub normalise_refuses : (sheet out out' : List ℕ) (k : Refusal) → Normalises sheet out out' (Refused k) →
       (normalise sheet (length out) ≡ refused (number_of k) (place_of k)) × (out' ≡ out)
-  pub number-refuses : (sheet : List ℕ) (v : ℕ) (z : Point) (k : Refusal) → Numbers sheet v z (Refused k) →
+  pub number_refuses : (sheet : List ℕ) (v : ℕ) (z : Point) (k : Refusal) → Numbers sheet v z (Refused k) →
       element_number sheet v z ≡ refused (number_of k) (place_of k)
-  pub body-refuses : (sheet part : List ℕ) (v n p : ℕ) → check sheet ≡ refused n p → Finds sheet v part → part ≡ []
+  pub body_refuses : (sheet part : List ℕ) (v n p : ℕ) → check sheet ≡ refused n p → Finds sheet v part → part ≡ []
 
 -- ---- demand 2: accepted exactly when the checks pass, each outcome the definition's, the normal form exactly
 
 -- the run has filled the tables: the outcome at depth 4,096 of every element at its number, and nothing beyond
 pub record Ran (sheet : List ℕ) (ins : List ℤ) (codes codes' : List ℕ) (values values' : List ℤ) (n : ℕ) : Type 0 where
-  pub sheet-is : Sheet
-  pub checked : check sheet ≡ accepted sheet-is
-  pub taken : inputs sheet-is ins ≡ accepted tt
-  pub total-is : n ≡ total sheet-is
-  pub codes-are : (v : ℕ) (z : Point) → v < length sheet-is → in_box (variable sheet-is v).head.box z ≡ true →
-      get_or codes' (Ask.number_of sheet-is v z) 0 ≡ code_of (outcome deepest sheet-is ins v z)
-  pub values-are : (v : ℕ) (z : Point) → v < length sheet-is → in_box (variable sheet-is v).head.box z ≡ true →
-      get_or values' (Ask.number_of sheet-is v z) (pos 0) ≡ value_of (outcome deepest sheet-is ins v z)
-  pub codes-by-number : (i : ℕ) (e : Element) → i < n → get_or codes' i 0 ≡ code_of (outcome_at sheet-is ins (get_or (elements sheet-is) i e))
-  pub values-by-number : (i : ℕ) (e : Element) → i < n → get_or values' i (pos 0) ≡ value_of (outcome_at sheet-is ins (get_or (elements sheet-is) i e))
-  pub codes-beyond : drop n codes' ≡ drop n codes
-  pub values-beyond : drop n values' ≡ drop n values
-  pub codes-length : length codes' ≡ length codes
+  pub sheet_is : Sheet
+  pub checked : check sheet ≡ accepted sheet_is
+  pub taken : inputs sheet_is ins ≡ accepted tt
+  pub total_is : n ≡ total sheet_is
+  pub codes_are : (v : ℕ) (z : Point) → v < length sheet_is → in_box (variable sheet_is v).head.box z ≡ true →
+      get_or codes' (Ask.number_of sheet_is v z) 0 ≡ code_of (outcome deepest sheet_is ins v z)
+  pub values_are : (v : ℕ) (z : Point) → v < length sheet_is → in_box (variable sheet_is v).head.box z ≡ true →
+      get_or values' (Ask.number_of sheet_is v z) (pos 0) ≡ value_of (outcome deepest sheet_is ins v z)
+  pub codes_by_number : (i : ℕ) (e : Element) → i < n → get_or codes' i 0 ≡ code_of (outcome_at sheet_is ins (get_or (elements sheet_is) i e))
+  pub values_by_number : (i : ℕ) (e : Element) → i < n → get_or values' i (pos 0) ≡ value_of (outcome_at sheet_is ins (get_or (elements sheet_is) i e))
+  pub codes_beyond : drop n codes' ≡ drop n codes
+  pub values_beyond : drop n values' ≡ drop n values
+  pub codes_length : length codes' ≡ length codes
   pub values_length : length values' ≡ length values
 
 -- the normaliser has written the normal form, and nothing beyond
 pub record Rewrote (sheet out out' : List ℕ) (n : ℕ) : Type 0 where
-  pub sheet-is : Sheet
-  pub checked : check sheet ≡ accepted sheet-is
-  pub keeps : KeepsLimits sheet sheet-is
-  pub length-is : n ≡ length (normal_bytes sheet sheet-is)
-  pub bytes-are : take n out' ≡ normal_bytes sheet sheet-is
+  pub sheet_is : Sheet
+  pub checked : check sheet ≡ accepted sheet_is
+  pub keeps : KeepsLimits sheet sheet_is
+  pub length_is : n ≡ length (normal_bytes sheet sheet_is)
+  pub bytes_are : take n out' ≡ normal_bytes sheet sheet_is
   pub beyond : drop n out' ≡ drop n out
-  pub out-length : length out' ≡ length out
+  pub out_length : length out' ≡ length out
 
 -- the element z of variable v has number n
 pub record HasNumber (sheet : List ℕ) (v : ℕ) (z : Point) (n : ℕ) : Type 0 where
-  pub sheet-is : Sheet
-  pub checked : check sheet ≡ accepted sheet-is
-  pub known : v < length sheet-is
-  pub inside : in_box (variable sheet-is v).head.box z ≡ true
-  pub number_is : n ≡ Ask.number_of sheet-is v z
+  pub sheet_is : Sheet
+  pub checked : check sheet ≡ accepted sheet_is
+  pub known : v < length sheet_is
+  pub inside : in_box (variable sheet_is v).head.box z ≡ true
+  pub number_is : n ≡ Ask.number_of sheet_is v z
 
 pub record Demand2 : Type 0 where
   -- the check accepts exactly the sheets that stand in their bytes as document 01 says and pass its tests
   pub passes : (bs : List ℕ) (s : Sheet) → (check bs ≡ accepted s) ↔ ((r : Raw) × Checked.Accepted bs r s)
   -- check
-  pub check-accepts : (sheet : List ℕ) (n : ℕ) → Checks sheet (Accepted n) → (s : Sheet) × (check sheet ≡ accepted s) × (n ≡ total s)
-  pub check-accepted : (sheet : List ℕ) (s : Sheet) (r : Verdict) → check sheet ≡ accepted s → Checks sheet r → r ≡ Accepted (total s)
+  pub check_accepts : (sheet : List ℕ) (n : ℕ) → Checks sheet (Accepted n) → (s : Sheet) × (check sheet ≡ accepted s) × (n ≡ total s)
+  pub check_accepted : (sheet : List ℕ) (s : Sheet) (r : Verdict) → check sheet ≡ accepted s → Checks sheet r → r ≡ Accepted (total s)
   -- run
-  pub run-accepts : (sheet : List ℕ) (ins : List ℤ) (codes codes' : List ℕ) (values values' : List ℤ) (n : ℕ) →
+  pub run_accepts : (sheet : List ℕ) (ins : List ℤ) (codes codes' : List ℕ) (values values' : List ℤ) (n : ℕ) →
       Runs sheet ins codes codes' values values' (Accepted n) → Ran sheet ins codes codes' values values' n
-  pub run-accepted : (sheet : List ℕ) (ins : List ℤ) (codes codes' : List ℕ) (values values' : List ℤ) (s : Sheet) (r : Verdict) →
+  pub run_accepted : (sheet : List ℕ) (ins : List ℤ) (codes codes' : List ℕ) (values values' : List ℤ) (s : Sheet) (r : Verdict) →
       check sheet ≡ accepted s → inputs s ins ≡ accepted tt → total s ≤ length codes → total s ≤ length values →
       Runs sheet ins codes codes' values values' r → r ≡ Accepted (total s)
   -- normalise
-  pub normalise-accepts : (sheet out out' : List ℕ) (n : ℕ) → Normalises sheet out out' (Accepted n) → Rewrote sheet out out' n
-  pub normalise-accepted : (sheet out out' : List ℕ) (s : Sheet) (r : Verdict) → check sheet ≡ accepted s → KeepsLimits sheet s →
+  pub normalise_accepts : (sheet out out' : List ℕ) (n : ℕ) → Normalises sheet out out' (Accepted n) → Rewrote sheet out out' n
+  pub normalise_accepted : (sheet out out' : List ℕ) (s : Sheet) (r : Verdict) → check sheet ≡ accepted s → KeepsLimits sheet s →
       length (normal_bytes sheet s) ≤ length out → Normalises sheet out out' r → r ≡ Accepted (length (normal_bytes sheet s))
   -- the element number
-  pub number-accepts : (sheet : List ℕ) (v : ℕ) (z : Point) (n : ℕ) → Numbers sheet v z (Accepted n) → HasNumber sheet v z n
-  pub number-accepted : (sheet : List ℕ) (v : ℕ) (z : Point) (s : Sheet) (r : Verdict) → check sheet ≡ accepted s → v < length s →
+  pub number_accepts : (sheet : List ℕ) (v : ℕ) (z : Point) (n : ℕ) → Numbers sheet v z (Accepted n) → HasNumber sheet v z n
+  pub number_accepted : (sheet : List ℕ) (v : ℕ) (z : Point) (s : Sheet) (r : Verdict) → check sheet ≡ accepted s → v < length s →
       in_box (variable s v).head.box z ≡ true → Numbers sheet v z r → r ≡ Accepted (Ask.number_of s v z)
   -- the body of a variable: its bytes; and nothing for an input or an unknown number
-  pub body-found : (sheet part : List ℕ) (v : ℕ) (s : Sheet) → check sheet ≡ accepted s → is_input (variable s v) ≡ false → Finds sheet v part →
+  pub body_found : (sheet part : List ℕ) (v : ℕ) (s : Sheet) → check sheet ≡ accepted s → is_input (variable s v) ≡ false → Finds sheet v part →
       part ≡ take ((variable s v).end - (variable s v).start) (drop (variable s v).start sheet)
-  pub body-absent : (sheet part : List ℕ) (v : ℕ) (s : Sheet) → check sheet ≡ accepted s → is_input (variable s v) ≡ true → Finds sheet v part → part ≡ []
+  pub body_absent : (sheet part : List ℕ) (v : ℕ) (s : Sheet) → check sheet ≡ accepted s → is_input (variable s v) ≡ true → Finds sheet v part → part ≡ []
 
 -- ---- demand 3: the normal form
 
@@ -137,25 +137,25 @@ pub record NormalFormOf (bs : List ℕ) (s : Sheet) (o : List ℕ) : Type 0 wher
   pub sheet : Sheet
   pub accepts : check o ≡ accepted sheet
   -- it declares the same variables
-  pub same-sections : sections o ≡ sections bs
-  pub same-heads : map (λ x. x.head) sheet ≡ map (λ x. x.head) s
-  pub same-declared : map (λ x. x.declared) sheet ≡ map (λ x. x.declared) s
+  pub same_sections : sections o ≡ sections bs
+  pub same_heads : map (λ x. x.head) sheet ≡ map (λ x. x.head) s
+  pub same_declared : map (λ x. x.declared) sheet ≡ map (λ x. x.declared) s
   -- every body is a case of restrictions of operators and ifs whose leaves are one dependence over a variable or a constant
-  pub in-form : (v : ℕ) → v < length sheet → is_input (variable sheet v) ≡ false → body_form (variable sheet v).body ≡ true
-  pub bodies-are : (v : ℕ) → is_input (variable s v) ≡ false → (variable sheet v).body ≡ normal_body s (variable s v)
+  pub in_form : (v : ℕ) → v < length sheet → is_input (variable sheet v) ≡ false → body_form (variable sheet v).body ≡ true
+  pub bodies_are : (v : ℕ) → is_input (variable s v) ≡ false → (variable sheet v).body ≡ normal_body s (variable s v)
   -- it takes the same input lists, and gives the same outcome at every element, errors by kind included
   pub same_inputs : (ins : List ℤ) → inputs sheet ins ≡ inputs s ins
-  pub same-elements : elements sheet ≡ elements s
+  pub same_elements : elements sheet ≡ elements s
   pub same_outcome : (ins : List ℤ) (v : ℕ) (z : Point) → outcome deepest sheet ins v z ≡ outcome deepest s ins v z
-  pub same-run : (ins : List ℤ) (codes values : ℕ) → run o ins codes values ≡ run bs ins codes values
-  pub same-report : (values : List ℕ) → framed o values ≡ framed bs values
+  pub same_run : (ins : List ℤ) (codes values : ℕ) → run o ins codes values ≡ run bs ins codes values
+  pub same_report : (values : List ℕ) → framed o values ≡ framed bs values
   -- rewriting it writes the same bytes again
   pub again : (lent : ℕ) → length o ≤ lent → normalise o lent ≡ accepted o
 
 -- the same of the calls: o is what the normaliser has written of the sheet in n bytes
 pub record RewrittenCalls (sheet o : List ℕ) (n : ℕ) : Type 0 where
   pub same_check : (r r' : Verdict) → Checks sheet r → Checks o r' → r' ≡ r
-  pub same-run : (ins : List ℤ) (codes codes₁ codes₂ : List ℕ) (values values₁ values₂ : List ℤ) (r r' : Verdict) →
+  pub same_run : (ins : List ℤ) (codes codes₁ codes₂ : List ℕ) (values values₁ values₂ : List ℤ) (r r' : Verdict) →
       Runs sheet ins codes codes₁ values values₁ r → Runs o ins codes codes₂ values values₂ r' → (r' ≡ r) × (codes₂ ≡ codes₁) × (values₂ ≡ values₁)
   pub again : (out out' : List ℕ) (r : Verdict) → n ≤ length out → Normalises o out out' r → (r ≡ Accepted n) × (take n out' ≡ o)
 

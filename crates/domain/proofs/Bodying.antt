@@ -53,14 +53,14 @@ module _ (bs tab : List ℕ) (v i : ℕ) (h : VariableLaid bs tab v) (low : i < 
   point-inside z at = ap (in_box box) (point_at_lem z at) ∙ in-box
 
   pub number-low : get_or tab (32 + v) 0 + i < 4096
-  number-low = omega (arith, h.first-is, h.few)
+  number-low = omega (arith, h.first_is, h.few)
 
   -- ---- its byte
 
   module _ (inside : List ℕ) (t : Inside (sheet_of bs) inside) where
-    byte-is : get_or inside (get_or tab (32 + v) 0 + i) 0 ≡ bit (meets_all (variable (sheet_of bs) v).declared point)
-    byte-is =
-        let n : number_of (sheet_of bs) v point ≡ get_or tab (32 + v) 0 + i = omega (arith, index-point_at box i low, h.first-is) in
+    byte_is : get_or inside (get_or tab (32 + v) 0 + i) 0 ≡ bit (meets_all (variable (sheet_of bs) v).declared point)
+    byte_is =
+        let n : number_of (sheet_of bs) v point ≡ get_or tab (32 + v) 0 + i = omega (arith, index-point_at box i low, h.first_is) in
         rw n at (t.says v point h.known in-box)
 
     in-domain : in_domain (variable (sheet_of bs) v) point ≡ meets_all (variable (sheet_of bs) v).declared point
@@ -74,7 +74,7 @@ module _ (bs tab : List ℕ) (v i : ℕ) (h : VariableLaid bs tab v) (low : i < 
       where
         go : (b : Bool) → b ≡ meets_all (variable (sheet_of bs) v).declared point → b ≡ true
         go true e = refl
-        go false e = let f : bit false ≡ 1 = rw (← e) at (sym byte-is ∙ one) in absurd (omega arith)
+        go false e = let f : bit false ≡ 1 = rw (← e) at (sym byte_is ∙ one) in absurd (omega arith)
 
     pub byte-skips : (get_or inside (get_or tab (32 + v) 0 + i) 0 ≡ 1 → ⊥) → Holds ≡ body_standing (sheet_of bs) v point
     byte-skips other =
@@ -82,7 +82,7 @@ module _ (bs tab : List ℕ) (v i : ℕ) (h : VariableLaid bs tab v) (low : i < 
         (go (in_domain (variable (sheet_of bs) v) point) in-domain))
       where
         go : (b : Bool) → b ≡ meets_all (variable (sheet_of bs) v).declared point → b ≡ false
-        go true e = let f : get_or inside (get_or tab (32 + v) 0 + i) 0 ≡ 1 = byte-is ∙ ap bit (sym e) in absurd (other f)
+        go true e = let f : get_or inside (get_or tab (32 + v) 0 + i) 0 ≡ 1 = byte_is ∙ ap bit (sym e) in absurd (other f)
         go false e = refl
 
   -- ---- its walk
@@ -90,7 +90,7 @@ module _ (bs tab : List ℕ) (v i : ℕ) (h : VariableLaid bs tab v) (low : i < 
   module _ (f : Formed bs tab) (body : HasBody bs v) (z : List Int)
       (at : PointAt bs (get_or tab v 0) i z) (place : ℕ) (place_is : place ≡ get_or tab (69 + v) 0) where
     dims : dimension_at bs (get_or tab v 0) ≡ length box
-    dims = h.dims-are ∙ ap (λ x. length x.box) (sym h.head-is)
+    dims = h.dims-are ∙ ap (λ x. length x.box) (sym h.head_is)
 
     point-is : point_of (length box) z ≡ point
     point-is = ap (λ n. point_of n z) (sym dims) ∙ at.is ∙ ap (λ b. point_at b i) h.box-is
@@ -100,7 +100,7 @@ module _ (bs tab : List ℕ) (v i : ℕ) (h : VariableLaid bs tab v) (low : i < 
 
     pub body-walk : Walk bs place 2048 z
     body-walk =
-        let b = f.placed.body v body.known body.no-input in
+        let b = f.placed.body v body.known body.no_input in
         record {
           tree = (variable (sheet_of bs) v).body;
           end = (variable (sheet_of bs) v).end;
@@ -110,7 +110,7 @@ module _ (bs tab : List ℕ) (v i : ℕ) (h : VariableLaid bs tab v) (low : i < 
           few = b.few;
           most = omega arith;
           fitting = b.fitting;
-          reaches = f.body-reach v body.known body.no-input;
+          reaches = f.body_reach v body.known body.no_input;
           point = record {
             padded = rw dims at at.rest;
             near = rw point-is (near-each top_reach point (λ j. in_box-small box point j h.box_read in-box));
@@ -121,6 +121,6 @@ module _ (bs tab : List ℕ) (v i : ℕ) (h : VariableLaid bs tab v) (low : i < 
 
     pub body-way : (r : Stood) → StandsAt bs place z r → r.how ≡ standing (variable (sheet_of bs) v).body (sheet_of bs) point
     body-way r t =
-        let b = f.placed.body v body.known body.no-input in
+        let b = f.placed.body v body.known body.no_input in
         (t (variable (sheet_of bs) v).body (variable (sheet_of bs) v).end (length box) (rw starts b.at) b.fitting).1
         ∙ ap (standing (variable (sheet_of bs) v).body (sheet_of bs)) point-is

@@ -129,30 +129,30 @@ module _ (bs : List ℕ) where
       -- an operator's operands, where the code has n of them
       pub held-operands : class_at bs p ≡ Operator → (n : ℕ) → n ≡ arity (node_read (vars_of bs) bs p) → HeldAll bs k (left - 1) n z
       unfolding walk-children
-      held-operands class-is n many =
-          let operator = (operator-at bs w.tree p w.end w.at class-is).class-is in
+      held-operands class_is n many =
+          let operator = (operator-at bs w.tree p w.end w.at class_is).class_is in
           record {
-            walk = walk-children bs p left z w k n next many (rw class-is tt);
+            walk = walk-children bs p left z w k n next many (rw class_is tt);
             clear = sym (operands-stand (sheet_of bs) (point_of w.dims z) w.tree operator) ∙ h.clear;
           }
 
       -- a restriction's child
       pub held-restricted : class_at bs p ≡ Restriction → Held bs k (left - 1) z
-      held-restricted class-is =
-          let x = restriction-at bs w.tree p w.end w.at class-is in
+      held-restricted class_is =
+          let x = restriction-at bs w.tree p w.end w.at class_is in
           let fit = restricted-fits bs w.tree p w.end w.dims w.fitting x in
-          held_by k (left - 1) z x.child w.end w.dims (rw next x.below) fit (restriction-walk bs p left z w class-is k next)
+          held_by k (left - 1) z x.child w.end w.dims (rw next x.below) fit (restriction-walk bs p left z w class_is k next)
           (restricted-holds x.dim x.given x.child (sheet_of bs) (point_of w.dims z) (sym (ap here x.is) ∙ h.clear))
 
       -- a dependence's child at the image, where its map is m
       pub held-image : class_at bs p ≡ Dependence → (m : Map) → MapRead bs (p + 8) m → (y : List Int) →
           point_of m.height y ≡ image (map_of m).rows (point_of m.width z) → Padded m.height y → Held bs k (left - 1) y
-      held-image class-is m r y is rest =
-          let x = dependence-at bs w.tree p w.end w.at class-is in
+      held-image class_is m r y is rest =
+          let x = dependence-at bs w.tree p w.end w.at class_is in
           let fit = mapped-fits bs w.tree p w.end w.dims w.fitting x in
           let point = image-is bs w.tree p w.end w.dims w.fitting x m r z y is in
           held_by k (left - 1) y x.child w.end (length x.by.rows) (rw next x.below) fit
-          (walk-image bs p left z w class-is m r k next y is rest)
+          (walk-image bs p left z w class_is m r k next y is rest)
           (rw point (sym (dependence-stands (sheet_of bs) (point_of w.dims z) x.by x.child) ∙ sym (ap here x.is) ∙ h.clear))
 
   -- ---- so many operands

@@ -265,20 +265,20 @@ module _ (bs : List ℕ) (left : ℕ) (z : List Int) where
 
 -- ---- a case
 
-module _ (bs : List ℕ) (p left k count : ℕ) (z : List Int) (held : Held bs p left z) (class-is : class_at bs p ≡ Case)
+module _ (bs : List ℕ) (p left k count : ℕ) (z : List Int) (held : Held bs p left z) (class_is : class_at bs p ≡ Case)
     (next : k ≡ node_end (vars_of bs) bs p) (many : count ≡ arity (node_read (vars_of bs) bs p)) where
   abbrev w : Walk bs p left z
   w = held.walk
 
   same : SamePoint (class_at bs p)
-  same = rw class-is tt
+  same = rw class_is tt
 
   pub walk-branches : WalkAll bs k (left - 1) count z
   walk-branches = walk-children bs p left z w k count next many same
 
   pub some-branch : 1 ≤ count
   some-branch =
-      let x = case_at bs w.tree p w.end w.at class-is in
+      let x = case_at bs w.tree p w.end w.at class_is in
       let counted = children-counted (vars_of bs) bs p k count next many w.tree w.end w.at in
       omega (arith, x.many.low, ap (λ t. branch_count (children_of t)) x.is, counted)
 
@@ -294,7 +294,7 @@ module _ (bs : List ℕ) (p left k count : ℕ) (z : List Int) (held : Held bs p
 
     pub chooses : Chooses bs p (left - 1) z r
     chooses =
-        let c = case_at bs w.tree p w.end w.at class-is in
+        let c = case_at bs w.tree p w.end w.at class_is in
         let here : At (kase c.branches) (vars_of bs) bs p w.end = subst (λ t. At t (vars_of bs) bs p w.end) c.is w.at in
         let y = taken c.branches w.end w.dims here (sym (ap (λ t. fits t (heads_of bs) w.dims) c.is) ∙ w.fitting) in
         record { says = taken; held = held_by bs r (left - 1) z y.tree y.end w.dims y.at y.fitting x.walk y.clear }

@@ -96,12 +96,12 @@ module _ (bs : List ℕ) (v : ℕ) (z : List Int) where
       p ≡ (raw_of bs).second + 8 → MeetsLeft left p
   meets-left tab f lt left p l e =
       let s = prepared-sections bs tab f.placed.prepared in
-      let n : length (raw_of bs).decls ≡ left = sym (l ∙ ap nat_abs s.declared-count) in
-      let is = f.placed.declared-is v lt in
+      let n : length (raw_of bs).decls ≡ left = sym (l ∙ ap nat_abs s.declared_count) in
+      let is = f.placed.declared_is v lt in
       record {
         rest = (raw_of bs).decls;
         many = n;
-        stand = rw e s.declared-stand;
+        stand = rw e s.declared_stand;
         reaches = rw is at (&&-left (all_reach top_reach (variable (sheet_of bs) v).declared) _ (f.reaching v lt));
         decides = ap (λ l. meets_all l point) (sym is);
       }
@@ -181,7 +181,7 @@ pub none-declared : (bs tab : List ℕ) → Formed bs tab → (v : ℕ) → v < 
     true ≡ meets_all (variable (sheet_of bs) v).declared z
 none-declared bs tab f v lt none z =
     let s = prepared-sections bs tab f.placed.prepared in
-    go (raw_of bs).decls (sym (ap nat_abs s.declared-count)) ∙ ap (λ l. meets_all l z) (sym (f.placed.declared-is v lt))
+    go (raw_of bs).decls (sym (ap nat_abs s.declared_count)) ∙ ap (λ l. meets_all l z) (sym (f.placed.declared_is v lt))
   where
     go : (ds : List Declared) → length ds ≡ nat_abs (field bs (raw_of bs).second) → true ≡ meets_all (of_variable v ds) z
     go [] m = refl

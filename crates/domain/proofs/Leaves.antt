@@ -74,12 +74,12 @@ module _ (bs tab : List ℕ) (v : ℕ) (z : List Int) (h : VariableLaid bs tab v
     numbered = at-numbered box point i (number_is (At i) e)
 
     pub element-low : get_or tab (32 + v) 0 + i < 4096
-    element-low = omega (arith, numbered.is, h.first-is, index-low box point numbered.inside, h.few)
+    element-low = omega (arith, numbered.is, h.first_is, index-low box point numbered.inside, h.few)
 
     -- within it, by the byte of the element
     module _ (inside : List ℕ) (t : Inside (sheet_of bs) inside) where
-      byte-is : get_or inside (get_or tab (32 + v) 0 + i) 0 ≡ bit (meets_all (variable (sheet_of bs) v).declared point)
-      byte-is = rw (h.first-is, numbered.is) (t.says v point h.known numbered.inside)
+      byte_is : get_or inside (get_or tab (32 + v) 0 + i) 0 ≡ bit (meets_all (variable (sheet_of bs) v).declared point)
+      byte_is = rw (h.first_is, numbered.is) (t.says v point h.known numbered.inside)
 
       by_byte : (b : Bool) → meets_all (variable (sheet_of bs) v).declared point ≡ b → standing (var v) (sheet_of bs) point ≡ rated b false
       by_byte b m =
@@ -88,14 +88,14 @@ module _ (bs tab : List ℕ) (v : ℕ) (z : List Int) (h : VariableLaid bs tab v
           ∙ ap (λ x. rated x false) m
 
       pub byte-stands : get_or inside (get_or tab (32 + v) 0 + i) 0 ≡ 1 → Holds ≡ standing (var v) (sheet_of bs) point
-      byte-stands one = go (meets_all (variable (sheet_of bs) v).declared point) refl (sym byte-is ∙ one)
+      byte-stands one = go (meets_all (variable (sheet_of bs) v).declared point) refl (sym byte_is ∙ one)
         where
           go : (b : Bool) → meets_all (variable (sheet_of bs) v).declared point ≡ b → bit b ≡ 1 → Holds ≡ standing (var v) (sheet_of bs) point
           go true m k = sym (by_byte true m)
           go false m k = absurd (omega arith)
 
       pub byte-not : (get_or inside (get_or tab (32 + v) 0 + i) 0 ≡ 1 → ⊥) → Not ≡ standing (var v) (sheet_of bs) point
-      byte-not other = go (meets_all (variable (sheet_of bs) v).declared point) refl byte-is
+      byte-not other = go (meets_all (variable (sheet_of bs) v).declared point) refl byte_is
         where
           go : (b : Bool) → meets_all (variable (sheet_of bs) v).declared point ≡ b → get_or inside (get_or tab (32 + v) 0 + i) 0 ≡ bit b →
               Not ≡ standing (var v) (sheet_of bs) point

@@ -91,12 +91,12 @@ head-stands earlier bs p h a =
       box_read = head-box a;
     })
 
-heads-stand : (bs : List ℕ) (hs earlier : List Head) (p q : ℕ) → HeadsAt hs earlier bs p q → (v : ℕ) → v < length hs →
+heads_stand : (bs : List ℕ) (hs earlier : List Head) (p q : ℕ) → HeadsAt hs earlier bs p q → (v : ℕ) → v < length hs →
     StandsAt bs (get_or hs v no_head) (get_or hs v no_head).place
 unfolding HeadsAt
-heads-stand bs [] earlier p q h v lt = absurd (omega arith)
-heads-stand bs (x ∷ hs) earlier p q h zero lt = head-stands earlier bs p x (head_at earlier bs p x h.next h.here)
-heads-stand bs (x ∷ hs) earlier p q h (suc v) lt = heads-stand bs hs (earlier ++ (x ∷ [])) h.next q h.after v (omega arith)
+heads_stand bs [] earlier p q h v lt = absurd (omega arith)
+heads_stand bs (x ∷ hs) earlier p q h zero lt = head-stands earlier bs p x (head_at earlier bs p x h.next h.here)
+heads_stand bs (x ∷ hs) earlier p q h (suc v) lt = heads_stand bs hs (earlier ++ (x ∷ [])) h.next q h.after v (omega arith)
 
 -- ---- elements by the records
 
@@ -114,12 +114,12 @@ before-points (x ∷ s) (suc v) = ap (λ n. size x.head.box + n) (before-points 
 pub record VariableLaid (bs tab : List ℕ) (v : ℕ) : Type 0 where
   pub low : v < 32
   pub known : v < length (sheet_of bs)
-  pub head-is : (variable (sheet_of bs) v).head ≡ get_or (heads_of bs) v no_head
+  pub head_is : (variable (sheet_of bs) v).head ≡ get_or (heads_of bs) v no_head
   pub recorded : Recorded bs (get_or tab v 0)
   pub box-is : box_of bs (get_or tab v 0) ≡ (variable (sheet_of bs) v).head.box
   pub box_read : read_box (variable (sheet_of bs) v).head.box ≡ true
   pub dims-are : dimension_at bs (get_or tab v 0) ≡ dimension (heads_of bs) v
-  pub first-is : get_or tab (32 + v) 0 ≡ before (sheet_of bs) v
+  pub first_is : get_or tab (32 + v) 0 ≡ before (sheet_of bs) v
   pub last-is : get_or tab (32 + (v + 1)) 0 ≡ before (sheet_of bs) v + size (variable (sheet_of bs) v).head.box
   -- its elements are numbered below 4,096
   pub few : before (sheet_of bs) v + size (variable (sheet_of bs) v).head.box ≤ 4096
@@ -129,32 +129,32 @@ module _ (bs tab : List ℕ) (h : BodiesPlaced bs tab) where
   laid-bodies = bodies-read (raw_of bs) bs h.shaped
 
   pub laid-length : length (sheet_of bs) ≡ vars_of bs
-  laid-length = sym (length-map (sheet_of bs) (λ x. x.head)) ∙ ap length laid-bodies.heads-are
+  laid-length = sym (length-map (sheet_of bs) (λ x. x.head)) ∙ ap length laid-bodies.heads_are
 
   pub laid-total : total (sheet_of bs) ≤ 4096
-  laid-total = rw (← total-points (sheet_of bs), laid-bodies.heads-are) (prepared-sections bs tab h.prepared).small
+  laid-total = rw (← total-points (sheet_of bs), laid-bodies.heads_are) (prepared-sections bs tab h.prepared).small
 
   pub laid-head : (v : ℕ) → (variable (sheet_of bs) v).head ≡ get_or (heads_of bs) v no_head
-  laid-head v = sym (get_or-map (λ x. x.head) (sheet_of bs) v no_variable) ∙ ap (λ l. get_or l v no_head) laid-bodies.heads-are
+  laid-head v = sym (get_or-map (λ x. x.head) (sheet_of bs) v no_variable) ∙ ap (λ l. get_or l v no_head) laid-bodies.heads_are
 
   -- the first element of a variable, and the total after the last
   first : (v : ℕ) → v ≤ vars_of bs → get_or tab (32 + v) 0 ≡ before (sheet_of bs) v
-  first v le = h.prepared.table.first-element v le ∙ ap (λ l. Record.before l v) (sym laid-bodies.heads-are) ∙ before-points (sheet_of bs) v
+  first v le = h.prepared.table.first-element v le ∙ ap (λ l. Record.before l v) (sym laid-bodies.heads_are) ∙ before-points (sheet_of bs) v
 
   pub laid-variable : (v : ℕ) → v < vars_of bs → VariableLaid bs tab v
   laid-variable v lt =
-      let r = heads-stand bs (heads_of bs) [] 8 (raw_of bs).second (prepared-sections bs tab h.prepared).heads-stand v lt in
-      let place = h.prepared.table.record-at v lt in
+      let r = heads_stand bs (heads_of bs) [] 8 (raw_of bs).second (prepared-sections bs tab h.prepared).heads_stand v lt in
+      let place = h.prepared.table.record_at v lt in
       let known : v < length (sheet_of bs) = omega (arith, laid-length) in
       record {
         low = prepared-few bs tab h.prepared v lt;
         known = known;
-        head-is = laid-head v;
+        head_is = laid-head v;
         recorded = rw place r.recorded;
         box-is = rw (place, laid-head v) r.box-is;
         box_read = rw (laid-head v) r.box_read;
         dims-are = rw place r.dims-are;
-        first-is = first v (omega arith);
+        first_is = first v (omega arith);
         last-is =
             let e : v + 1 ≡ suc v = omega arith in
             first (v + 1) (omega arith) ∙ ap (before (sheet_of bs)) e ∙ before-suc (sheet_of bs) v known;

@@ -131,9 +131,9 @@ module _ (bs : List ℕ) (p : ℕ) where
       cs ≡ constraints_fields (nat_abs (field bs (p + 16))) (nat_abs (field bs (p + 8))) bs (p + 24)
   restriction-says d cs h = rw (← counted_is h.many, ← counted_is h.dim) (constraints-are d bs cs (p + 24) (λ i lt c. restr-constraint h i lt c))
 
-  module _ (left : ℕ) (z : List Int) (h : Walk bs p left z) (class-is : class_at bs p ≡ Restriction) where
+  module _ (left : ℕ) (z : List Int) (h : Walk bs p left z) (class_is : class_at bs p ≡ Restriction) where
     here : RestrAt h.tree (vars_of bs) bs p h.end
-    here = restriction-at bs h.tree p h.end h.at class-is
+    here = restriction-at bs h.tree p h.end h.at class_is
 
     dims-are : here.dim ≡ h.dims
     dims-are = restriction-dims bs h.tree p h.end h.dims h.fitting here
@@ -147,7 +147,7 @@ module _ (bs : List ℕ) (p : ℕ) where
     count-here = ap node_count here.is
 
     wide : Wide bs p
-    wide = restriction-fields bs p (record { noded = at-noded (vars_of bs) bs h.tree p h.end h.at; class-is = class-is })
+    wide = restriction-fields bs p (record { noded = at-noded (vars_of bs) bs h.tree p h.end h.at; class_is = class_is })
 
     -- its constraints can be tested
     pub restriction-testable : RestrictionTestable bs p z

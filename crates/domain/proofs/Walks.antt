@@ -141,9 +141,9 @@ module _ (bs : List ℕ) where
 
     -- ---- a dependence
 
-    module _ (class-is : class_at bs p ≡ Dependence) where
+    module _ (class_is : class_at bs p ≡ Dependence) where
       below : DepAt h.tree (vars_of bs) bs p h.end
-      below = dependence-at bs h.tree p h.end h.at class-is
+      below = dependence-at bs h.tree p h.end h.at class_is
 
       reach-below : leb (map_reach h.bound below.by.rows) limit && reach below.child (map_reach h.bound below.by.rows) ≡ true
       unfolding reach

@@ -96,19 +96,19 @@ module _ (bs : List ℕ) (p k : ℕ) (z : List Int) (next : k ≡ node_end (vars
         (a.0, a.1 ∙ sym (stands e q h (point_of d z)))
 
     pub operands-way : class_at bs p ≡ Operator → (r : Stood) → StandTogether bs k n z false r → StandsAt bs p z r
-    operands-way class-is = children-way false (rw class-is tt) (λ e q h y. operands-stand (sheet_of bs) y e (operator-at bs e p q h class-is).class-is)
+    operands-way class_is = children-way false (rw class_is tt) (λ e q h y. operands-stand (sheet_of bs) y e (operator-at bs e p q h class_is).class_is)
 
     pub branches-way : class_at bs p ≡ Case → (r : Stood) → StandTogether bs k n z true r → StandsAt bs p z r
-    branches-way class-is = children-way true (rw class-is tt) (λ e q h y.
-        let x = case_at bs e p q h class-is in
+    branches-way class_is = children-way true (rw class_is tt) (λ e q h y.
+        let x = case_at bs e p q h class_is in
         subst (λ t. standing t (sheet_of bs) y ≡ together true (children_of t) (sheet_of bs) y) (sym x.is) (branches-stand (sheet_of bs) y x.branches))
 
   -- a dependence, whose map is m and whose image is y
   pub image-way : (m : Map) (y : List Int) (r : Stood) → class_at bs p ≡ Dependence → MapRead bs (p + 8) m →
       point_of m.height y ≡ image (map_of m).rows (point_of m.width z) →
       StandsAt bs k y r → StandsAt bs p z r
-  image-way m y r class-is read is t e q n h f =
-      let x = dependence-at bs e p q h class-is in
+  image-way m y r class_is read is t e q n h f =
+      let x = dependence-at bs e p q h class_is in
       let a = t x.child q (length x.by.rows) (rw next x.below) (mapped-fits bs e p q n f x) in (
         a.0,
         a.1 ∙ ap (standing x.child (sheet_of bs)) (image-is bs e p q n f x m read z y is)
@@ -117,10 +117,10 @@ module _ (bs : List ℕ) (p k : ℕ) (z : List Int) (next : k ≡ node_end (vars
       )
 
   -- a restriction, whose constraints hold or not
-  module _ (class-is : class_at bs p ≡ Restriction) (met : Bool) (is : met ≡ restriction_met bs p z) where
+  module _ (class_is : class_at bs p ≡ Restriction) (met : Bool) (is : met ≡ restriction_met bs p z) where
     module _ (e : Expr) (q n : ℕ) (h : At e (vars_of bs) bs p q) (f : fits e (heads_of bs) n ≡ true) where
       here : RestrAt e (vars_of bs) bs p q
-      here = restriction-at bs e p q h class-is
+      here = restriction-at bs e p q h class_is
 
       dims : nat_abs (field bs (p + 8)) ≡ n
       dims = sym (counted_is here.fields.dim) ∙ restriction-dims bs e p q n f here

@@ -45,7 +45,7 @@ pub record Checkable (bs tab inside : List ℕ) : Type 0 where
 -- v is a variable that has a body
 pub record HasBody (bs : List ℕ) (v : ℕ) : Type 0 where
   pub known : v < vars_of bs
-  pub no-input : is_input (variable (sheet_of bs) v) ≡ false
+  pub no_input : is_input (variable (sheet_of bs) v) ≡ false
 
 -- i is the number of a point in the box of variable v
 pub record PointOf (bs : List ℕ) (v i : ℕ) : Type 0 where

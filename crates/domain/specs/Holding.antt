@@ -54,7 +54,7 @@ pub record Choosing (bs tab inside ends : List ℕ) (p left : ℕ) (z : List Int
   pub grounds : Grounds bs tab inside
   pub kept : EndsKept bs ends
   pub held : Held bs p left z
-  pub is-case : class_at bs p ≡ Case
+  pub is_case : class_at bs p ≡ Case
 
 -- r is the place of the tree that is taken at z of the trees es, of dimension n: the first that holds
 pub record Taken (bs : List ℕ) (es : Exprs) (n : ℕ) (z : List Int) (r : ℕ) : Type 0 where

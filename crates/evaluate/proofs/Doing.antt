@@ -26,7 +26,7 @@ use Rattle.evaluate.proofs.Stores.{kept_same, kept-two, waits-sub, waits_kept}
 pub setting-with : (bs tab inside ends : List ℕ) (memo last : Memo) → Setting bs tab inside ends memo → Ready (sheet_of bs) last →
     Setting bs tab inside ends last
 setting-with bs tab inside ends memo last S ready =
-    record { formed = S.formed; inside_is = S.inside_is; ends-kept = S.ends-kept; ready = ready }
+    record { formed = S.formed; inside_is = S.inside_is; ends_kept = S.ends_kept; ready = ready }
 
 module _ (s : Sheet) where
   pub element-grows : (ins : List ℤ) (m : ℕ) → Grows (element (outcomes s ins) m)
@@ -38,12 +38,12 @@ module _ (s : Sheet) where
   -- ---- the memo
 
   pub ready-sized : (memo : Memo) → Ready s memo → Sized (total s) memo
-  ready-sized memo r = record { room = omega (arith, r.few, r.codes-long); pairs = r.values-long ∙ sym r.codes-long }
+  ready-sized memo r = record { room = omega (arith, r.few, r.codes_long); pairs = r.values_long ∙ sym r.codes_long }
 
   pub ready-kept : (memo last : Memo) → Ready s memo → Kept memo last → Ready s last
   ready-kept memo last r K = record {
-    codes-long = K.long ∙ r.codes-long;
-    values-long = K.paired ∙ r.values-long;
+    codes_long = K.long ∙ r.codes_long;
+    values_long = K.paired ∙ r.values_long;
     few = r.few;
     low = K.low r.low;
     opens = λ m h u. r.opens m h (K.opened m u);

@@ -88,18 +88,18 @@ module _ (bs tab : List ℕ) (F : Formed bs tab) (v e : ℕ) (z : List Int) (I :
     bodied : Bodied sheet (record { who = v; at = point })
     bodied = subst (Bodied sheet) element-is B
 
-    pub no-input : is_input (variable sheet v) ≡ false
-    no-input = bodied.no-input
+    pub no_input : is_input (variable sheet v) ≡ false
+    no_input = bodied.no_input
 
     pub starts : (ins : List ℤ) → outcomes sheet ins 0 e ≡ loop
-    starts ins = outcome-is ins 0 ∙ outcome-none sheet ins v point bodied.domain bodied.no-input
+    starts ins = outcome-is ins 0 ∙ outcome-none sheet ins v point bodied.domain bodied.no_input
 
     pub steps : (ins : List ℤ) (k : ℕ) → outcomes sheet ins (suc k) e ≡ expression sheet ins (variable sheet v).body point k
-    steps ins k = outcome-is ins (suc k) ∙ outcome-body sheet ins v point bodied.domain bodied.no-input k
+    steps ins k = outcome-is ins (suc k) ∙ outcome-body sheet ins v point bodied.domain bodied.no_input k
 
     element-walk : (place : ℕ) → place ≡ get_or tab (69 + v) 0 → Walk bs place 2048 z
     element-walk place is =
-        body-walk bs tab v (index box point) laid (index-low box point I.in-box) F (record { known = I.known; no-input = no-input }) z
+        body-walk bs tab v (index box point) laid (index-low box point I.in-box) F (record { known = I.known; no_input = no_input }) z
         (record {
           is =
               ap (λ n. point_of n z) laid.dims-are ∙ sym (point_at-index box point I.in-box)
@@ -111,12 +111,12 @@ module _ (bs tab : List ℕ) (F : Formed bs tab) (v e : ℕ) (z : List Int) (I :
     -- it holds there, and what was worked out at its place
     module _ (place : ℕ) (place_is : place ≡ get_or tab (69 + v) 0) where
       body-at : At (variable sheet v).body (vars_of bs) bs place (variable sheet v).end
-      body-at = rw (place_is ∙ F.placed.starts v I.known) (F.placed.body v I.known no-input).at
+      body-at = rw (place_is ∙ F.placed.starts v I.known) (F.placed.body v I.known no_input).at
 
       body-fits : fits (variable sheet v).body (heads_of bs) (dimension (heads_of bs) v) ≡ true
       body-fits =
-          let wide : length box ≡ dimension (heads_of bs) v = ap (λ x. length x.box) laid.head-is in
-          rw wide at (F.placed.body v I.known no-input).fitting
+          let wide : length box ≡ dimension (heads_of bs) v = ap (λ x. length x.box) laid.head_is in
+          rw wide at (F.placed.body v I.known no_input).fitting
 
       pub element-held : Held bs place 2048 z
       element-held =
@@ -137,7 +137,7 @@ module _ (bs tab : List ℕ) (F : Formed bs tab) (v e : ℕ) (z : List Int) (I :
 
   module _ (memo : Memo) (M : Ready sheet memo) where
     in-memo : e < length memo.codes
-    in-memo = omega (arith, M.few, M.codes-long, element-low)
+    in-memo = omega (arith, M.few, M.codes_long, element-low)
 
     -- what the memo has: a settled element's outcome, and an element in progress waits for itself
     known-way : (o : Declared.Outcome) → code_at memo e ≤ busy → Range.Says o (saved_at memo e) →
@@ -193,8 +193,8 @@ module _ (bs tab : List ℕ) (F : Formed bs tab) (v e : ℕ) (z : List Int) (I :
 
       pub ready_marked : Ready sheet marked
       ready_marked = record {
-        codes-long = simp length-set M.codes-long;
-        values-long = simp length-set M.values-long;
+        codes_long = simp length-set M.codes_long;
+        values_long = simp length-set M.values_long;
         few = M.few;
         low = λ m. decide m e (ℕ_discrete m e)
             (λ same. rw (same, code_same memo e busy (pos 0) in-memo) (omega arith))
@@ -290,12 +290,12 @@ module _ (bs tab : List ℕ) (F : Formed bs tab) (p left : ℕ) (z : List Int) (
     named-element e is = record {
       known = number-known;
       in-box = numbered.inside;
-      number = omega (arith, is, there.first-is, numbered.is);
+      number = omega (arith, is, there.first_is, numbered.is);
       rest = let w = t.leaf.held.walk in rw (named w.tree w.end w.dims w.at w.fitting).wide w.point.padded;
     }
 
     pub number-few : get_or tab (32 + v) 0 + i < 4096
-    number-few = omega (arith, numbered.is, there.first-is, index-low (variable (sheet_of bs) v).head.box here numbered.inside, there.few)
+    number-few = omega (arith, numbered.is, there.first_is, index-low (variable (sheet_of bs) v).head.box here numbered.inside, there.few)
 
     pub variable-way : (e : ℕ) → e ≡ get_or tab (32 + v) 0 + i → (k : ℕ) → k ≡ node_end (vars_of bs) bs p → (memo last : Memo) (r : Work) →
         WorksOut (sheet_of bs) memo last (λ ins. element (outcomes (sheet_of bs) ins) e) r →

@@ -78,7 +78,7 @@ module _ (bs : List ℕ) (p left : ℕ) (z : List Int) (h : Held bs p left z) wh
 module _ (bs : List ℕ) (p left : ℕ) (z : List Int) (k : ℕ) (next : k ≡ node_end (vars_of bs) bs p) where
   -- those of an operator of a kind, n of them, stand after its node
   operands : (kind : OperatorKind) → HeldOperator kind bs p left z → (n : ℕ) → n ≡ arity (node_read (vars_of bs) bs p) → HeldAll bs k (left - 1) n z
-  operands kind t n many = held-operands bs p left z t.operator.held k next t.operator.class-is n many
+  operands kind t n many = held-operands bs p left z t.operator.held k next t.operator.class_is n many
 
   pub only-operand : HeldOperator Unary bs p left z → Held bs k (left - 1) z
   only-operand t = held_first bs k (left - 1) 1 z (omega arith) (operands Unary t 1 (unary-arity bs p t.code_is))

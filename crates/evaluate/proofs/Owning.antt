@@ -31,7 +31,7 @@ module _ (bs tab : List ℕ) (F : Formed bs tab) (e : ℕ) where
   laid v lt = laid-variable bs tab F.placed v lt
 
   pub reached-first : Reached bs tab e 0
-  reached-first = let some = some-variable bs tab F in record { known = some; from = omega (arith, (laid 0 some).first-is) }
+  reached-first = let some = some-variable bs tab F in record { known = some; from = omega (arith, (laid 0 some).first_is) }
 
   -- an element past a variable's is not past the last
   pub reached-next : e < total (sheet_of bs) → (v : ℕ) → Reached bs tab e v → get_or tab (32 + (v + 1)) 0 ≤ e → Reached bs tab e (v + 1)
@@ -63,7 +63,7 @@ module _ (bs tab : List ℕ) (F : Formed bs tab) (e : ℕ) where
     place = e - get_or tab (32 + v) 0
 
     pub place-low : place < size (variable (sheet_of bs) v).head.box
-    place-low = omega (arith, owned.last-is, owned.first-is, O.from, O.below_next)
+    place-low = omega (arith, owned.last-is, owned.first_is, O.from, O.below_next)
 
     pub owned-element : (z : List Int) → PointAt bs (get_or tab v 0) place z → ElementIs bs v e z
     owned-element z at = record {
@@ -71,6 +71,6 @@ module _ (bs tab : List ℕ) (F : Formed bs tab) (e : ℕ) where
       in-box = point-inside bs tab v place owned place-low z at;
       number =
           let i = index-point_at (variable (sheet_of bs) v).head.box place place-low in
-          rw (point_at_lem bs tab v place owned place-low z at) (omega (arith, i, owned.first-is, O.from));
+          rw (point_at_lem bs tab v place owned place-low z at) (omega (arith, i, owned.first_is, O.from));
       rest = subst (λ n. Padded n z) owned.dims-are at.rest;
     }

@@ -52,19 +52,19 @@ idle-none memo h m is = let c : busy_one (code_at memo m) ≡ 1 = ap busy_one is
 -- ---- an entry that is stored
 
 module _ (s : Sheet) (memo : Memo) (M : Ready s memo) (e c : ℕ) (x : ℤ) (lt : e < total s) where
-  pub in-codes : e < length memo.codes
-  in-codes = omega (arith, M.few, M.codes-long)
+  pub in_codes : e < length memo.codes
+  in_codes = omega (arith, M.few, M.codes_long)
 
   pub ready-noted : c ≤ unknown → (4 < c → Bodied s (element_at s e)) → Ready s (noted memo e c x)
   ready-noted small body = record {
-    codes-long = simp length-set M.codes-long;
-    values-long = simp length-set M.values-long;
+    codes_long = simp length-set M.codes_long;
+    values_long = simp length-set M.values_long;
     few = M.few;
     low = λ m. decide m e (ℕ_discrete m e)
-        (λ same. rw (same, code_same memo e c x in-codes) small)
+        (λ same. rw (same, code_same memo e c x in_codes) small)
         (λ other. rw (code_other memo e c x m other) (M.low m));
     opens = λ m h u. decide m e (ℕ_discrete m e)
-        (λ same. rw same (body (rw (same, code_same memo e c x in-codes) at u)))
+        (λ same. rw same (body (rw (same, code_same memo e c x in_codes) at u)))
         (λ other. M.opens m h (rw (code_other memo e c x m other) at u));
   }
 
@@ -86,14 +86,14 @@ module _ (s : Sheet) (memo : Memo) (M : Ready s memo) (stack : List ℕ) (high :
 
     starts : (ins : List ℤ) → outcomes s ins 0 (standing stack j) ≡ loop
     starts ins =
-        outcome-none s ins (element_at s (standing stack j)).who (element_at s (standing stack j)).at body-there.domain body-there.no-input
+        outcome-none s ins (element_at s (standing stack j)).who (element_at s (standing stack j)).at body-there.domain body-there.no_input
 
     steps : (ins : List ℤ) (k : ℕ) → outcomes s ins (suc k) (standing stack j) ≡ body_of s (standing stack j) ins k
     steps ins k =
-        outcome-body s ins (element_at s (standing stack j)).who (element_at s (standing stack j)).at body-there.domain body-there.no-input k
+        outcome-body s ins (element_at s (standing stack j)).who (element_at s (standing stack j)).at body-there.domain body-there.no_input k
 
   pub high-few : high ≤ 4096
-  high-few = omega (arith, St.height, M.codes-long, marks-few memo.codes)
+  high-few = omega (arith, St.height, M.codes_long, marks-few memo.codes)
 
   pub top-element : top < total s
   top-element = St.element (high - 1) (omega (arith, Top.some))
@@ -125,10 +125,10 @@ module _ (s : Sheet) (memo : Memo) (M : Ready s memo) (stack : List ℕ) (high :
     ready-last = ready-kept s memo last M D.kept
 
     codes-last : length last.codes ≡ 4096
-    codes-last = ready-last.codes-long
+    codes-last = ready-last.codes_long
 
     in-last : (m : ℕ) → m < total s → m < length last.codes
-    in-last m h = in-codes s last ready-last m 0 (pos 0) h
+    in-last m h = in_codes s last ready-last m 0 (pos 0) h
 
     still : (j : ℕ) → j < high → code_at last (standing stack j) ≡ busy
     still j h = D.kept.still (standing stack j) (St.marked j h)
@@ -364,9 +364,9 @@ module _ (s : Sheet) (e : ℕ) (memo : Memo) (M : Ready s memo) (A : Alone s mem
       ready = ready-noted s memo M e busy (pos 0) A.element (omega arith) (λ l. M.opens e A.element (omega (arith, fresh)));
       stacked = record {
         sized = simp length-set sized;
-        height = omega (arith, sum-store busy_one memo e unknown busy (pos 0) (in-codes s memo M e busy (pos 0) A.element) fresh, A.idle);
+        height = omega (arith, sum-store busy_one memo e unknown busy (pos 0) (in_codes s memo M e busy (pos 0) A.element) fresh, A.idle);
         element = λ j h. rw (only stack sized j h) A.element;
-        marked = λ j h. rw (only stack sized j h) (code_same memo e busy (pos 0) (in-codes s memo M e busy (pos 0) A.element));
+        marked = λ j h. rw (only stack sized j h) (code_same memo e busy (pos 0) (in_codes s memo M e busy (pos 0) A.element));
         found = λ m h b. decide m e (ℕ_discrete m e)
             (λ same. (0, omega arith, only stack sized 0 (omega arith) ∙ sym same))
             (λ other. absurd (idle-none memo A.idle m (sym (code_other memo e busy (pos 0) m other) ∙ b)));

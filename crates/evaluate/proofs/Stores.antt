@@ -164,19 +164,19 @@ module _ (out : Elements) (grows : (m : ℕ) → Grows (element out m)) (n : ℕ
   -- a store at e, where nothing was settled
   module _ (memo : Memo) (S : Sized n memo) (R : Right out n memo) (e old c : ℕ) (x : ℤ) (lt : e < n) (is : code_at memo e ≡ old)
       (un : settled_one old ≡ 0) where
-    in-codes : e < length memo.codes
-    in-codes = omega (arith, S.room)
+    in_codes : e < length memo.codes
+    in_codes = omega (arith, S.room)
 
-    in-values : e < length memo.values
-    in-values = omega (arith, S.room, S.pairs)
+    in_values : e < length memo.values
+    in_values = omega (arith, S.room, S.pairs)
 
     count-more : count memo ≤ count (noted memo e c x)
-    count-more = omega (arith, sum-store settled_one memo e old c x in-codes is, un)
+    count-more = omega (arith, sum-store settled_one memo e old c x in_codes is, un)
 
     pub right-set : (c ≤ 4 → Tells (element out e) (count (noted memo e c x)) (decoded c x)) → Right out n (noted memo e c x)
     right-set p = record {
       settled = λ m h s. decide m e (ℕ_discrete m e)
-          (λ same. rw (same, code_same memo e c x in-codes, value_same memo e c x in-values) (p (rw (same, code_same memo e c x in-codes) at s)))
+          (λ same. rw (same, code_same memo e c x in_codes, value_same memo e c x in_values) (p (rw (same, code_same memo e c x in_codes) at s)))
           (λ other.
           let code = code_other memo e c x m other in
           rw (code, value-other memo e c x m other)

@@ -392,9 +392,9 @@ module _ (bs : List ℕ) (p : ℕ) (z : List Int) where
 
   -- ---- a case
 
-  module _ (left : ℕ) (class-is : class_at bs p ≡ Case) (place : ℕ) (C : Chooses bs p left z place) where
+  module _ (left : ℕ) (class_is : class_at bs p ≡ Case) (place : ℕ) (C : Chooses bs p left z place) where
     here-case : (e : Expr) (q : ℕ) → At e (vars_of bs) bs p q → KaseAt e (vars_of bs) bs p q
-    here-case e q h = case_at bs e p q h class-is
+    here-case e q h = case_at bs e p q h class_is
 
     taken : (e : Expr) (q n : ℕ) (h : At e (vars_of bs) bs p q) → fits e (heads_of bs) n ≡ true → Taken bs (here-case e q h).branches n z place
     taken e q n h f = let x = here-case e q h in C.says x.branches q n (rw x.is at h) (rw x.is at f)
@@ -417,8 +417,8 @@ module _ (bs : List ℕ) (p : ℕ) (z : List Int) where
 
   pub restriction-way : class_at bs p ≡ Restriction → (k : ℕ) → k ≡ node_end (vars_of bs) bs p → (memo last : Memo) (r : Worked) →
       EvaluatesAt bs k z memo last r → EvaluatesAt bs p z memo last r
-  restriction-way class-is k next memo last r R e q n h f =
-      let x = restriction-at bs e p q h class-is in
+  restriction-way class_is k next memo last r R e q n h f =
+      let x = restriction-at bs e p q h class_is in
       let y = point_of n z in
       let E =
       R x.child q n (after-node x.child k q next x.below)
@@ -433,8 +433,8 @@ module _ (bs : List ℕ) (p : ℕ) (z : List Int) where
 
   pub image-way : class_at bs p ≡ Dependence → (k : ℕ) → k ≡ node_end (vars_of bs) bs p → (y : List Int) → ImageAt bs (p + 8) z y →
       (memo last : Memo) (r : Worked) → EvaluatesAt bs k y memo last r → EvaluatesAt bs p z memo last r
-  image-way class-is k next y i memo last r R e q n h f =
-      let x = dependence-at bs e p q h class-is in
+  image-way class_is k next y i memo last r R e q n h f =
+      let x = dependence-at bs e p q h class_is in
       let m = i.map in
       let map_is = i.read.is x.by x.fields.next x.fields.read in
       let cols = eqb-true x.by.cols n (&&-left (eqb x.by.cols n) (fits x.child (heads_of bs) (length x.by.rows)) (parts x)) in

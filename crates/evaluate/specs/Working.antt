@@ -55,13 +55,13 @@ expression s ins e z k = eval e s (outcome k s ins) z
 pub record Bodied (s : Sheet) (e : Element) : Type 0 where
   pub known : e.who < length s
   pub domain : in_domain (variable s e.who) e.at ≡ true
-  pub no-input : is_input (variable s e.who) ≡ false
+  pub no_input : is_input (variable s e.who) ≡ false
   pub clear : standing (variable s e.who).body s e.at ≡ Holds
 
 -- a memo to work with: 4,096 entries, in which each element that is not settled has a body
 pub record Ready (s : Sheet) (memo : Memo) : Type 0 where
-  pub codes-long : length memo.codes ≡ 4096
-  pub values-long : length memo.values ≡ 4096
+  pub codes_long : length memo.codes ≡ 4096
+  pub values_long : length memo.values ≡ 4096
   pub few : total s ≤ 4096
   pub low : (m : ℕ) → code_at memo m ≤ unknown
   pub opens : (m : ℕ) → m < total s → 4 < code_at memo m → Bodied s (element_at s m)
@@ -102,13 +102,13 @@ TakenApart r NoValue = (x : Int) → r ≡ Done (Outcomes.Value x) → ⊥
 pub record Setting (bs tab inside ends : List ℕ) (memo : Memo) : Type 0 where
   pub formed : Formed bs tab
   pub inside_is : Inside (sheet_of bs) inside
-  pub ends-kept : EndsKept bs ends
+  pub ends_kept : EndsKept bs ends
   pub ready : Ready (sheet_of bs) memo
 
 -- of the place and the point, besides that a tree holds there: that its node is of a class,
 pub record HeldAs (class : Class) (bs : List ℕ) (p left : ℕ) (z : List Int) : Type 0 where
   pub held : Held bs p left z
-  pub class-is : class_at bs p ≡ class
+  pub class_is : class_at bs p ≡ class
 
 -- a leaf of that kind,
 pub record HeldLeaf (kind : LeafKind) (bs : List ℕ) (p left : ℕ) (z : List Int) : Type 0 where

@@ -61,21 +61,21 @@ module _ (bs : List ℕ) where
       let new : h.new ≡ hs = sym h.is in
       let long : length hs ≡ v = ap length h.is ∙ h.many in
       record {
-        heads-count = rw long a.what.field_is;
+        heads_count = rw long a.what.field_is;
         some = omega (arith, a.what.low);
         few = omega (arith, a.what.high);
-        heads-stand = rw (new, a.next) at h.stand;
+        heads_stand = rw (new, a.next) at h.stand;
         small = rw (new, zero-add (points_of hs)) at (h.small (omega arith));
-        declared-count = rw d.many b.what.field_is;
-        few-declared = omega (arith, d.many, b.what.high);
-        declared-stand = rw b.next at d.row;
+        declared_count = rw d.many b.what.field_is;
+        few_declared = omega (arith, d.many, b.what.high);
+        declared_stand = rw b.next at d.row;
         node-count = m.what.field_is;
-        few-nodes = m.what.high;
-        first-is = m.next;
-        first-there = omega (arith, m.next, m.what.there);
+        few_nodes = m.what.high;
+        first_is = m.next;
+        first_there = omega (arith, m.next, m.what.there);
         listed = ns;
-        listed-count = l.many;
-        nodes-stand = rw end at l.row;
+        listed_count = l.many;
+        nodes_stand = rw end at l.row;
       })))))))
 
 -- the sheet was short enough, and had its sections
@@ -128,19 +128,19 @@ module _ (r : Raw) (bs : List ℕ) where
 
   -- the variables of s have the records hs, and their bodies stand from p on
   pub record BodiesRead (hs : List Head) (v p m : ℕ) (s : Sheet) : Type 0 where
-    pub heads-are : map (λ x. x.head) s ≡ hs
+    pub heads_are : map (λ x. x.head) s ≡ hs
     pub stand : BodiesAt s r bs v p m
 
   pub bodies-tell : (hs : List Head) (v p m : ℕ) → Tells (BodiesRead hs v p m) (bodies r bs hs v p m)
   unfolding bodies BodiesAt
-  bodies-tell [] v p zero = record { heads-are = refl; stand = refl }
+  bodies-tell [] v p zero = record { heads_are = refl; stand = refl }
   bodies-tell [] v p (suc m) = tt
   bodies-tell (h ∷ hs) v p m =
       next-tells (λ b. BodyAt h.kind r bs (made h v p b) p m b.left) (BodiesRead (h ∷ hs) v p m) (body_of h.kind v h r.heads bs p m) _ (body-tells h v p m h.kind) (λ b a.
       next-tells (BodiesRead hs (suc v) b.next b.left) (BodiesRead (h ∷ hs) v p m) (bodies r bs hs (suc v) b.next b.left) _ (bodies-tell hs (suc v) b.next b.left) (λ s t.
       record {
-        heads-are = ap (λ l. h ∷ l) t.heads-are;
-        stand = record { declared-is = refl; start_is = refl; left = b.left; body-at = a; after = t.stand };
+        heads_are = ap (λ l. h ∷ l) t.heads_are;
+        stand = record { declared_is = refl; start_is = refl; left = b.left; body-at = a; after = t.stand };
       }))
 
   pub bodies-read : {hs : List Head} {v p m : ℕ} {s : Sheet} → bodies r bs hs v p m ≡ accepted s → BodiesRead hs v p m s

@@ -122,7 +122,7 @@ module _ (bs : List ℕ) (r : Raw) where
   accepted-from sh s b t c f = record {
     short = sh.short;
     parts = sh.parts;
-    heads-are = b.heads-are;
+    heads_are = b.heads_are;
     stand = b.stand;
     types = t;
     reaches = c;
@@ -164,9 +164,9 @@ unfolding after_read
 found bs s (got r q) e f = record { raw = r; end = q; read_is = e; holds-all = subst (Tells (Accepted bs r)) f (checked-tells bs r (read-says e)) }
 found bs s (bad n q) e f = let z : ◌≡◌ {A = ℕ} 0 1 = cc in absurd (omega arith)
 
-pub check-accepts : {bs : List ℕ} {s : Sheet} → check bs ≡ accepted s → Found bs s
+pub check_accepts : {bs : List ℕ} {s : Sheet} → check bs ≡ accepted s → Found bs s
 unfolding check
-check-accepts {bs} {s} e = found bs s (read bs) refl e
+check_accepts {bs} {s} e = found bs s (read bs) refl e
 
 -- ---- what follows for each variable
 
@@ -181,7 +181,7 @@ heads_at-each P bs f (x ∷ hs) earlier p q h (suc i) lt d = heads_at-each P bs 
 -- the tree of variable v's body
 pub record BodyOf (bs : List ℕ) (r : Raw) (s : Sheet) (v : ℕ) : Type 0 where
   pub at : At (variable s v).body (length s) bs (variable s v).start (variable s v).end
-  pub few-nodes : node_count (variable s v).body ≤ r.nodes
+  pub few_nodes : node_count (variable s v).body ≤ r.nodes
   pub deep : depth (variable s v).body ≤ 32
   pub fitting : fits (variable s v).body r.heads (length (variable s v).head.box) ≡ true
 
@@ -219,13 +219,13 @@ points_of-total (x ∷ s) = rw (points_of-total s)
 
 module _ {bs : List ℕ} {r : Raw} {s : Sheet} (a : Accepted bs r s) where
   pub accepted-length : length s ≡ length r.heads
-  accepted-length = sym (length-map s (λ x. x.head)) ∙ ap length a.heads-are
+  accepted-length = sym (length-map s (λ x. x.head)) ∙ ap length a.heads_are
 
   pub accepted-total : total s ≤ 4096
-  accepted-total = rw (← points_of-total s, a.heads-are) a.parts.small
+  accepted-total = rw (← points_of-total s, a.heads_are) a.parts.small
 
   pub accepted-head : (v : ℕ) → (variable s v).head ≡ get_or r.heads v no_head
-  accepted-head v = sym (get_or-map (λ x. x.head) s v no_variable) ∙ ap (λ l. get_or l v no_head) a.heads-are
+  accepted-head v = sym (get_or-map (λ x. x.head) s v no_variable) ∙ ap (λ l. get_or l v no_head) a.heads_are
 
   pub accepted-dimension : (v : ℕ) → length (variable s v).head.box ≡ dimension r.heads v
   accepted-dimension v = ap (λ h. length h.box) (accepted-head v)
@@ -237,10 +237,10 @@ module _ {bs : List ℕ} {r : Raw} {s : Sheet} (a : Accepted bs r s) where
     pub accepted-few : length (variable s v).head.box ≤ 4
     accepted-few =
         rw (accepted-head v)
-        (heads_at-each (λ h. length h.box ≤ 4) bs (λ e p h k. k.dim.high) r.heads [] 8 r.second a.parts.heads-stand v in-heads no_head)
+        (heads_at-each (λ h. length h.box ≤ 4) bs (λ e p h k. k.dim.high) r.heads [] 8 r.second a.parts.heads_stand v in-heads no_head)
 
     pub accepted-body : is_input (variable s v) ≡ false → BodyOf bs r s v
     accepted-body i =
         let t = bodies_at-tree r bs s 0 r.first r.nodes a.stand v lt i in
         let k = t.stands in
-        record { at = rw accepted-length k.at; few-nodes = omega (arith, t.fewer, k.count); deep = k.deep; fitting = k.fitting }
+        record { at = rw accepted-length k.at; few_nodes = omega (arith, t.fewer, k.count); deep = k.deep; fitting = k.fitting }

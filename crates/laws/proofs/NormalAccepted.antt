@@ -81,7 +81,7 @@ ready-by-index hs s (x ∷ xs) f = (f 0 (omega arith), ready-by-index hs s xs (�
 bodies_at-declared : (r : Raw) (bs : List ℕ) (s : Sheet) (v p m : ℕ) → BodiesAt s r bs v p m → DeclaredAre r.decls s v
 unfolding BodiesAt
 bodies_at-declared r bs [] v p m h = tt
-bodies_at-declared r bs (x ∷ s) v p m h = (h.declared-is, bodies_at-declared r bs s (suc v) x.end h.left h.after)
+bodies_at-declared r bs (x ∷ s) v p m h = (h.declared_is, bodies_at-declared r bs s (suc v) x.end h.left h.after)
 
 -- ---- every body can be written and read back
 
@@ -171,7 +171,7 @@ module _ {bs : List ℕ} {r : Raw} {s : Sheet} (a : Accepted bs r s) where
 stands-middle : (xs l ys : List ℕ) (n : ℕ) → length xs ≡ n → Stands l (xs ++ (l ++ ys)) n
 stands-middle xs l ys n e = record {
   there = omega (arith, length-append xs (l ++ ys), length-append l ys);
-  byte-is = λ i lt. rw (← e) (get_or-append-add xs (l ++ ys) i 0 ∙ get_or-append l ys 0 i lt);
+  byte_is = λ i lt. rw (← e) (get_or-append-add xs (l ++ ys) i 0 ∙ get_or-append l ys 0 i lt);
 }
 
 pub rewritten-length : (s xs : Sheet) (p : ℕ) → length (rewritten s xs p) ≡ length xs
@@ -198,7 +198,7 @@ module _ {bs : List ℕ} {r : Raw} {s : Sheet} (a : Accepted bs r s) where
     out = take r.third bs ++ nat w.nodes ++ w.out
 
     third-there : r.third + 8 ≤ length bs
-    third-there = omega (arith, a.parts.first-is, a.parts.first-there)
+    third-there = omega (arith, a.parts.first_is, a.parts.first_there)
 
     pub front : length (take r.third bs) ≡ r.third
     front = length-take-le r.third bs (omega (arith, third-there))
@@ -207,7 +207,7 @@ module _ {bs : List ℕ} {r : Raw} {s : Sheet} (a : Accepted bs r s) where
     bodies-stand =
         let xs = take r.third bs ++ nat w.nodes in
         let long : length xs ≡ r.third + 8 = length-append (take r.third bs) (nat w.nodes) ∙ omega (arith, front, length-bytes_of 8 w.nodes) in
-        subst (λ l. Stands (body_bytes s s) (xs ++ l) (r.third + 8)) (append-nil (body_bytes s s) ∙ sym h.out-is) (stands-middle xs (body_bytes s s) [] (r.third + 8) long)
+        subst (λ l. Stands (body_bytes s s) (xs ++ l) (r.third + 8)) (append-nil (body_bytes s s) ∙ sym h.out_is) (stands-middle xs (body_bytes s s) [] (r.third + 8) long)
 
     count-stands : Stands (nat w.nodes) (take r.third bs ++ nat w.nodes ++ w.out) r.third
     count-stands = rw (append_assoc (take r.third bs) (nat w.nodes) w.out) (stands-middle (take r.third bs) (nat w.nodes) w.out r.third front)
@@ -219,17 +219,17 @@ module _ {bs : List ℕ} {r : Raw} {s : Sheet} (a : Accepted bs r s) where
     few-heads = omega (arith, a.parts.few)
 
     nodes-is : w.nodes ≡ body_nodes s s
-    nodes-is = h.nodes-are ∙ zero-add (body_nodes s s)
+    nodes-is = h.nodes_are ∙ zero-add (body_nodes s s)
 
-    out-length : r.third + 8 + length (body_bytes s s) ≡ length (take r.third bs ++ nat w.nodes ++ w.out)
-    out-length =
+    out_length : r.third + 8 + length (body_bytes s s) ≡ length (take r.third bs ++ nat w.nodes ++ w.out)
+    out_length =
         omega (
           arith,
           length-append (take r.third bs ++ nat w.nodes) w.out,
           length-append (take r.third bs) (nat w.nodes),
           front,
           length-bytes_of 8 w.nodes,
-          ap length h.out-is,
+          ap length h.out_is,
         )
 
     pub read_out : read (take r.third bs ++ nat w.nodes ++ w.out) ≡ got again (length (take r.third bs ++ nat w.nodes ++ w.out))
@@ -237,14 +237,14 @@ module _ {bs : List ℕ} {r : Raw} {s : Sheet} (a : Accepted bs r s) where
         let b = nodes-back again out s few-heads s (r.third + 8) all-ready bodies-stand in
         read_again bs r a.parts out w.nodes b.listed
         (rw (append_assoc (take r.third bs) (nat w.nodes) w.out) (agree-take r.third bs (nat w.nodes ++ w.out) (omega (arith, third-there))))
-        count-stands (h.few-nodes (omega arith)) (b.many ∙ sym nodes-is) (rw out-length at b.row)
-        (omega (arith, out-length, ap length h.out-is, h.few_bytes (omega (arith, third-there, a.short))))
+        count-stands (h.few_nodes (omega arith)) (b.many ∙ sym nodes-is) (rw out_length at b.row)
+        (omega (arith, out_length, ap length h.out_is, h.few_bytes (omega (arith, third-there, a.short))))
 
     bodies-out : bodies again (take r.third bs ++ nat w.nodes ++ w.out) r.heads 0 (r.third + 8) w.nodes ≡ accepted (rewritten s s (r.third + 8))
     bodies-out =
         let t = accepted (rewritten s s (r.third + 8)) in
         let are = bodies_at-declared r bs s 0 r.first r.nodes a.stand in
-        subst (λ hs. bodies again out hs 0 (r.third + 8) w.nodes ≡ t) a.heads-are
+        subst (λ hs. bodies again out hs 0 (r.third + 8) w.nodes ≡ t) a.heads_are
         (subst (λ n. bodies again out (map (λ x. x.head) s) 0 (r.third + 8) n ≡ t) (sym nodes-is)
         (bodies-back again out s few-heads s 0 (r.third + 8) all-ready are bodies-stand))
 

@@ -40,10 +40,10 @@ all-by-item P (a ∷ l) d h = (h 0 (omega arith), all-by-item P l d (λ i lt. h 
 row_ok : {n : ℕ} {bs : List ℕ} {p : ℕ} (w : Row) → RowAt n bs p w → RowOk n w
 row_ok {n} {bs} {p} w h = record {
   width = h.width;
-  coefs-small = all-by-item (λ x. nat_abs x ≤ 2 ^ 40) w.coefs (pos 0) (λ i lt.
+  coefs_small = all-by-item (λ x. nat_abs x ≤ 2 ^ 40) w.coefs (pos 0) (λ i lt.
       let l : i < n = omega (arith, h.width) in
       rw (h.coef i l) (h.coef-small i l));
-  const-small = rw h.constant h.constant-small;
+  const_small = rw h.constant h.constant-small;
 }
 
 no_row : Row
@@ -138,7 +138,7 @@ small-each (c ∷ cs) h = (omega arith, small-each cs (omega arith))
 row_within : (n r : ℕ) (w : Row) → length w.coefs ≡ n → 1 ≤ r → row_reach r w ≤ limit → RowOk n w
 row_within n r w l low h =
     let k = row_small r w low h in
-    record { width = l; coefs-small = small-each w.coefs k.0; const-small = k.1 }
+    record { width = l; coefs_small = small-each w.coefs k.0; const_small = k.1 }
 
 rows-within : (n r : ℕ) (ws : List Row) → RowsWide n ws → 1 ≤ r → map_reach r ws ≤ limit → All (RowOk n) ws
 rows-within n r [] w low h = tt

@@ -41,15 +41,15 @@ AllKept s (x ∷ xs) = (is_input x ≡ false → Kept s x) × AllKept s xs
 
 -- after the variables xs, from w on
 pub record Wrote (s : Sheet) (front : ℕ) (xs : Sheet) (w v : Body) : Type 0 where
-  pub out-is : v.out ≡ w.out ++ body_bytes s xs
-  pub nodes-are : v.nodes ≡ w.nodes + body_nodes s xs
+  pub out_is : v.out ≡ w.out ++ body_bytes s xs
+  pub nodes_are : v.nodes ≡ w.nodes + body_nodes s xs
   pub kept : AllKept s xs
-  pub few-nodes : w.nodes ≤ 2048 → v.nodes ≤ 2048
+  pub few_nodes : w.nodes ≤ 2048 → v.nodes ≤ 2048
   pub few_bytes : front + length w.out ≤ 65536 → front + length v.out ≤ 65536
 
 -- the five limits, taken apart
 pub record Limits (bs : List Branch) (e : Expr) (nodes bytes : ℕ) : Type 0 where
-  pub nodes-low : nodes ≤ 2048
+  pub nodes_low : nodes ≤ 2048
   pub branches-low : length bs ≤ 64
   pub tight : narrow bs ≡ true
   pub deep-low : depth e ≤ 32
@@ -66,7 +66,7 @@ limits bs e nodes bytes h =
     let abc = &&-left (a && b && c) d abcd in
     let ab = &&-left (a && b) c abc in
     record {
-      nodes-low = leb-true nodes 2048 (&&-left a b ab);
+      nodes_low = leb-true nodes 2048 (&&-left a b ab);
       branches-low = leb-true (length bs) 64 (&&-right a b ab);
       tight = &&-right (a && b) c abc;
       deep-low = leb-true (depth e) 32 (&&-right (a && b && c) d abcd);
@@ -79,25 +79,25 @@ module _ (s : Sheet) (front : ℕ) where
       Limits (branches_of s x) (normal_body s x) (w.nodes + node_count (normal_body s x)) (front + length (w.out ++ bytes (normal_body s x))) →
       Wrote s front xs (written w (normal_body s x)) v → Wrote s front (x ∷ xs) w v
   one-body x xs w v i l h = record {
-    out-is = rw i (h.out-is ∙ append_assoc w.out (bytes (normal_body s x)) (body_bytes s xs));
-    nodes-are = rw i (omega (arith, h.nodes-are));
+    out_is = rw i (h.out_is ∙ append_assoc w.out (bytes (normal_body s x)) (body_bytes s xs));
+    nodes_are = rw i (omega (arith, h.nodes_are));
     kept = (λ _. record { few-branches = l.branches-low; narrow-branches = l.tight; deep = l.deep-low }, h.kept);
-    few-nodes = λ _. h.few-nodes l.nodes-low;
+    few_nodes = λ _. h.few_nodes l.nodes_low;
     few_bytes = λ _. h.few_bytes l.bytes_low;
   }
 
   no_body : (x : Variable) (xs : Sheet) (w v : Body) → is_input x ≡ true → Wrote s front xs w v → Wrote s front (x ∷ xs) w v
   no_body x xs w v i h = record {
-    out-is = rw i h.out-is;
-    nodes-are = rw i h.nodes-are;
+    out_is = rw i h.out_is;
+    nodes_are = rw i h.nodes_are;
     kept = (λ k. true-not-false i k, h.kept);
-    few-nodes = h.few-nodes;
+    few_nodes = h.few_nodes;
     few_bytes = h.few_bytes;
   }
 
   write-tells : (n : ℕ) (xs : Sheet) (w : Body) → Tells (Wrote s front xs w) (write_bodies s front n xs w)
   unfolding write_bodies
-  write-tells n [] w = record { out-is = sym (append-nil w.out); nodes-are = sym (add-zero w.nodes); kept = tt; few-nodes = λ h. h; few_bytes = λ h. h }
+  write-tells n [] w = record { out_is = sym (append-nil w.out); nodes_are = sym (add-zero w.nodes); kept = tt; few_nodes = λ h. h; few_bytes = λ h. h }
   write-tells n (x ∷ xs) w = go (is_input x) refl (write-tells (suc n) xs w) (write-tells (suc n) xs (written w (normal_body s x)))
     where
       inner : (t : Bool) → keeps_limits (branches_of s x) (normal_body s x) (w.nodes + node_count (normal_body s x)) (front + length (w.out ++ bytes (normal_body s x))) ≡ t →

@@ -41,12 +41,12 @@ module _ (bs : List ℕ) (r : Raw) (s : Sections bs r) (cs : List ℕ) (n : ℕ)
   declared-again : Again (repeat (length r.decls) (declared r.heads)) bs cs (r.second + 8) r.decls r.third
   declared-again =
       local-repeat bs cs (length r.decls) (declared r.heads) (local-declared bs cs r.heads) (r.second + 8) r.decls r.third
-      (row-repeat (declared r.heads) bs r.decls (r.second + 8) r.third s.declared-stand)
+      (row-repeat (declared r.heads) bs r.decls (r.second + 8) r.third s.declared_stand)
 
   heads-again : Again (heads (length r.heads) [] 0) bs cs 8 r.heads r.second
   heads-again =
       local-heads bs cs (length r.heads) [] 0 8 r.heads r.second
-      (heads_at-got r.heads [] 0 bs 8 r.second s.heads-stand (omega (arith, s.small)))
+      (heads_at-got r.heads [] 0 bs 8 r.second s.heads_stand (omega (arith, s.small)))
 
   -- a field before the third section
   field-again : (p : ℕ) → p + 8 ≤ r.third → (p + 8 ≤ length cs) × (field cs p ≡ field bs p)
@@ -59,9 +59,9 @@ module _ (bs : List ℕ) (r : Raw) (s : Sections bs r) (cs : List ℕ) (n : ℕ)
       let l₂ = declared-again.onward in
       let f₁ = field-again 0 (omega arith) in
       let f₂ = field-again r.second (omega arith) in
-      let e₁ : count 1 32 cs 0 ≡ got (length r.heads) 8 = count-known 1 32 (length r.heads) cs 0 f₁.0 (f₁.1 ∙ s.heads-count) s.some s.few in
+      let e₁ : count 1 32 cs 0 ≡ got (length r.heads) 8 = count-known 1 32 (length r.heads) cs 0 f₁.0 (f₁.1 ∙ s.heads_count) s.some s.few in
       let e₂ = heads-again.again (agree_less r.second (omega arith) alike) in
-      let e₃ = count-known 0 256 (length r.decls) cs r.second f₂.0 (f₂.1 ∙ s.declared-count) (omega arith) s.few-declared in
+      let e₃ = count-known 0 256 (length r.decls) cs r.second f₂.0 (f₂.1 ∙ s.declared_count) (omega arith) s.few_declared in
       let e₄ = declared-again.again alike in
       let e₅ = count-got 0 2048 n cs r.third (omega arith) few (omega arith) counted in
       let e₆ = subst (λ m. repeat m (node (length r.heads)) cs (r.third + 8) ≡ got ns (length cs)) many

@@ -22,27 +22,27 @@ use Rattle.laws.proofs.Nodes.{Restricts, Depends, NodeAt, node_at, node-size, no
 
 module _ (vars : ℕ) (bs : List ℕ) where
   -- the first node of a tree, and its next place
-  first-node : (e : Expr) (p q : ℕ) → At e vars bs p q → (r : ℕ) × (node vars bs p ≡ got (node_of e) r)
+  first_node : (e : Expr) (p q : ℕ) → At e vars bs p q → (r : ℕ) × (node vars bs p ≡ got (node_of e) r)
   unfolding At
-  first-node (var v) p q h = (q, h)
-  first-node (int c) p q h = (q, h)
-  first-node (boo b) p q h = (q, h)
-  first-node (un o a) p q h = (h.next, h.here)
-  first-node (bin o a b) p q h = (h.next, h.here)
-  first-node (ite a b c) p q h = (h.next, h.here)
-  first-node (kase es) p q h = (h.next, h.here)
-  first-node (restr d cs a) p q h = (h.next, h.here)
-  first-node (dep f a) p q h = (h.next, h.here)
+  first_node (var v) p q h = (q, h)
+  first_node (int c) p q h = (q, h)
+  first_node (boo b) p q h = (q, h)
+  first_node (un o a) p q h = (h.next, h.here)
+  first_node (bin o a b) p q h = (h.next, h.here)
+  first_node (ite a b c) p q h = (h.next, h.here)
+  first_node (kase es) p q h = (h.next, h.here)
+  first_node (restr d cs a) p q h = (h.next, h.here)
+  first_node (dep f a) p q h = (h.next, h.here)
 
   pub at-node : (e : Expr) (p q : ℕ) → At e vars bs p q → NodeAt vars bs p (node_of e)
-  at-node e p q h = let n = first-node e p q h in node_at vars bs p (node_of e) n.0 n.1
+  at-node e p q h = let n = first_node e p q h in node_at vars bs p (node_of e) n.0 n.1
 
   pub at-got : (e : Expr) (p q : ℕ) → At e vars bs p q → node vars bs p ≡ got (node_of e) (node_end vars bs p)
-  at-got e p q h = let n = first-node e p q h in n.1 ∙ ap (got (node_of e)) (sym (node_end_lem vars bs p (node_of e) n.0 n.1))
+  at-got e p q h = let n = first_node e p q h in n.1 ∙ ap (got (node_of e)) (sym (node_end_lem vars bs p (node_of e) n.0 n.1))
 
   -- the node that is read there is the tree's first
   pub at_read : (e : Expr) (p q : ℕ) → At e vars bs p q → node_read vars bs p ≡ node_of e
-  at_read e p q h = let n = first-node e p q h in node-read vars bs p (node_of e) n.0 n.1
+  at_read e p q h = let n = first_node e p q h in node-read vars bs p (node_of e) n.0 n.1
 
   -- the place after it
   pub at_size : (e : Expr) (p q : ℕ) → At e vars bs p q → node_end vars bs p ≡ p + node_size (node_of e)

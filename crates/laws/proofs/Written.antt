@@ -31,15 +31,15 @@ module _ (l m bs : List ℕ) (p : ℕ) (h : Stands (l ++ m) bs p) where
   pub stands-left : Stands l bs p
   stands-left = record {
     there = omega (arith, h.there, length-append l m);
-    byte-is = λ i lt. h.byte-is i (omega (arith, length-append l m)) ∙ get_or-append l m 0 i lt;
+    byte_is = λ i lt. h.byte_is i (omega (arith, length-append l m)) ∙ get_or-append l m 0 i lt;
   }
 
   pub stands-right : Stands m bs (p + length l)
   stands-right = record {
     there = omega (arith, h.there, length-append l m);
-    byte-is = λ i lt.
+    byte_is = λ i lt.
         let on : p + length l + i ≡ p + (length l + i) = omega arith in
-        rw on (h.byte-is (length l + i) (omega (arith, length-append l m)) ∙ get_or-append-add l m i 0);
+        rw on (h.byte_is (length l + i) (omega (arith, length-append l m)) ∙ get_or-append-add l m i 0);
   }
 
 -- stored one after another
@@ -71,15 +71,15 @@ module _ (w : ℕ) (bs : List ℕ) (p : ℕ) (lt : w < 18446744073709551616) (h 
       let w₅ = w₄ / 256 in
       let w₆ = w₅ / 256 in
       let w₇ = w₆ / 256 in
-      let b₀ : byte bs p ≡ w % 256 = ap (byte bs) (sym (add-zero p)) ∙ h.byte-is 0 (omega arith) in
-      let last : byte bs (p + 7) ≡ w₇ = h.byte-is 7 (omega arith) ∙ mod-eq_of_lt (small w lt) in
+      let b₀ : byte bs p ≡ w % 256 = ap (byte bs) (sym (add-zero p)) ∙ h.byte_is 0 (omega arith) in
+      let last : byte bs (p + 7) ≡ w₇ = h.byte_is 7 (omega arith) ∙ mod-eq_of_lt (small w lt) in
       digit w _ _ b₀
-      (digit w₁ _ _ (h.byte-is 1 (omega arith))
-      (digit w₂ _ _ (h.byte-is 2 (omega arith))
-      (digit w₃ _ _ (h.byte-is 3 (omega arith))
-      (digit w₄ _ _ (h.byte-is 4 (omega arith))
-      (digit w₅ _ _ (h.byte-is 5 (omega arith))
-      (digit w₆ _ _ (h.byte-is 6 (omega arith)) last))))))
+      (digit w₁ _ _ (h.byte_is 1 (omega arith))
+      (digit w₂ _ _ (h.byte_is 2 (omega arith))
+      (digit w₃ _ _ (h.byte_is 3 (omega arith))
+      (digit w₄ _ _ (h.byte_is 4 (omega arith))
+      (digit w₅ _ _ (h.byte_is 5 (omega arith))
+      (digit w₆ _ _ (h.byte_is 6 (omega arith)) last))))))
     where
       small : (w : ℕ) → w < 18446744073709551616 → w / 256 / 256 / 256 / 256 / 256 / 256 / 256 < 256
       small w lt = omega arith
@@ -138,8 +138,8 @@ row-got n w bs p k h =
     let one : (x : ℤ) (q : ℕ) → nat_abs x ≤ 2 ^ 40 → Stands (num x) bs q → free bs q ≡ got x (q + length (num x)) =
     λ x q l t. free-got x bs q l t ∙ ap (λ m. got x (q + m)) (sym (length-num x)) in
     let coefs = subst (λ m. repeat m free bs p ≡ got w.coefs (p + length front)) k.width
-    (repeat-got (λ x. nat_abs x ≤ 2 ^ 40) num free bs one w.coefs p k.coefs-small (stands-left front (num w.const) bs p h)) in
-    let const = free-got w.const bs (p + length front) k.const-small (stands-right front (num w.const) bs p h) in
+    (repeat-got (λ x. nat_abs x ≤ 2 ^ 40) num free bs one w.coefs p k.coefs_small (stands-left front (num w.const) bs p h)) in
+    let const = free-got w.const bs (p + length front) k.const_small (stands-right front (num w.const) bs p h) in
     let end : p + length front + 8 ≡ p + length (row_bytes w) = omega (arith, length-append front (num w.const), length-num w.const) in
     rw (coefs, const, end)
 

@@ -15,21 +15,21 @@ use Rattle.laws.specs.Heads.{InRow, HeadsAt, points_of}
 
 -- the three sections stand one after another, and their counts keep the limits
 pub record Sections (bs : List ℕ) (r : Raw) : Type 0 where
-  pub heads-count : field bs 0 ≡ pos (length r.heads)
+  pub heads_count : field bs 0 ≡ pos (length r.heads)
   pub some : 1 ≤ length r.heads
   pub few : length r.heads ≤ 32
-  pub heads-stand : HeadsAt r.heads [] bs 8 r.second
+  pub heads_stand : HeadsAt r.heads [] bs 8 r.second
   pub small : points_of r.heads ≤ 4096
-  pub declared-count : field bs r.second ≡ pos (length r.decls)
-  pub few-declared : length r.decls ≤ 256
-  pub declared-stand : InRow r.decls (declared r.heads) bs (r.second + 8) r.third
+  pub declared_count : field bs r.second ≡ pos (length r.decls)
+  pub few_declared : length r.decls ≤ 256
+  pub declared_stand : InRow r.decls (declared r.heads) bs (r.second + 8) r.third
   pub node-count : field bs r.third ≡ pos r.nodes
-  pub few-nodes : r.nodes ≤ 2048
-  pub first-is : r.first ≡ r.third + 8
-  pub first-there : r.first ≤ length bs
+  pub few_nodes : r.nodes ≤ 2048
+  pub first_is : r.first ≡ r.third + 8
+  pub first_there : r.first ≤ length bs
   pub listed : List Node
-  pub listed-count : length listed ≡ r.nodes
-  pub nodes-stand : InRow listed (node (length r.heads)) bs r.first (length bs)
+  pub listed_count : length listed ≡ r.nodes
+  pub nodes_stand : InRow listed (node (length r.heads)) bs r.first (length bs)
 
 -- ---- the bodies
 
@@ -53,7 +53,7 @@ BodyAt local r bs x p m n = TreeAt r bs x p m n
 
 -- the variable x, numbered v, has its body from p on, and the others follow
 pub record VariableAt (r : Raw) (bs : List ℕ) (v : ℕ) (x : Variable) (p m : ℕ) (rest : ℕ → ℕ → Type 0) : Type 0 where
-  pub declared-is : x.declared ≡ of_variable v r.decls
+  pub declared_is : x.declared ≡ of_variable v r.decls
   pub start_is : x.start ≡ p
   pub left : ℕ
   pub body-at : BodyAt x.head.kind r bs x p m left
@@ -69,7 +69,7 @@ BodiesAt (x ∷ s) r bs v p m = VariableAt r bs v x p m (λ q n. BodiesAt s r bs
 pub record Accepted (bs : List ℕ) (r : Raw) (s : Sheet) : Type 0 where
   pub short : length bs ≤ 65536
   pub parts : Sections bs r
-  pub heads-are : map (λ x. x.head) s ≡ r.heads
+  pub heads_are : map (λ x. x.head) s ≡ r.heads
   pub stand : BodiesAt s r bs 0 r.first r.nodes
   pub types : (v : ℕ) → v < length s → typed r.heads (variable s v) ≡ true
   pub reaches : (v : ℕ) → v < length s → reached (variable s v) ≡ true

@@ -13,8 +13,8 @@ All P (a ∷ l) = P a × All P l
 -- a row of n coefficients whose numbers a free field takes
 pub record RowOk (n : ℕ) (w : Row) : Type 0 where
   pub width : length w.coefs ≡ n
-  pub coefs-small : All (λ x. nat_abs x ≤ 2 ^ 40) w.coefs
-  pub const-small : nat_abs w.const ≤ 2 ^ 40
+  pub coefs_small : All (λ x. nat_abs x ≤ 2 ^ 40) w.coefs
+  pub const_small : nat_abs w.const ≤ 2 ^ 40
 
 unfoldable mutual
   -- where there are so many variables

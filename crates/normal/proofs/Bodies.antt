@@ -248,7 +248,7 @@ module _ (bs : List ℕ) (p left n many : ℕ) (h : BodyAt bs p left n many) whe
   is_body = record { end = h.end; at = h.at; fitting = h.fitting; count = h.count }
 
   pub tree-standing : Standing (vars_of bs) bs p left
-  tree-standing = record { tree = h.tree; end = h.end; at = h.at; few = h.few; most = h.left-low }
+  tree-standing = record { tree = h.tree; end = h.end; at = h.at; few = h.few; most = h.left_low }
 
 module _ (bs : List ℕ) (p left n many b : ℕ) (h : BranchAt bs p left n many b) where
   body_is : IsBody bs p n many h.body.tree
@@ -274,8 +274,8 @@ module _ (bs : List ℕ) (p left n many b : ℕ) (h : BranchAt bs p left n many 
       bound = top_reach;
       at = h.body.at;
       few = h.body.few;
-      left-low = h.body.left-low;
-      level-low = omega (arith, h.body.left-low);
+      left_low = h.body.left_low;
+      level_low = omega (arith, h.body.left_low);
       fitting = rw high h.body.fitting;
       reaches = h.body.reaches;
       carried = record {
@@ -286,8 +286,8 @@ module _ (bs : List ℕ) (p left n many b : ℕ) (h : BranchAt bs p left n many 
       branches = h.body.count;
       low = h.body.low;
       some = h.some;
-      things-low = omega arith;
-      fits-room = subst (λ f. to + length (part_of t h.body.tree f 0 b).out ≤ room) (sym is) fits_in;
+      things_low = omega arith;
+      fits_room = subst (λ f. to + length (part_of t h.body.tree f 0 b).out ≤ room) (sym is) fits_in;
     }
 
     short : (t : Bool) → length (part_of t h.body.tree (identity n) 0 b).out ≤ 3104 * 2048
@@ -297,7 +297,7 @@ module _ (bs : List ℕ) (p left n many b : ℕ) (h : BranchAt bs p left n many 
           part-short (vars_of bs) t h.body.tree (identity n) 0 b (at-writable (vars_of bs) bs h.body.tree p h.body.end h.body.at) h.body.narrow
               (omega (arith, h.body.narrow, rows-long-are bs p n many h.body.tree body_is b h.some)) (id_rows-wide n),
           mul-le-mul_left 3104 h.body.few,
-          h.body.left-low,
+          h.body.left_low,
         )
 
     -- measured, there is always room
@@ -311,19 +311,19 @@ module _ (bs : List ℕ) (p left n many b : ℕ) (h : BranchAt bs p left n many 
         (second : Follows bs p m b many true 0 true (starting 0) none' none'' term) where
       given-pen : (e : Expr) → IsBody bs p n many e → given ≡ advance (starting 0) (given_part (branch_in bs e b).given)
       given-pen e i =
-          (first e i.end i.at i.count).pen-is
+          (first e i.end i.at i.count).pen_is
           ∙ ap (advance (starting 0)) (ap (λ f. part_of false e f 0 b) is ∙ given-part bs p n many e i b h.some)
 
       term-pen : (e : Expr) → IsBody bs p n many e → term ≡ advance (starting 0) (tree_part (branch_in bs e b).term 0)
       term-pen e i =
-          (second e i.end i.at i.count).pen-is
+          (second e i.end i.at i.count).pen_is
           ∙ ap (advance (starting 0)) (ap (λ f. part_of true e f 0 b) is ∙ tree-part bs p n many e i b h.some)
 
       pub measured-low : (given.to ≤ 3104 * 2048) × (term.to ≤ 3104 * 2048) × (term.things ≤ term.to)
       measured-low =
           let e = h.body.tree in
-          let g = (first e h.body.end h.body.at h.body.count).pen-is in
-          let t = (second e h.body.end h.body.at h.body.count).pen-is in
+          let g = (first e h.body.end h.body.at h.body.count).pen_is in
+          let t = (second e h.body.end h.body.at h.body.count).pen_is in
           let gs = ap (λ f. length (part_of false e f 0 b).out) is in
           let ts = ap (λ f. length (part_of true e f 0 b).out) is in
           let gto = ap (λ z. z.to) g in
@@ -337,7 +337,7 @@ module _ (bs : List ℕ) (p left n many b : ℕ) (h : BranchAt bs p left n many 
       unfolding node_count depth
       measured = record {
         few_bytes = omega (arith, measured-low);
-        few-nodes = omega (arith, measured-low);
+        few_nodes = omega (arith, measured-low);
         is = λ e i.
             let x = branch_in bs e b in
             let g = given-pen e i in
@@ -375,9 +375,9 @@ module _ (bs : List ℕ) (p left n many b : ℕ) (h : BranchAt bs p left n many 
 
           pub term-route : (d : List ℕ) → length d ≡ length c → Route bs p left m b many true 0 (starting given.to) (room_of false d)
           term-route d kept =
-              let to_is = ap (λ z. z.to) given-wrote.pen-is in
+              let to_is = ap (λ z. z.to) given-wrote.pen_is in
               let as_is = ap (λ f. length (part_of false h.body.tree f 0 b).out) is in
-              let long = ap length given-wrote.out-is ∙ length-sets a (to + 24) (part_of false h.body.tree (map_of m) 0 b).out in
+              let long = ap length given-wrote.out_is ∙ length-sets a (to + 24) (part_of false h.body.tree (map_of m) 0 b).out in
               start-route true given.to (room_of false d) (omega (arith, tree-room))
 
           pub branch-stored : (d u : List ℕ) (term : Pen) → a ≡ sets l to (nat 7 ++ nat n) → d ≡ sets c (to + 16) (nat given.things) →
@@ -393,18 +393,18 @@ module _ (bs : List ℕ) (p left n many b : ℕ) (h : BranchAt bs p left n many 
               let gp = ap (λ f. part_of false e f 0 b) is ∙ given-part bs p n many e i b h.some in
               let tp = ap (λ f. part_of true e f 0 b) is ∙ tree-part bs p n many e i b h.some in
               let limits : given.things ≡ length x.given =
-              ap (λ z. z.things) g.pen-is ∙ ap (λ y. 0 + y.things) gp ∙ zero-add (length x.given) in
-              let gto : given.to ≡ to + 24 + length cs = ap (λ z. z.to) g.pen-is ∙ ap (λ y. to + 24 + length y.out) gp in
-              let tto : term.to ≡ given.to + length (bytes x.term) = ap (λ z. z.to) t.pen-is ∙ ap (λ y. given.to + length y.out) tp in
-              let mid : c ≡ sets a (to + 24) cs = g.out-is ∙ ap (λ y. sets a (to + 24) y.out) gp in
-              let head-is : sets a (to + 16) k ≡ sets l to front = sets-after l to 16 (nat 7 ++ nat n) k (two-long 7 n) head refl in
+              ap (λ z. z.things) g.pen_is ∙ ap (λ y. 0 + y.things) gp ∙ zero-add (length x.given) in
+              let gto : given.to ≡ to + 24 + length cs = ap (λ z. z.to) g.pen_is ∙ ap (λ y. to + 24 + length y.out) gp in
+              let tto : term.to ≡ given.to + length (bytes x.term) = ap (λ z. z.to) t.pen_is ∙ ap (λ y. given.to + length y.out) tp in
+              let mid : c ≡ sets a (to + 24) cs = g.out_is ∙ ap (λ y. sets a (to + 24) y.out) gp in
+              let head_is : sets a (to + 16) k ≡ sets l to front = sets-after l to 16 (nat 7 ++ nat n) k (two-long 7 n) head refl in
               let number : d ≡ sets c (to + 16) k = third ∙ ap (λ j. sets c (to + 16) (nat j)) limits in
               let both-are : d ≡ sets (sets a (to + 16) k) (to + 24) cs =
               number ∙ ap (λ r. sets r (to + 16) k) mid ∙ sets-past a (to + 16) (to + 24) k cs (omega (arith, length-nat (length x.given))) in
-              let front-cs = sets-after l to 24 front cs (three-long 7 n (length x.given)) head-is both-are in
+              let front-cs = sets-after l to 24 front cs (three-long 7 n (length x.given)) head_is both-are in
               let next : given.to ≡ to + (24 + length cs) = omega arith in
               let last : u ≡ sets d (to + (24 + length cs)) (bytes x.term) =
-              t.out-is ∙ ap (λ y. sets d given.to y.out) tp ∙ ap (λ j. sets d j (bytes x.term)) next in
+              t.out_is ∙ ap (λ y. sets d given.to y.out) tp ∙ ap (λ j. sets d j (bytes x.term)) next in
               let front_long : length (front ++ cs) ≡ 24 + length cs = length-append front cs ∙ omega (arith, three-long 7 n (length x.given)) in (
                 sets-after l to (24 + length cs) (front ++ cs) (bytes x.term) front_long front-cs last,
                 omega (arith, written-long n x),
@@ -435,7 +435,7 @@ module _ (bs : List ℕ) (p n many b : ℕ) where
   pub measure-more : (sofar taken next r : Taken) → b < many → TakesBranch bs p n many b taken → next ≡ both sofar taken →
       TakesFrom bs p n many (b + 1) next r → TakesFrom bs p n many b sofar r
   measure-more sofar taken next r lt took is rest = record {
-    few = (omega (arith, rest.few, took.few_bytes, ap (λ z. z.bytes) is), omega (arith, rest.few, took.few-nodes, ap (λ z. z.nodes) is));
+    few = (omega (arith, rest.few, took.few_bytes, ap (λ z. z.bytes) is), omega (arith, rest.few, took.few_nodes, ap (λ z. z.nodes) is));
     is = λ e i.
         let t = total n (drop (b + 1) (branches_in bs e)) in
         rest.is e i ∙ ap (λ z. both z t) (is ∙ ap (both sofar) (took.is e i))

@@ -80,28 +80,28 @@ counts-more false e es = refl
 
 module _ (bs : List ℕ) (p : ℕ) where
   pub leaf-way : class_at bs p ≡ Leaf → Counts bs p 1
-  leaf-way class-is = (omega arith, λ e q at. omega (arith, leaf-count e (leaf-at bs e p q at class-is).class-is))
+  leaf-way class_is = (omega arith, λ e q at. omega (arith, leaf-count e (leaf-at bs e p q at class_is).class_is))
 
   -- the next place is k
   module _ (k : ℕ) (next : k ≡ node_end (vars_of bs) bs p) where
     pub leaf-ends : class_at bs p ≡ Leaf → EndsAt (vars_of bs) bs p k
-    leaf-ends class-is e q at = next ∙ (leaf-at bs e p q at class-is).end
+    leaf-ends class_is e q at = next ∙ (leaf-at bs e p q at class_is).end
 
     -- so many children stand there
     module _ (n r : ℕ) (many : n ≡ arity (node_read (vars_of bs) bs p)) where
       pub operator-way : class_at bs p ≡ Operator → CountsAll bs k n false 1 r → Counts bs p r
-      operator-way class-is h = (
+      operator-way class_is h = (
         h.0,
         λ e q at.
             let all = h.1 (children_of e) q (children-at (vars_of bs) bs p k n next many e q at) (children-counted (vars_of bs) bs p k n next many e q at) in
-            all ∙ ap capped (one-mul (product_of (children_of e)) ∙ sym (operator-count e (operator-at bs e p q at class-is).class-is)),
+            all ∙ ap capped (one-mul (product_of (children_of e)) ∙ sym (operator-count e (operator-at bs e p q at class_is).class_is)),
       )
 
       pub case-way : class_at bs p ≡ Case → CountsAll bs k n true 0 r → Counts bs p r
-      case-way class-is h = (
+      case-way class_is h = (
         h.0,
         λ e q at.
-            let x = case_at bs e p q at class-is in
+            let x = case_at bs e p q at class_is in
             let count : branch_count x.branches ≡ n =
             ap (λ f. branch_count (children_of f)) (sym x.is) ∙ children-counted (vars_of bs) bs p k n next many e q at in
             omega (arith, h.1 x.branches q (rw next x.below) count, case_count e x.branches x.is),
@@ -118,14 +118,14 @@ module _ (bs : List ℕ) (p : ℕ) where
 
     pub restriction-below : class_at bs p ≡ Restriction → OneBelow
     unfolding count_of
-    restriction-below class-is e q at =
-        let x = restriction-at bs e p q at class-is in
+    restriction-below class_is e q at =
+        let x = restriction-at bs e p q at class_is in
         record { child = x.child; at = rw next x.below; count = ap count_of x.is }
 
     pub dependence-below : class_at bs p ≡ Dependence → OneBelow
     unfolding count_of
-    dependence-below class-is e q at =
-        let x = dependence-at bs e p q at class-is in
+    dependence-below class_is e q at =
+        let x = dependence-at bs e p q at class_is in
         record { child = x.child; at = rw next x.below; count = ap count_of x.is }
 
     pub below-standing : (left : ℕ) → Standing (vars_of bs) bs p left → 1 ≡ arity (node_read (vars_of bs) bs p) → Standing (vars_of bs) bs k (left - 1)
@@ -197,7 +197,7 @@ module _ (bs : List ℕ) (p left many b of : ℕ) (h : ChildrenAt bs p left many
       go (more f fs) s e = omega arith
 
   pub children-standing : StandingAll (vars_of bs) bs p left many
-  children-standing = record { trees = h.trees; end = h.end; at = h.at; few = h.few; most = h.left-low; many = h.count }
+  children-standing = record { trees = h.trees; end = h.end; at = h.at; few = h.few; most = h.left_low; many = h.count }
 
   -- a branch of the first child
   picks_first : (es : Exprs) (q k : ℕ) (x : MoreAt es (vars_of bs) bs p q (many - 1)) → count_of x.first ≡ k → b < k →
@@ -249,7 +249,7 @@ module _ (bs : List ℕ) (p left many b of : ℕ) (h : ChildrenAt bs p left many
             end = h.end;
             at = rw (ends split.first split.middle split.before) split.after;
             few = omega (arith, nodes, h.few);
-            left-low = h.left-low;
+            left_low = h.left_low;
             count = split.many;
             sum = omega (arith, sum, h.sum, exact split.first split.middle split.before);
             low = omega (arith, h.low);
@@ -277,7 +277,7 @@ module _ (bs : List ℕ) (p left many b of : ℕ) (h : ChildrenAt bs p left many
 pub record Factors (x y z : ℕ) : Type 0 where
   pub left-some : 0 < x
   pub right-some : 0 < y
-  pub left-low : x ≤ z
+  pub left_low : x ≤ z
   pub right-low : y ≤ z
 
 pub factors : (x y z : ℕ) → x * y ≡ z → 0 < z → Factors x y z
@@ -287,7 +287,7 @@ factors x y z e some =
     record {
       left-some = left;
       right-some = right;
-      left-low = subst (λ i. x ≤ i) e (le-mul_of_pos_right x right);
+      left_low = subst (λ i. x ≤ i) e (le-mul_of_pos_right x right);
       right-low = subst (λ i. y ≤ i) (mul_comm y x ∙ e) (le-mul_of_pos_right y left);
     }
 
@@ -299,14 +299,14 @@ only-split e others q b of none-are product =
     record {
       ends = refl;
       first_count = sym (mul-one (count_of e)) ∙ ap (λ n. count_of e * n) (sym one) ∙ product;
-      rest-count = one;
-      first-branch = sym (ap (λ n. b / n) one ∙ div-one b);
-      rest-branch = sym (ap (λ n. b % n) one ∙ mod-one b);
+      rest_count = one;
+      first_branch = sym (ap (λ n. b / n) one ∙ div-one b);
+      rest_branch = sym (ap (λ n. b % n) one ∙ mod-one b);
     }
 
 module _ (bs : List ℕ) (p left b of : ℕ) (h : OperandAt bs p left b of) where
   pub operand-standing : Standing (vars_of bs) bs p left
-  operand-standing = record { tree = h.tree; end = h.end; at = h.at; few = h.few; most = h.left-low }
+  operand-standing = record { tree = h.tree; end = h.end; at = h.at; few = h.few; most = h.left_low }
 
   some : 0 < of
   some = omega (arith, h.some)
@@ -319,10 +319,10 @@ module _ (bs : List ℕ) (p left b of : ℕ) (h : OperandAt bs p left b of) wher
       let first : b ≡ 0 = omega (arith, h.some) in
       record {
         ends = ends e q at;
-        first_count = omega (arith, f.left-some, f.left-low);
-        rest-count = omega (arith, f.right-some, f.right-low);
-        first-branch = sym (ap (λ n. b / n) one ∙ div-one b);
-        rest-branch = first ∙ sym (ap (λ n. b % n) one ∙ mod-one b);
+        first_count = omega (arith, f.left-some, f.left_low);
+        rest_count = omega (arith, f.right-some, f.right-low);
+        first_branch = sym (ap (λ n. b / n) one ∙ div-one b);
+        rest_branch = first ∙ sym (ap (λ n. b % n) one ∙ mod-one b);
       }
 
   module _ (n : ℕ) (counted : Counts bs p n) where
@@ -330,7 +330,7 @@ module _ (bs : List ℕ) (p left b of : ℕ) (h : OperandAt bs p left b of) wher
     operand-exact : (e : Expr) (q : ℕ) → At e (vars_of bs) bs p q → n ≡ count_of e
     operand-exact e q at =
         let f = factors (count_of h.tree) (product_of h.others) of h.product some in
-        omega (arith, counted.1 e q at, counted.1 h.tree h.end h.at, f.left-low, h.low)
+        omega (arith, counted.1 e q at, counted.1 h.tree h.end h.at, f.left_low, h.low)
 
     rest-is : (e : Expr) (others : Exprs) (q : ℕ) → At e (vars_of bs) bs p q → count_of e * product_of others ≡ of → of / n ≡ product_of others
     rest-is e others q at product =
@@ -355,7 +355,7 @@ module _ (bs : List ℕ) (p left b of : ℕ) (h : OperandAt bs p left b of) wher
         record {
           ends = ends e q at;
           first_count = sym (operand-exact e q at);
-          rest-count = sym rest;
-          first-branch = ap (λ i. b / i) rest;
-          rest-branch = ap (λ i. b % i) rest;
+          rest_count = sym rest;
+          first_branch = ap (λ i. b / i) rest;
+          rest_branch = ap (λ i. b % i) rest;
         }

@@ -49,7 +49,7 @@ module _ (bs : List ℕ) where
   -- a refusal of the sheet, or of the totals
   refuses : (out : List ℕ) (k : Refusal) → normal_after bs (read bs) ≡ refused (number_of k) (place_of k) → Normalises bs out out (Refused k)
   unfolding normalise
-  refuses out k e = record { answer = rw e refl; out-after = rw e refl }
+  refuses out k e = record { answer = rw e refl; out_after = rw e refl }
 
   refused-check : (n p : ℕ) → refused n p ≡ total_of (check bs) → check bs ≡ refused n p
   refused-check n p e = go (check bs) e
@@ -62,8 +62,8 @@ module _ (bs : List ℕ) where
           again (accepted x) = accepted []
           again (refused a b) = refused a b
 
-  pub check-refuses : (out : List ℕ) (r : Verdict) (k : Refusal) → r ≡ Refused k → told r ≡ total_of (check bs) → Normalises bs out out r
-  check-refuses out r k e h =
+  pub check_refuses : (out : List ℕ) (r : Verdict) (k : Refusal) → r ≡ Refused k → told r ≡ total_of (check bs) → Normalises bs out out r
+  check_refuses out r k e h =
       subst (Normalises bs out out) (sym e)
       (refuses out k (after_check
       ∙ ap (λ a. next a (λ s. normal_form bs (raw_of bs) s)) (refused-check (number_of k) (place_of k) (sym (ap told e) ∙ h))))
@@ -77,7 +77,7 @@ module _ (bs : List ℕ) where
     form-is = after_check ∙ ap (λ a. next a (λ s. normal_form bs (raw_of bs) s)) accepts
 
     pub front-there : ((raw_of bs).third + 8 ≤ length bs)
-    front-there = let s = prepared-sections bs tab f.placed.prepared in omega (arith, s.first-is, s.first-there)
+    front-there = let s = prepared-sections bs tab f.placed.prepared in omega (arith, s.first_is, s.first_there)
 
     module _ (third : ℕ) (place : third ≡ get_or tab 67 0) (p : Plan) (plans : PlansFrom bs 0 0 (third + 8) p) where
       third-is : third ≡ (raw_of bs).third
@@ -113,10 +113,10 @@ module _ (bs : List ℕ) where
               ◌≡◌ {A = Answer Size} (accepted (record { nodes = n; bytes = b })) (sized (front_of bs) a) → Planned bs tab n b
           go (accepted w) i h = record {
             formed = f;
-            sheet-is = accepts;
+            sheet_is = accepts;
             whole = w;
             wrote = i;
-            nodes-are = sym (ap (λ a. (size_in a).nodes) h);
+            nodes_are = sym (ap (λ a. (size_in a).nodes) h);
             size_is = sym (ap (λ a. (size_in a).bytes) h);
             small = (subst Small e plans.small).1;
           }
@@ -130,20 +130,20 @@ module _ (bs : List ℕ) where
 
     is-form : normal_after bs (read bs) ≡ accepted (take (raw_of bs).third bs ++ nat nodes ++ body_bytes (sheet_of bs) (sheet_of bs))
     is-form =
-        form-is tab h.formed h.sheet-is
+        form-is tab h.formed h.sheet_is
         ∙ ap (λ a. next a (λ w. accepted (take (raw_of bs).third bs ++ nat w.nodes ++ w.out))) h.wrote
-        ∙ ap₂ (λ k l. accepted (take (raw_of bs).third bs ++ nat k ++ l)) h.nodes-are whole_is.out-is
+        ∙ ap₂ (λ k l. accepted (take (raw_of bs).third bs ++ nat k ++ l)) h.nodes_are whole_is.out_is
 
     third-long : length (take (raw_of bs).third bs) ≡ (raw_of bs).third
-    third-long = length-take-le (raw_of bs).third bs (omega (arith, front-there tab h.formed h.sheet-is))
+    third-long = length-take-le (raw_of bs).third bs (omega (arith, front-there tab h.formed h.sheet_is))
 
     form-long : length (take (raw_of bs).third bs ++ nat nodes ++ body_bytes (sheet_of bs) (sheet_of bs)) ≡ size
     form-long =
         length-append (take (raw_of bs).third bs ++ nat nodes) (body_bytes (sheet_of bs) (sheet_of bs))
-        ∙ omega (arith, length-append (take (raw_of bs).third bs) (nat nodes), third-long, length-nat nodes, h.size_is, ap length whole_is.out-is)
+        ∙ omega (arith, length-append (take (raw_of bs).third bs) (nat nodes), third-long, length-nat nodes, h.size_is, ap length whole_is.out_is)
 
     pub bodies-long : (raw_of bs).third + 8 + length (bodies_from bs 0) ≡ size
-    bodies-long = omega (arith, h.size_is, ap length whole_is.out-is)
+    bodies-long = omega (arith, h.size_is, ap length whole_is.out_is)
 
     pub writes-all : WritesFrom bs tab 0
     writes-all = record {
@@ -157,7 +157,7 @@ module _ (bs : List ℕ) where
     room-refuses out lt =
         let o = take (raw_of bs).third bs ++ nat nodes ++ body_bytes (sheet_of bs) (sheet_of bs) in
         let short : leb (length o) (length out) ≡ false = lt-leb (length o) (length out) (omega (arith, form-long)) in
-        record { answer = rw (is-form, short, form-long) refl; out-after = rw (is-form, short) refl }
+        record { answer = rw (is-form, short, form-long) refl; out_after = rw (is-form, short) refl }
 
     module _ (out : List ℕ) (enough : size ≤ length out) (third : ℕ) (place : third ≡ get_or tab 67 0) where
       at-third : third ≡ (raw_of bs).third
@@ -181,6 +181,6 @@ module _ (bs : List ℕ) where
           let end : r ≡ length o = stored.1 ∙ omega (arith, at-third, form-long, bodies-long) in
           record {
             answer = ap accepted end ∙ rw (is-form, lent) refl;
-            out-after =
+            out_after =
                 three ∙ sets-eq o out 0 (omega (arith, form-long)) ∙ ap (λ k. o ++ drop k out) (zero-add (length o)) ∙ rw (is-form, lent) refl;
           }

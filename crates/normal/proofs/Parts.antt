@@ -118,8 +118,8 @@ pick-kept (more e es) b h =
 
 pub wrote_nothing : (dry : Bool) (pen : Pen) (out : List ℕ) → Wrote dry pen out out pen nothing
 wrote_nothing dry pen out = record {
-  pen-is = λ i. record { to = stays pen.to i; things = stays pen.things i; deep = same pen.deep i };
-  out-is = go dry;
+  pen_is = λ i. record { to = stays pen.to i; things = stays pen.things i; deep = same pen.deep i };
+  out_is = go dry;
 }
   where
     stays : (n : ℕ) → n ≡ n + 0
@@ -135,14 +135,14 @@ wrote_nothing dry pen out = record {
 pub wrote_then : (dry : Bool) (pen : Pen) (out : List ℕ) {a b : List ℕ} {y z : Pen} (p q : Part) → Wrote dry pen out a y p → Wrote dry y a b z q →
     Wrote dry pen out b z (beside p q)
 wrote_then dry pen out {a} {b} {y} {z} p q h g = record {
-  pen-is =
-      g.pen-is ∙ ap (λ x. advance x q) h.pen-is
+  pen_is =
+      g.pen_is ∙ ap (λ x. advance x q) h.pen_is
       ∙ (λ i. record {
         to = sum_is i;
         things = add_assoc pen.things p.things q.things i;
         deep = max_assoc pen.deep p.deep q.deep i;
       });
-  out-is = go dry h.out-is (g.out-is ∙ ap (λ x. laid dry a x.to q.out) h.pen-is);
+  out_is = go dry h.out_is (g.out_is ∙ ap (λ x. laid dry a x.to q.out) h.pen_is);
 }
   where
     add_assoc : (i j k : ℕ) → i + j + k ≡ i + (j + k)
@@ -161,7 +161,7 @@ wrote_then dry pen out {a} {b} {y} {z} p q h g = record {
 
 -- the room stays, whatever was stored
 pub room-same : (dry : Bool) (pen : Pen) (out : List ℕ) {a : List ℕ} {y : Pen} (p : Part) → Wrote dry pen out a y p → room_of dry a ≡ room_of dry out
-room-same dry pen out {a} p h = go dry h.out-is
+room-same dry pen out {a} p h = go dry h.out_is
   where
     go : (d : Bool) → a ≡ laid d out pen.to p.out → room_of d a ≡ room_of d out
     go true e = refl
@@ -211,9 +211,9 @@ mutual
       go true h g = h
       go false h g = g
 
-pub things-low : (dry : Bool) (pen : Pen) (out : List ℕ) {a : List ℕ} {y : Pen} (p : Part) → Wrote dry pen out a y p → pen.things ≤ pen.to →
+pub things_low : (dry : Bool) (pen : Pen) (out : List ℕ) {a : List ℕ} {y : Pen} (p : Part) → Wrote dry pen out a y p → pen.things ≤ pen.to →
     p.things ≤ length p.out → y.things ≤ y.to
-things-low dry pen out {y = y} p h low few =
-    let to_is = ap (λ z. z.to) h.pen-is in
-    let things-are = ap (λ z. z.things) h.pen-is in
+things_low dry pen out {y = y} p h low few =
+    let to_is = ap (λ z. z.to) h.pen_is in
+    let things-are = ap (λ z. z.things) h.pen_is in
     omega (arith)

@@ -38,15 +38,15 @@ use Rattle.normal.proofs.Laying.{two-long}
 -- ---- branches together
 
 module _ (n : ℕ) where
-  nodes-are : (xs : List Branch) → node_counts (as_exprs n xs) ≡ (total n xs).nodes
+  nodes_are : (xs : List Branch) → node_counts (as_exprs n xs) ≡ (total n xs).nodes
   unfolding node_counts
-  nodes-are [] = refl
-  nodes-are (x ∷ xs) = omega (arith, nodes-are xs)
+  nodes_are [] = refl
+  nodes_are (x ∷ xs) = omega (arith, nodes_are xs)
 
-  bytes-are : (xs : List Branch) → length (all_bytes (as_exprs n xs)) ≡ (total n xs).bytes
+  bytes_are : (xs : List Branch) → length (all_bytes (as_exprs n xs)) ≡ (total n xs).bytes
   unfolding all_bytes
-  bytes-are [] = refl
-  bytes-are (x ∷ xs) = length-append (bytes (Rattle.normal.specs.Body.written n x)) (all_bytes (as_exprs n xs)) ∙ omega (arith, bytes-are xs)
+  bytes_are [] = refl
+  bytes_are (x ∷ xs) = length-append (bytes (Rattle.normal.specs.Body.written n x)) (all_bytes (as_exprs n xs)) ∙ omega (arith, bytes_are xs)
 
   narrow-yes : (xs : List Branch) → (total n xs).limits ≤ 64 → narrow xs ≡ true
   narrow-yes [] h = refl
@@ -73,13 +73,13 @@ module _ (n : ℕ) where
 
   body-nodes : (xs : List Branch) → node_count (body_case n xs) ≡ 1 + (total n xs).nodes
   unfolding node_count
-  body-nodes xs = omega (arith, nodes-are xs)
+  body-nodes xs = omega (arith, nodes_are xs)
 
   body_bytes : (xs : List Branch) → length (bytes (body_case n xs)) ≡ 16 + (total n xs).bytes
   unfolding bytes
   body_bytes xs =
       length-append (nat 6 ++ nat (branch_count (as_exprs n xs))) (all_bytes (as_exprs n xs))
-      ∙ omega (arith, two-long 6 (branch_count (as_exprs n xs)), bytes-are xs)
+      ∙ omega (arith, two-long 6 (branch_count (as_exprs n xs)), bytes_are xs)
 
   body-depth : (xs : List Branch) → depth (body_case n xs) ≡ suc (depths (as_exprs n xs))
   unfolding depth
@@ -101,7 +101,7 @@ module _ (n : ℕ) where
       kept : keeps_limits xs (body_case n xs) k b ≡ true → ⊥
       kept h =
           let l = limits xs (body_case n xs) k b h in
-          bad l.nodes-low l.branches-low (narrow-no xs l.tight) (deep-no xs (omega (arith, l.deep-low, body-depth xs))) l.bytes_low
+          bad l.nodes_low l.branches-low (narrow-no xs l.tight) (deep-no xs (omega (arith, l.deep-low, body-depth xs))) l.bytes_low
 
       go : (d : Bool) → keeps_limits xs (body_case n xs) k b ≡ d → d ≡ false
       go true e = absurd (kept e)
@@ -111,7 +111,7 @@ module _ (n : ℕ) where
 
 module _ (bs tab : List ℕ) (f : Formed bs tab) where
   dims-are : dims (sheet_of bs) ≡ (λ v. dimension (heads_of bs) v)
-  dims-are = fun_ext (λ v. ⊎_elim (λ lt. ap (λ h. length h.box) (f.placed.head-is v lt)) (λ le. past v le) (lt-or-le v (vars_of bs)))
+  dims-are = fun_ext (λ v. ⊎_elim (λ lt. ap (λ h. length h.box) (f.placed.head_is v lt)) (λ le. past v le) (lt-or-le v (vars_of bs)))
     where
       past : (v : ℕ) → vars_of bs ≤ v → length (variable (sheet_of bs) v).head.box ≡ dimension (heads_of bs) v
       past v le =
@@ -128,7 +128,7 @@ module _ (bs tab : List ℕ) (f : Formed bs tab) where
       start_is = place ∙ f.placed.starts v lt
 
       dim-is : n ≡ length (variable (sheet_of bs) v).head.box
-      dim-is = dim ∙ ap (λ h. length h.box) (sym (f.placed.head-is v lt))
+      dim-is = dim ∙ ap (λ h. length h.box) (sym (f.placed.head_is v lt))
 
       pub body-standing : Standing (vars_of bs) bs at 2048
       body-standing = record {
@@ -154,9 +154,9 @@ module _ (bs tab : List ℕ) (f : Formed bs tab) where
           end = (variable (sheet_of bs) v).end;
           at = rw start_is stands.at;
           few = stands.few;
-          left-low = omega arith;
+          left_low = omega arith;
           fitting = rw dim-is stands.fitting;
-          reaches = f.body-reach v lt body;
+          reaches = f.body_reach v lt body;
           narrow = few;
           count = let c = counted.1 (variable (sheet_of bs) v).body (variable (sheet_of bs) v).end (rw start_is stands.at) in omega arith;
           low = low;

@@ -49,7 +49,7 @@ use Rattle.normal.specs.Rows.{AllComposable}
 use Rattle.normal.specs.Spot.{Limits, Stop}
 use Rattle.normal.specs.Followed.{room_of, Composes, Lowers, Route, RouteAll, Wrote, Visits, Follows, FollowsAll}
 use Rattle.normal.proofs.Counting.{operator-count, case_count, Factors, factors, only-split}
-use Rattle.normal.proofs.Parts.{beside_nothing, leaf-part, operator-part, pick-kept, wrote_nothing, wrote_then, room-same, things-low, part-things}
+use Rattle.normal.proofs.Parts.{beside_nothing, leaf-part, operator-part, pick-kept, wrote_nothing, wrote_then, room-same, things_low, part-things}
 use Rattle.normal.proofs.Spots.{own_out, own-things}
 
 -- ---- reaches
@@ -81,13 +81,13 @@ operands_same n r =
 module _ (bs : List ℕ) where
   module _ (p left : ℕ) (m : Map) (b of : ℕ) (t : Bool) (level : ℕ) (pen : Pen) (room : ℕ) (h : Route bs p left m b of t level pen room) where
     pub route-standing : Standing (vars_of bs) bs p left
-    route-standing = record { tree = h.tree; end = h.end; at = h.at; few = h.few; most = h.left-low }
+    route-standing = record { tree = h.tree; end = h.end; at = h.at; few = h.few; most = h.left_low }
 
     -- ---- a case
 
-    module _ (class-is : class_at bs p ≡ Case) where
+    module _ (class_is : class_at bs p ≡ Case) where
       cases : KaseAt h.tree (vars_of bs) bs p h.end
-      cases = case_at bs h.tree p h.end h.at class-is
+      cases = case_at bs h.tree p h.end h.at class_is
 
       branches-are : count_of h.tree ≡ sum_of cases.branches
       branches-are = case_count h.tree cases.branches cases.is
@@ -122,7 +122,7 @@ module _ (bs : List ℕ) where
           end = h.end;
           at = below-case;
           few = omega (arith, h.few, case-nodes);
-          left-low = omega (arith, h.left-low);
+          left_low = omega (arith, h.left_low);
           count = case-many;
           sum = sym branches-are ∙ h.branches;
           low = h.low;
@@ -142,23 +142,23 @@ module _ (bs : List ℕ) where
               bound = h.bound;
               at = found.at;
               few = omega (arith, h.few, case-nodes, kept.few);
-              left-low = omega (arith, h.left-low);
-              level-low = omega (arith, h.level-low);
+              left_low = omega (arith, h.left_low);
+              level_low = omega (arith, h.level_low);
               fitting = kept.fits-too (heads_of bs) m.height case-fits;
               reaches = kept.reaches-too h.bound case-reaches;
               carried = h.carried;
               branches = found.count;
               low = omega (arith, found.count, kept.no_more, branches-are, h.branches, h.low);
               some = omega (arith, found.branch, kept.some, found.count);
-              things-low = h.things-low;
-              fits-room = subst (λ x. pen.to + length x.out ≤ room) same h.fits-room;
+              things_low = h.things_low;
+              fits_room = subst (λ x. pen.to + length x.out ≤ room) same h.fits_room;
             }
 
     -- ---- a dependence
 
-    module _ (class-is : class_at bs p ≡ Dependence) where
+    module _ (class_is : class_at bs p ≡ Dependence) where
       below : DepAt h.tree (vars_of bs) bs p h.end
-      below = dependence-at bs h.tree p h.end h.at class-is
+      below = dependence-at bs h.tree p h.end h.at class_is
 
       dep-fits : eqb below.by.cols m.height && fits below.child (heads_of bs) (length below.by.rows) ≡ true
       unfolding fits
@@ -218,8 +218,8 @@ module _ (bs : List ℕ) where
           bound = map_reach h.bound below.by.rows;
           at = rw next below.below;
           few = omega (arith, h.few, dep-nodes);
-          left-low = omega (arith, h.left-low);
-          level-low = omega (arith, h.level-low);
+          left_low = omega (arith, h.left_low);
+          level_low = omega (arith, h.level_low);
           fitting = subst (λ n. fits below.child (heads_of bs) n ≡ true) (sym (l.high ∙ height-length l.by by))
               (&&-right (eqb below.by.cols m.height) (fits below.child (heads_of bs) (length below.by.rows)) dep-fits);
           reaches =
@@ -233,8 +233,8 @@ module _ (bs : List ℕ) where
           branches = sym dep-count ∙ h.branches;
           low = h.low;
           some = h.some;
-          things-low = h.things-low;
-          fits-room = subst (λ x. pen.to + length x.out ≤ room) (dep-part ∙ ap (λ f. part_of t below.child f level b) (sym by-is)) h.fits-room;
+          things_low = h.things_low;
+          fits_room = subst (λ x. pen.to + length x.out ≤ room) (dep-part ∙ ap (λ f. part_of t below.child f level b) (sym by-is)) h.fits_room;
         }
 
     -- ---- a node that is visited
@@ -248,8 +248,8 @@ module _ (bs : List ℕ) where
     restr-reaches x = rw x.is at h.reaches
 
     spot-limits : class_at bs p ≡ Restriction → Limits bs p m
-    spot-limits class-is =
-        let x = restriction-at bs h.tree p h.end h.at class-is in
+    spot-limits class_is =
+        let x = restriction-at bs h.tree p h.end h.at class_is in
         let dim : x.dim ≡ m.height =
         eqb-true x.dim m.height (&&-left (eqb x.dim m.height) (fits x.child (heads_of bs) m.height) (restr-fits x)) in
         let all = composable x.dim bs m h.bound x.given (p + 24) h.carried.within (λ i lt c. restr-constraint x.fields i lt c)
@@ -273,16 +273,16 @@ module _ (bs : List ℕ) where
           noded = standing-noded (vars_of bs) bs p left route-standing;
           neat = h.carried.neat;
           limits = spot-limits;
-          fits-room = omega (
+          fits_room = omega (
             arith,
-            h.fits-room,
+            h.fits_room,
             lengths,
             ap length (own_out t (node_of h.tree) (map_of m) level),
             ap (λ nd. length (own t nd (map_of m) 0).out) read_is,
           );
         };
-        level-low = omega (arith, h.level-low);
-        things-low = h.things-low;
+        level_low = omega (arith, h.level_low);
+        things_low = h.things_low;
       }
 
       -- the pen, after the visit
@@ -292,10 +292,10 @@ module _ (bs : List ℕ) where
 
         own-low : after.things ≤ after.to
         own-low =
-            things-low dry pen out (own t (node_of h.tree) (map_of m) level) own-wrote h.things-low (own-things t (node_of h.tree) (map_of m) level)
+            things_low dry pen out (own t (node_of h.tree) (map_of m) level) own-wrote h.things_low (own-things t (node_of h.tree) (map_of m) level)
 
         own-fits : after.to + length rest.out ≤ room
-        own-fits = omega (arith, h.fits-room, lengths, ap (λ z. z.to) own-wrote.pen-is)
+        own-fits = omega (arith, h.fits_room, lengths, ap (λ z. z.to) own-wrote.pen_is)
 
         own_room : room ≡ room_of dry out → room ≡ room_of dry out'
         own_room e = e ∙ sym (room-same dry pen out (own t (node_of h.tree) (map_of m) level) own-wrote)
@@ -303,15 +303,15 @@ module _ (bs : List ℕ) where
     -- ---- a leaf
 
     pub route-leaf : class_at bs p ≡ Leaf → Stop bs p m t level pen room
-    route-leaf class-is =
-        let is = (leaf-at bs h.tree p h.end h.at class-is).class-is in
+    route-leaf class_is =
+        let is = (leaf-at bs h.tree p h.end h.at class_is).class_is in
         stop nothing (leaf-part t (map_of m) level b h.tree is ∙ beside_nothing (own t (node_of h.tree) (map_of m) level))
 
     -- ---- an operator
 
-    module _ (class-is : class_at bs p ≡ Operator) where
+    module _ (class_is : class_at bs p ≡ Operator) where
       operates : class_of (node_of h.tree) ≡ Operator
-      operates = (operator-at bs h.tree p h.end h.at class-is).class-is
+      operates = (operator-at bs h.tree p h.end h.at class_is).class_is
 
       operands : part_of t h.tree (map_of m) level b
           ≡ beside (own t (node_of h.tree) (map_of m) level) (parts_of t (children_of h.tree) (map_of m) (level + 1) b)
@@ -335,10 +335,10 @@ module _ (bs : List ℕ) where
               bound = h.bound;
               at = children-at (vars_of bs) bs p k n next many e h.end h.at;
               few = omega (arith, h.few, children-count e);
-              left-low = omega (arith, h.left-low);
-              level-low = omega (arith, h.level-low);
+              left_low = omega (arith, h.left_low);
+              level_low = omega (arith, h.level_low);
               count = children-counted (vars_of bs) bs p k n next many e h.end h.at;
-              many-low = children-few (vars_of bs) bs p left route-standing k n next many;
+              many_low = children-few (vars_of bs) bs p left route-standing k n next many;
               fitting = rw same.0 at
                   (&&-right (fits_here (node_of e) (heads_of bs) m.height) (all_fit (children_of e) (heads_of bs) (wanted (node_of e) m.height))
                   (sym (fits-children (heads_of bs) m.height e) ∙ h.fitting));
@@ -349,8 +349,8 @@ module _ (bs : List ℕ) where
               combinations = sym (operator-count e operates) ∙ h.branches;
               low = h.low;
               some = h.some;
-              things-low = own-low all operands dry after out out' visited;
-              fits-room = own-fits all operands dry after out out' visited;
+              things_low = own-low all operands dry after out out' visited;
+              fits_room = own-fits all operands dry after out out' visited;
             }
 
         pub route-operands : room ≡ room_of dry out → RouteAll bs k (left - 1) n m b of t (level + 1) after (room_of dry out')
@@ -360,9 +360,9 @@ module _ (bs : List ℕ) where
 
     -- ---- a restriction
 
-    module _ (class-is : class_at bs p ≡ Restriction) where
+    module _ (class_is : class_at bs p ≡ Restriction) where
       limited : RestrAt h.tree (vars_of bs) bs p h.end
-      limited = restriction-at bs h.tree p h.end h.at class-is
+      limited = restriction-at bs h.tree p h.end h.at class_is
 
       inside : part_of t h.tree (map_of m) level b
           ≡ beside (own t (node_of h.tree) (map_of m) level) (part_of t limited.child (map_of m) level b)
@@ -391,16 +391,16 @@ module _ (bs : List ℕ) where
           bound = h.bound;
           at = rw next limited.below;
           few = omega (arith, h.few, limited-nodes);
-          left-low = omega (arith, h.left-low);
-          level-low = omega (arith, h.level-low);
+          left_low = omega (arith, h.left_low);
+          level_low = omega (arith, h.level_low);
           fitting = &&-right (eqb limited.dim m.height) (fits limited.child (heads_of bs) m.height) (restr-fits limited);
           reaches = &&-right (all_reach h.bound limited.given) (reach limited.child h.bound) (restr-reaches limited);
           carried = h.carried;
           branches = sym limited-count ∙ h.branches;
           low = h.low;
           some = h.some;
-          things-low = own-low (part_of t limited.child (map_of m) level b) inside dry after out out' visited;
-          fits-room = own-fits (part_of t limited.child (map_of m) level b) inside dry after out out' visited;
+          things_low = own-low (part_of t limited.child (map_of m) level b) inside dry after out out' visited;
+          fits_room = own-fits (part_of t limited.child (map_of m) level b) inside dry after out out' visited;
         }
 
         pub route-inside : room ≡ room_of dry out → Route bs k (left - 1) m b of t level after (room_of dry out')
@@ -430,7 +430,7 @@ module _ (bs : List ℕ) where
       end = split.middle;
       at = split.before;
       few = omega (arith, nodes, h.few);
-      left-low = h.left-low;
+      left_low = h.left_low;
       product = product;
       low = h.low;
       some = h.some;
@@ -470,18 +470,18 @@ module _ (bs : List ℕ) where
         bound = h.bound;
         at = split.before;
         few = omega (arith, nodes, h.few);
-        left-low = h.left-low;
-        level-low = h.level-low;
+        left_low = h.left_low;
+        level_low = h.level_low;
         fitting = &&-left (fits split.first (heads_of bs) m.height) (all_fit split.rest (heads_of bs) m.height) all-fit;
         reaches = &&-left (reach split.first h.bound) (reach_all split.rest h.bound) all-reach;
         carried = h.carried;
         branches = taken.first_count;
-        low = omega (arith, taken.first_count, each.left-low, h.low);
-        some = rw (taken.first-branch, ← taken.first_count) ((div-lt_iff_lt-mul each.right-some).1 (subst (λ i. b < i) (sym product) h.some));
-        things-low = h.things-low;
-        fits-room =
-            subst (λ i. pen.to + length (part_of t split.first (map_of m) level i).out ≤ room) (sym taken.first-branch)
-            (omega (arith, h.fits-room, both_long));
+        low = omega (arith, taken.first_count, each.left_low, h.low);
+        some = rw (taken.first_branch, ← taken.first_count) ((div-lt_iff_lt-mul each.right-some).1 (subst (λ i. b < i) (sym product) h.some));
+        things_low = h.things_low;
+        fits_room =
+            subst (λ i. pen.to + length (part_of t split.first (map_of m) level i).out ≤ room) (sym taken.first_branch)
+            (omega (arith, h.fits_room, both_long));
       }
 
       module _ (dry : Bool) (after : Pen) (out out' : List ℕ)
@@ -492,28 +492,28 @@ module _ (bs : List ℕ) where
         route-rest : RouteAll bs r.next left (many - 1) m r.rest r.among t level after room
         route-rest =
             let first = part_of t split.first (map_of m) level r.b in
-            let to_is = ap (λ z. z.to) wrote.pen-is in
-            let first-long = ap (λ i. length (part_of t split.first (map_of m) level i).out) taken.first-branch in
+            let to_is = ap (λ z. z.to) wrote.pen_is in
+            let first-long = ap (λ i. length (part_of t split.first (map_of m) level i).out) taken.first_branch in
             record {
               trees = split.rest;
               end = h.end;
               bound = h.bound;
               at = after_first;
               few = omega (arith, nodes, h.few);
-              left-low = h.left-low;
-              level-low = h.level-low;
+              left_low = h.left_low;
+              level_low = h.level_low;
               count = split.many;
-              many-low = omega (arith, h.many-low);
+              many_low = omega (arith, h.many_low);
               fitting = &&-right (fits split.first (heads_of bs) m.height) (all_fit split.rest (heads_of bs) m.height) all-fit;
               reaches = &&-right (reach split.first h.bound) (reach_all split.rest h.bound) all-reach;
               carried = h.carried;
-              combinations = taken.rest-count;
-              low = omega (arith, taken.rest-count, each.right-low, h.low);
-              some = rw (taken.rest-branch, ← taken.rest-count) (mod-lt b each.right-some);
-              things-low = things-low dry pen out first wrote h.things-low (part-things t split.first (map_of m) level r.b);
-              fits-room =
-                  subst (λ i. after.to + length (parts_of t split.rest (map_of m) level i).out ≤ room) (sym taken.rest-branch)
-                  (omega (arith, h.fits-room, both_long));
+              combinations = taken.rest_count;
+              low = omega (arith, taken.rest_count, each.right-low, h.low);
+              some = rw (taken.rest_branch, ← taken.rest_count) (mod-lt b each.right-some);
+              things_low = things_low dry pen out first wrote h.things_low (part-things t split.first (map_of m) level r.b);
+              fits_room =
+                  subst (λ i. after.to + length (parts_of t split.rest (map_of m) level i).out ≤ room) (sym taken.rest_branch)
+                  (omega (arith, h.fits_room, both_long));
             }
 
         rest-after : room ≡ room_of dry out → RouteAll bs r.next left (many - 1) m r.rest r.among t level after (room_of dry out')
@@ -550,8 +550,8 @@ module _ (bs : List ℕ) (p : ℕ) (m : Map) (b of : ℕ) (t : Bool) (level : �
   -- a leaf: its own part
   pub leaf-way : {out' : List ℕ} {z : Pen} → class_at bs p ≡ Leaf → Visits bs p m t level dry pen out out' z →
       Follows bs p m b of t level dry pen out out' z
-  leaf-way {out'} {z} class-is visited e q h has =
-      subst (Wrote dry pen out out' z) (sym (leaf-part t (map_of m) level b e (leaf-at bs e p q h class-is).class-is)) (own-visited e q h visited)
+  leaf-way {out'} {z} class_is visited e q h has =
+      subst (Wrote dry pen out out' z) (sym (leaf-part t (map_of m) level b e (leaf-at bs e p q h class_is).class_is)) (own-visited e q h visited)
 
   -- the next place is k
   module _ (k : ℕ) (next : k ≡ node_end (vars_of bs) bs p) where
@@ -559,8 +559,8 @@ module _ (bs : List ℕ) (p : ℕ) (m : Map) (b of : ℕ) (t : Bool) (level : �
       -- an operator: its own part, and then its operands'
       pub operator-way : {a out' : List ℕ} {y z : Pen} → class_at bs p ≡ Operator → Visits bs p m t level dry pen out a y →
           FollowsAll bs k n m b of t (level + 1) dry y a out' z → Follows bs p m b of t level dry pen out out' z
-      operator-way {a} {out'} {y} {z} class-is visited followed e q h has =
-          let is = (operator-at bs e p q h class-is).class-is in
+      operator-way {a} {out'} {y} {z} class_is visited followed e q h has =
+          let is = (operator-at bs e p q h class_is).class_is in
           let rest =
           followed (children_of e) q (children-at (vars_of bs) bs p k n next many e q h) (children-counted (vars_of bs) bs p k n next many e q h)
           (sym (operator-count e is) ∙ has) in
@@ -572,8 +572,8 @@ module _ (bs : List ℕ) (p : ℕ) (m : Map) (b of : ℕ) (t : Bool) (level : �
       pub case-way : (r : Chosen) {out' : List ℕ} {z : Pen} → class_at bs p ≡ Case → b < of → Picks bs k n b of r →
           Follows bs r.at m r.b r.of t level dry pen out out' z →
           Follows bs p m b of t level dry pen out out' z
-      case-way r {out'} {z} class-is low picks followed e q h has =
-          let x = case_at bs e p q h class-is in
+      case-way r {out'} {z} class_is low picks followed e q h has =
+          let x = case_at bs e p q h class_is in
           let es = x.branches in
           let sum : sum_of es ≡ of = sym (case_count e es x.is) ∙ has in
           let some : b < sum_of es = omega arith in
@@ -591,8 +591,8 @@ module _ (bs : List ℕ) (p : ℕ) (m : Map) (b of : ℕ) (t : Bool) (level : �
     -- a restriction: its own part, and then the child's
     pub restriction-way : {a out' : List ℕ} {y z : Pen} → class_at bs p ≡ Restriction → Visits bs p m t level dry pen out a y →
         Follows bs k m b of t level dry y a out' z → Follows bs p m b of t level dry pen out out' z
-    restriction-way {a} {out'} {y} {z} class-is visited followed e q h has =
-        let x = restriction-at bs e p q h class-is in
+    restriction-way {a} {out'} {y} {z} class_is visited followed e q h has =
+        let x = restriction-at bs e p q h class_is in
         let rest = followed x.child q (rw next x.below) (sym (counts x) ∙ has) in
         let both = wrote_then dry pen out (own t (node_of e) (map_of m) level) (part_of t x.child (map_of m) level b) (own-visited e q h visited) rest in
         subst (Wrote dry pen out out' z) (sym (parted x)) both
@@ -608,8 +608,8 @@ module _ (bs : List ℕ) (p : ℕ) (m : Map) (b of : ℕ) (t : Bool) (level : �
     -- a dependence: the child's branch, with the maps composed
     pub dependence-way : (w : Map) {out' : List ℕ} {z : Pen} → class_at bs p ≡ Dependence → Lowers bs (p + 8) m w →
         Follows bs k w b of t level dry pen out out' z → Follows bs p m b of t level dry pen out out' z
-    dependence-way w {out'} {z} class-is l followed e q h has =
-        let x = dependence-at bs e p q h class-is in
+    dependence-way w {out'} {z} class_is l followed e q h has =
+        let x = dependence-at bs e p q h class_is in
         let by = l.read.is x.by x.fields.next x.fields.read in
         let part = ap (λ f. part_of t x.child f level b) (l.is ∙ ap (map_after (map_of m)) by) ∙ sym (parted x) in
         subst (Wrote dry pen out out' z) part (followed x.child q (rw next x.below) (sym (counts x) ∙ has))
@@ -638,10 +638,10 @@ module _ (bs : List ℕ) (p : ℕ) (m : Map) (b of : ℕ) (t : Bool) (level : �
       let fs = x.rest in
       let after = subst (λ i. AllAt fs (vars_of bs) bs i q) (sym taken.ends) x.after in
       let one = first e x.middle x.before taken.first_count in
-      let others = rest fs q after x.many taken.rest-count in
+      let others = rest fs q after x.many taken.rest_count in
       let both = wrote_then dry pen out (part_of t e (map_of m) level r.b) (parts_of t fs (map_of m) level r.rest) one others in
       let same =
-      ap₂ (λ i j. beside (part_of t e (map_of m) level i) (parts_of t fs (map_of m) level j)) taken.first-branch taken.rest-branch ∙ sym parted in
+      ap₂ (λ i j. beside (part_of t e (map_of m) level i) (parts_of t fs (map_of m) level j)) taken.first_branch taken.rest_branch ∙ sym parted in
       subst (Wrote dry pen out out' z) same both
     where
       parted : parts_of t es (map_of m) level b

@@ -213,20 +213,20 @@ module _ (bs : List ℕ) (p : ℕ) (h : NodedAs bs p Operator) where
   operator-long = omega (arith, size-here bs p h.noded, end-far bs p h.noded)
 
   pub if-stores : (to : ℕ) (out : List ℕ) {a : List ℕ} → code_of operator ≡ 5 → a ≡ sets out to (nat 5) → (m : Map) → Stores bs p m true to out a
-  if-stores to out five first m = first ∙ ap (sets out to) (sym (if-out (map_of m) operator h.class-is five))
+  if-stores to out five first m = first ∙ ap (sets out to) (sym (if-out (map_of m) operator h.class_is five))
 
   -- and but for an if one field more
   module _ (other : code_of operator ≡ 5 → ⊥) where
     pub two-long-here : node_size operator ≡ 16
     two-long-here =
-        operator-node (λ nd. (code_of nd ≡ 5 → ⊥) → node_size nd ≡ 16) (λ o e. refl) (λ o e. refl) (λ e. absurd (e refl)) operator h.class-is other
+        operator-node (λ nd. (code_of nd ≡ 5 → ⊥) → node_size nd ≡ 16) (λ o e. refl) (λ o e. refl) (λ e. absurd (e refl)) operator h.class_is other
 
     pub two-there : p + 16 ≤ length bs
     two-there = omega (arith, two-long-here, (node-here bs p h.noded).there)
 
     pub two-stores : (to : ℕ) (out : List ℕ) {a : List ℕ} → a ≡ sets out to (two_fields bs p) → (m : Map) → Stores bs p m true to out a
     two-stores to out first m =
-        first ∙ ap (sets out to) (sym (operator-out bs p (map_of m) operator h.class-is other (node-here bs p h.noded)))
+        first ∙ ap (sets out to) (sym (operator-out bs p (map_of m) operator h.class_is other (node-here bs p h.noded)))
 
 -- ---- the ways through what stores and measures a node
 
@@ -264,7 +264,7 @@ module _ (bs : List ℕ) (p : ℕ) (m : Map) where
 
   module _ (h : NodedAs bs p Leaf) where
     leaf-is : (of_tree here (map_of m) 0).out ≡ map_bytes (map_of m) ++ two_fields bs p
-    leaf-is = leaf-out bs p (map_of m) here h.class-is (node-here bs p h.noded)
+    leaf-is = leaf-out bs p (map_of m) here h.class_is (node-here bs p h.noded)
 
     -- below the map's dependence
     pub leaf-stores : (to : ℕ) (out : List ℕ) {a b : List ℕ} → a ≡ sets out to (map_bytes (map_of m)) →
@@ -274,15 +274,15 @@ module _ (bs : List ℕ) (p : ℕ) (m : Map) where
         ∙ ap (sets out to) (sym leaf-is)
 
     pub leaf-sizes : (level : ℕ) → Sizes bs p m true level (record { to = 40 + m.height * (8 * m.width + 8); things = 2; deep = level + 2 })
-    leaf-sizes level = leaf-moves m level here h.class-is
+    leaf-sizes level = leaf-moves m level here h.class_is
 
     pub leaf_room : (to room : ℕ) → Spot bs p m true to room → to + (24 + m.height * (8 * m.width + 8)) + 16 ≤ room
     leaf_room to room s =
-        omega (arith, s.fits-room, ap length leaf-is, length-append (map_bytes (map_of m)) (two_fields bs p), map-long m, two-fields-long bs p)
+        omega (arith, s.fits_room, ap length leaf-is, length-append (map_bytes (map_of m)) (two_fields bs p), map-long m, two-fields-long bs p)
 
   module _ (h : NodedAs bs p Operator) where
     operator-size : (level : ℕ) → record { to = node_size here; things = 1; deep = 0 } ≡ moves (of_tree here (map_of m) level)
-    operator-size level = operator-moves m level here h.class-is
+    operator-size level = operator-moves m level here h.class_is
 
     pub operator-sizes : (level k : ℕ) → k ≡ node_end (vars_of bs) bs p → Sizes bs p m true level (record { to = k - p; things = 1; deep = 0 })
     operator-sizes level k next =
@@ -290,20 +290,20 @@ module _ (bs : List ℕ) (p : ℕ) (m : Map) where
         ap (λ n. record { to = n; things = 1; deep = 0 }) size ∙ operator-size level
 
     pub operator-room : (to room : ℕ) → Spot bs p m true to room → to + node_size here ≤ room
-    operator-room to room s = omega (arith, s.fits-room, ap (λ z. z.to) (operator-size 0))
+    operator-room to room s = omega (arith, s.fits_room, ap (λ z. z.to) (operator-size 0))
 
   module _ (h : NodedAs bs p Restriction) where
     pub limits-stores : (to k n : ℕ) (out : List ℕ) {a : List ℕ} → k ≡ nat_abs (field bs (p + 16)) → n ≡ nat_abs (field bs (p + 8)) →
         a ≡ sets out to (limit_bytes m k n bs (p + 24)) → Stores bs p m false to out a
     limits-stores to k n out many dim first =
         first ∙ ap₂ (λ i j. sets out to (limit_bytes m i j bs (p + 24))) many dim
-        ∙ ap (sets out to) (sym (limits-out bs p here h.class-is (node-here bs p h.noded) m))
+        ∙ ap (sets out to) (sym (limits-out bs p here h.class_is (node-here bs p h.noded) m))
 
     pub limits-sizes : (k : ℕ) → k ≡ nat_abs (field bs (p + 16)) → Sizes bs p m false 0 (record { to = k * (16 + 8 * m.width); things = k; deep = 0 })
-    limits-sizes k e = limits-moves bs p here h.class-is (node-here bs p h.noded) m k e
+    limits-sizes k e = limits-moves bs p here h.class_is (node-here bs p h.noded) m k e
 
     pub limits-room : (to room : ℕ) → Spot bs p m false to room → to + nat_abs (field bs (p + 16)) * (16 + 8 * m.width) ≤ room
-    limits-room to room s = omega (arith, s.fits-room, limits-long bs p here h.class-is (node-here bs p h.noded) m)
+    limits-room to room s = omega (arith, s.fits_room, limits-long bs p here h.class_is (node-here bs p h.noded) m)
 
   -- ---- both
 
@@ -316,14 +316,14 @@ module _ (bs : List ℕ) (p : ℕ) (m : Map) where
         let same = ap length (own_out t here (map_of m) level) in
         let few = own-things t here (map_of m) level in
         let high = room-high dry out in
-        (omega (arith, h.fits-room), omega (arith, h.fits-room))
+        (omega (arith, h.fits_room), omega (arith, h.fits_room))
 
     pub visit-is : (dry : Bool) (out out' : List ℕ) (r : Pen) →
         r ≡ record { to = pen.to + size.to; things = pen.things + size.things; deep = max pen.deep size.deep } →
         out' ≡ laid dry out pen.to (own t here (map_of m) 0).out → Visits bs p m t level dry pen out out' r
     visit-is dry out out' r moved stored = record {
-      pen-is = moved ∙ ap (λ z. record { to = pen.to + z.to; things = pen.things + z.things; deep = max pen.deep z.deep }) sized;
-      out-is = stored ∙ ap (laid dry out pen.to) (sym (own_out t here (map_of m) level));
+      pen_is = moved ∙ ap (λ z. record { to = pen.to + z.to; things = pen.things + z.things; deep = max pen.deep z.deep }) sized;
+      out_is = stored ∙ ap (laid dry out pen.to) (sym (own_out t here (map_of m) level));
     }
 
 pub stores_as : (bs : List ℕ) (p : ℕ) (m : Map) (to : ℕ) (out : List ℕ) {t u : Bool} {out' : List ℕ} → t ≡ u → Stores bs p m u to out out' →
@@ -344,5 +344,5 @@ module _ (bs : List ℕ) (p : ℕ) (m : Map) (t dry : Bool) (to : ℕ) (out : Li
     noded = h.noded;
     neat = h.neat;
     limits = h.limits;
-    fits-room = let low = h.fits-room in let is = ap (λ d. room_of d out) e in omega arith;
+    fits_room = let low = h.fits_room in let is = ap (λ d. room_of d out) e in omega arith;
   }

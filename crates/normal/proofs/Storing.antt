@@ -84,12 +84,12 @@ module _ (bs tab : List ℕ) (v : ℕ) (h : WritesFrom bs tab v) where
     pub next-writes : WritesFrom bs tab (v + 1)
     next-writes = record { formed = h.formed; known = omega arith; few = h.few }
 
-    bodies-are : bodies_from bs v ≡ ifb (is_input (variable (sheet_of bs) v)) (λ _. bodies_from bs (v + 1)) (λ _. body_of bs v ++ bodies_from bs (v + 1))
-    bodies-are = ap (body_bytes (sheet_of bs)) (split-variables bs tab h.formed v 0 0 lt)
+    bodies_are : bodies_from bs v ≡ ifb (is_input (variable (sheet_of bs) v)) (λ _. bodies_from bs (v + 1)) (λ _. body_of bs v ++ bodies_from bs (v + 1))
+    bodies_are = ap (body_bytes (sheet_of bs)) (split-variables bs tab h.formed v 0 0 lt)
 
     module _ (input : is_input (variable (sheet_of bs) v) ≡ true) where
       passed : bodies_from bs v ≡ bodies_from bs (v + 1)
-      passed = bodies-are ∙ ap (λ t. ifb t (λ _. bodies_from bs (v + 1)) (λ _. body_of bs v ++ bodies_from bs (v + 1))) input
+      passed = bodies_are ∙ ap (λ t. ifb t (λ _. bodies_from bs (v + 1)) (λ _. body_of bs v ++ bodies_from bs (v + 1))) input
 
       pub input-room : (l : List ℕ) (to : ℕ) → Room (bodies_from bs v) to l → Room (bodies_from bs (v + 1)) to l
       input-room l to room = subst (λ x. Room x to l) passed room
@@ -102,7 +102,7 @@ module _ (bs tab : List ℕ) (v : ℕ) (h : WritesFrom bs tab v) where
       writes_body = record { formed = h.formed; known = lt; body = body; few = h.few v lt body }
 
       cut : bodies_from bs v ≡ body_of bs v ++ bodies_from bs (v + 1)
-      cut = bodies-are ∙ ap (λ t. ifb t (λ _. bodies_from bs (v + 1)) (λ _. body_of bs v ++ bodies_from bs (v + 1))) body
+      cut = bodies_are ∙ ap (λ t. ifb t (λ _. bodies_from bs (v + 1)) (λ _. body_of bs v ++ bodies_from bs (v + 1))) body
 
       long : length (bodies_from bs v) ≡ length (body_of bs v) + length (bodies_from bs (v + 1))
       long = ap length cut ∙ length-append (body_of bs v) (bodies_from bs (v + 1))

@@ -49,18 +49,18 @@ bytes-append n (x ∷ xs) ys =
 
 -- ---- a case, of k bytes and so many children
 
-module _ (bs : List ℕ) (p n of k many : ℕ) (class-is : class_at bs p ≡ Case) (next : k ≡ node_end (vars_of bs) bs p)
+module _ (bs : List ℕ) (p n of k many : ℕ) (class_is : class_at bs p ≡ Case) (next : k ≡ node_end (vars_of bs) bs p)
     (arity-is : many ≡ arity (node_read (vars_of bs) bs p)) where
   opened : (e : Expr) → IsBody bs p n of e → Exprs
-  opened e i = (case_at bs e p i.end i.at class-is).branches
+  opened e i = (case_at bs e p i.end i.at class_is).branches
 
   opened-is : (e : Expr) (i : IsBody bs p n of e) → e ≡ kase (opened e i)
   unfolding opened
-  opened-is e i = (case_at bs e p i.end i.at class-is).is
+  opened-is e i = (case_at bs e p i.end i.at class_is).is
 
   opened_some : (e : Expr) (i : IsBody bs p n of e) → 1 ≤ branch_count (opened e i)
   unfolding opened
-  opened_some e i = (case_at bs e p i.end i.at class-is).many.low
+  opened_some e i = (case_at bs e p i.end i.at class_is).many.low
 
   opened-count : (e : Expr) (i : IsBody bs p n of e) → branch_count (opened e i) ≡ many
   opened-count e i =
@@ -109,7 +109,7 @@ module _ (bs : List ℕ) (p n of k many : ℕ) (class-is : class_at bs p ≡ Cas
           are = children-are h.tree (is_body bs p left n of h);
           some = case-some;
           few = omega (arith, h.few, nodes);
-          left-low = omega (arith, h.left-low);
+          left_low = omega (arith, h.left_low);
           reaches = subst (λ f. reach f top_reach ≡ true) is h.reaches;
           narrow = h.narrow;
           low = h.low;
@@ -162,7 +162,7 @@ module _ (bs : List ℕ) (p n many of : ℕ) (few : many < 1) where
 
 module _ (bs : List ℕ) (p left n many of : ℕ) (h : BodiesAt bs p left n many of) where
   pub trees-standing : StandingAll (vars_of bs) bs p left many
-  trees-standing = record { trees = h.trees; end = h.are.end; at = h.are.at; few = h.few; most = h.left-low; many = h.are.count }
+  trees-standing = record { trees = h.trees; end = h.are.end; at = h.are.at; few = h.few; most = h.left_low; many = h.are.count }
 
   split : MoreAt h.trees (vars_of bs) bs p h.are.end (many - 1)
   split = one_more (vars_of bs) bs h.trees p h.are.end many h.some h.are.at h.are.count
@@ -242,7 +242,7 @@ module _ (bs : List ℕ) (p left n many of : ℕ) (h : BodiesAt bs p left n many
       end = whole.is-first.end;
       at = whole.is-first.at;
       few = omega (arith, h.few, nodes);
-      left-low = h.left-low;
+      left_low = h.left_low;
       fitting = whole.is-first.fitting;
       reaches = &&-left (reach whole.first top_reach) (reach_all whole.others top_reach) all-reach;
       narrow = h.narrow;
@@ -256,7 +256,7 @@ module _ (bs : List ℕ) (p left n many of : ℕ) (h : BodiesAt bs p left n many
       are = whole.are-others;
       some = omega arith;
       few = omega (arith, h.few, nodes);
-      left-low = h.left-low;
+      left_low = h.left_low;
       reaches = &&-right (reach whole.first top_reach) (reach_all whole.others top_reach) all-reach;
       narrow = h.narrow;
       low = omega (arith, h.low);

@@ -49,7 +49,7 @@ pub record BodyAt (bs : List ℕ) (p left n many : ℕ) : Type 0 where
   pub end : ℕ
   pub at : At tree (vars_of bs) bs p end
   pub few : node_count tree ≤ left
-  pub left-low : left ≤ 2048
+  pub left_low : left ≤ 2048
   pub fitting : fits tree (heads_of bs) n ≡ true
   pub reaches : reach tree top_reach ≡ true
   pub narrow : n ≤ 4
@@ -86,7 +86,7 @@ Within many z r = (r.bytes ≤ z.bytes + many * 2 ^ 24) × (r.nodes ≤ z.nodes 
 -- what branch b takes
 pub record TakesBranch (bs : List ℕ) (p n many b : ℕ) (r : Taken) : Type 0 where
   pub few_bytes : r.bytes ≤ 2 ^ 24
-  pub few-nodes : r.nodes ≤ 2 ^ 24
+  pub few_nodes : r.nodes ≤ 2 ^ 24
   pub is : (e : Expr) → IsBody bs p n many e → r ≡ taken_by n (branch_in bs e b)
 
 -- the branches from number b on are added to those so far
@@ -135,7 +135,7 @@ pub record BodiesAt (bs : List ℕ) (p left n many of : ℕ) : Type 0 where
   pub are : AreBodies bs p n many of trees
   pub some : 1 ≤ many
   pub few : node_counts trees ≤ left
-  pub left-low : left ≤ 2048
+  pub left_low : left ≤ 2048
   pub reaches : reach_all trees top_reach ≡ true
   pub narrow : n ≤ 4
   pub low : of ≤ 64

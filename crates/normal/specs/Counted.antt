@@ -26,7 +26,7 @@ pub record ChildrenAt (bs : List ℕ) (p left many b of : ℕ) : Type 0 where
   pub end : ℕ
   pub at : AllAt trees (vars_of bs) bs p end
   pub few : node_counts trees ≤ left
-  pub left-low : left ≤ 2048
+  pub left_low : left ≤ 2048
   pub count : branch_count trees ≡ many
   pub sum : sum_of trees ≡ of
   pub low : of ≤ 64
@@ -51,7 +51,7 @@ pub record OperandAt (bs : List ℕ) (p left b of : ℕ) : Type 0 where
   pub end : ℕ
   pub at : At tree (vars_of bs) bs p end
   pub few : node_count tree ≤ left
-  pub left-low : left ≤ 2048
+  pub left_low : left ≤ 2048
   pub product : count_of tree * product_of others ≡ of
   pub low : of ≤ 64
   pub some : b < of
@@ -60,9 +60,9 @@ pub record OperandAt (bs : List ℕ) (p left b of : ℕ) : Type 0 where
 pub record SplitsOf (e : Expr) (others : Exprs) (q b : ℕ) (r : Split) : Type 0 where
   pub ends : r.next ≡ q
   pub first_count : count_of e ≡ r.of
-  pub rest-count : product_of others ≡ r.among
-  pub first-branch : r.b ≡ b / product_of others
-  pub rest-branch : r.rest ≡ b % product_of others
+  pub rest_count : product_of others ≡ r.among
+  pub first_branch : r.b ≡ b / product_of others
+  pub rest_branch : r.rest ≡ b % product_of others
 
 abbrev pub Splits : List ℕ → ℕ → ℕ → ℕ → Split → Type 0
 Splits bs p b of r =

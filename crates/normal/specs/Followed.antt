@@ -65,16 +65,16 @@ pub record Route (bs : List ℕ) (p left : ℕ) (m : Map) (b of : ℕ) (t : Bool
   pub bound : ℕ
   pub at : At tree (vars_of bs) bs p end
   pub few : node_count tree ≤ left
-  pub left-low : left ≤ 2048
-  pub level-low : level + left ≤ 4096
+  pub left_low : left ≤ 2048
+  pub level_low : level + left ≤ 4096
   pub fitting : fits tree (heads_of bs) m.height ≡ true
   pub reaches : reach tree bound ≡ true
   pub carried : Carried m bound
   pub branches : count_of tree ≡ of
   pub low : of ≤ 64
   pub some : b < of
-  pub things-low : pen.things ≤ pen.to
-  pub fits-room : pen.to + length (part_of t tree (map_of m) level b).out ≤ room
+  pub things_low : pen.things ≤ pen.to
+  pub fits_room : pen.to + length (part_of t tree (map_of m) level b).out ≤ room
 
 -- so many operands, which have `of` combinations
 pub record RouteAll (bs : List ℕ) (p left many : ℕ) (m : Map) (b of : ℕ) (t : Bool) (level : ℕ) (pen : Pen) (room : ℕ) : Type 0 where
@@ -83,25 +83,25 @@ pub record RouteAll (bs : List ℕ) (p left many : ℕ) (m : Map) (b of : ℕ) (
   pub bound : ℕ
   pub at : AllAt trees (vars_of bs) bs p end
   pub few : node_counts trees ≤ left
-  pub left-low : left ≤ 2048
-  pub level-low : level + left ≤ 4096
+  pub left_low : left ≤ 2048
+  pub level_low : level + left ≤ 4096
   pub count : branch_count trees ≡ many
-  pub many-low : many ≤ 64
+  pub many_low : many ≤ 64
   pub fitting : all_fit trees (heads_of bs) m.height ≡ true
   pub reaches : reach_all trees bound ≡ true
   pub carried : Carried m bound
   pub combinations : product_of trees ≡ of
   pub low : of ≤ 64
   pub some : b < of
-  pub things-low : pen.things ≤ pen.to
-  pub fits-room : pen.to + length (parts_of t trees (map_of m) level b).out ≤ room
+  pub things_low : pen.things ≤ pen.to
+  pub fits_room : pen.to + length (parts_of t trees (map_of m) level b).out ≤ room
 
 -- ---- what is answered
 
 -- the pen and what is lent, after the part
 pub record Wrote (dry : Bool) (pen : Pen) (out out' : List ℕ) (r : Pen) (part : Part) : Type 0 where
-  pub pen-is : r ≡ advance pen part
-  pub out-is : out' ≡ laid dry out pen.to part.out
+  pub pen_is : r ≡ advance pen part
+  pub out_is : out' ≡ laid dry out pen.to part.out
 
 -- of the node at p alone
 abbrev pub Visits : List ℕ → ℕ → Map → Bool → ℕ → Bool → Pen → List ℕ → List ℕ → Pen → Type 0

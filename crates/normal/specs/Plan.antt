@@ -40,14 +40,14 @@ pub record GrowsBy (bs tab : List ℕ) (v nodes size : ℕ) : Type 0 where
   pub formed : Formed bs tab
   pub known : v < vars_of bs
   pub body : is_input (variable (sheet_of bs) v) ≡ false
-  pub nodes-low : nodes ≤ 2048
+  pub nodes_low : nodes ≤ 2048
   pub size_low : size ≤ 65536
 
 -- v is a variable, or how many there are
 pub record GrowsFrom (bs tab : List ℕ) (v nodes size : ℕ) : Type 0 where
   pub formed : Formed bs tab
   pub known : v ≤ vars_of bs
-  pub nodes-low : nodes ≤ 2048
+  pub nodes_low : nodes ≤ 2048
   pub size_low : size ≤ 65536
 
 -- small enough to go on with

@@ -9,9 +9,9 @@ use Rattle.normal.specs.Plan.{front_of}
 
 pub record Planned (bs tab : List ℕ) (nodes size : ℕ) : Type 0 where
   pub formed : Formed bs tab
-  pub sheet-is : check bs ≡ accepted (sheet_of bs)
+  pub sheet_is : check bs ≡ accepted (sheet_of bs)
   pub whole : Body
   pub wrote : write_bodies (sheet_of bs) (front_of bs) 0 (sheet_of bs) (record { nodes = 0; out = [] }) ≡ accepted whole
-  pub nodes-are : whole.nodes ≡ nodes
+  pub nodes_are : whole.nodes ≡ nodes
   pub size_is : front_of bs + length whole.out ≡ size
   pub small : size ≤ 65536

@@ -26,19 +26,19 @@ pub record Spot (bs : List ℕ) (p : ℕ) (m : Map) (t : Bool) (to room : ℕ) :
   pub noded : Noded (vars_of bs) bs p
   pub neat : Neat m
   pub limits : class_at bs p ≡ Restriction → Limits bs p m
-  pub fits-room : to + length (own t (node_read (vars_of bs) bs p) (map_of m) 0).out ≤ room
+  pub fits_room : to + length (own t (node_read (vars_of bs) bs p) (map_of m) 0).out ≤ room
 
 -- it is visited with the pen, below so many nodes of the tree
 pub record Stop (bs : List ℕ) (p : ℕ) (m : Map) (t : Bool) (level : ℕ) (pen : Pen) (room : ℕ) : Type 0 where
   pub spot : Spot bs p m t pen.to room
-  pub level-low : level ≤ 4096
-  pub things-low : pen.things ≤ pen.to
+  pub level_low : level ≤ 4096
+  pub things_low : pen.things ≤ pen.to
 
 -- it is measured there
 pub record Sized (bs : List ℕ) (p : ℕ) (m : Map) (level : ℕ) : Type 0 where
   pub noded : Noded (vars_of bs) bs p
   pub neat : Neat m
-  pub level-low : level ≤ 4096
+  pub level_low : level ≤ 4096
 
 -- its own bytes are stored
 abbrev pub Stores : List ℕ → ℕ → Map → Bool → ℕ → List ℕ → List ℕ → Type 0

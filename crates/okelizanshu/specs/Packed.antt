@@ -19,10 +19,10 @@ packed_part p = p.start % 4294967296 * 4294967296 + p.len % 4294967296
 -- run, as in crate alpha's Promise.Runs
 pub record RunsPacked (sheet : List ℕ) (ins : List ℤ) (codes codes' : List ℕ) (values values' : List ℤ) (r : ℕ) : Type 0 where
   pub answer : r ≡ packed (next (run sheet ins (length codes) (length values)) (λ _. total_of (check sheet)))
-  pub codes-after : codes' ≡ lent_after (run sheet ins (length codes) (length values)) (λ t. t.codes) codes
-  pub values-after : values' ≡ lent_after (run sheet ins (length codes) (length values)) (λ t. t.values) values
+  pub codes_after : codes' ≡ lent_after (run sheet ins (length codes) (length values)) (λ t. t.codes) codes
+  pub values_after : values' ≡ lent_after (run sheet ins (length codes) (length values)) (λ t. t.values) values
 
 -- normalise, as in crate alpha's Promise.Normalises
 pub record NormalisesPacked (sheet : List ℕ) (out out' : List ℕ) (r : ℕ) : Type 0 where
   pub answer : r ≡ packed (next (normalise sheet (length out)) (λ bytes. accepted (length bytes)))
-  pub out-after : out' ≡ lent_after (normalise sheet (length out)) (λ bytes. bytes) out
+  pub out_after : out' ≡ lent_after (normalise sheet (length out)) (λ bytes. bytes) out

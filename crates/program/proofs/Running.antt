@@ -18,7 +18,7 @@ use Rattle.alpha.specs.declared.Refusal.{Refusal}
 use Rattle.alpha.specs.declared.Verdict.{Verdict}
 use Rattle.alpha.specs.declared.Verdict.TheVariants.{Accepted, Refused}
 use Rattle.laws.specs.Sheets.{sheet_of}
-use Rattle.laws.proofs.Checked.{check-accepts, accepted-total}
+use Rattle.laws.proofs.Checked.{check_accepts, accepted-total}
 use Rattle.accept.specs.Admits.{Admitted, Admits}
 use Rattle.run.proofs.Listing.{count-total}
 use Rattle.text.specs.Lines.{report_in}
@@ -33,8 +33,8 @@ admitted-again bs tab inside n (Accepted m) e a = a.admitted m refl
 admitted-again bs tab inside n (Refused why) e a =
     let q = a.answer ∙ sym e in let z : ◌≡◌ {A = ℕ} 0 1 = cc in absurd (omega arith)
 
-pub total-is : (bs : List ℕ) (s : Sheet) (n : ℕ) → check bs ≡ accepted s → accepted n ≡ total_of (check bs) → n ≡ total s
-total-is bs s n c e = let q : accepted n ≡ accepted (total s) = e ∙ ap total_of c in cc
+pub total_is : (bs : List ℕ) (s : Sheet) (n : ℕ) → check bs ≡ accepted s → accepted n ≡ total_of (check bs) → n ≡ total s
+total_is bs s n c e = let q : accepted n ≡ accepted (total s) = e ∙ ap total_of c in cc
 
 -- ---- the run
 
@@ -52,7 +52,7 @@ module _ (sheet : List ℕ) (ins : List ℤ) where
   run-checked : (s : Sheet) → check sheet ≡ accepted s → run sheet ins 4096 4096 ≡ next (inputs s ins) (λ _. accepted (tables s ins))
   unfolding run admitted
   run-checked s c =
-      let few = accepted-total (check-accepts c).holds-all in
+      let few = accepted-total (check_accepts c).holds-all in
       ap
       (λ a.
       next (next a (λ t. next (inputs t ins) (λ _. accepted t))) (λ t.
@@ -80,7 +80,7 @@ module _ (sheet : List ℕ) (ins : List ℤ) where
     framed-checked : (s : Sheet) → check sheet ≡ accepted s → framed sheet rest ≡ next (inputs s ins) (λ _. accepted (report s ins))
     unfolding framed
     framed-checked s c =
-        let few : input_count s ≤ 4096 = omega (arith, count-total s, accepted-total (check-accepts c).holds-all) in
+        let few : input_count s ≤ 4096 = omega (arith, count-total s, accepted-total (check_accepts c).holds-all) in
         ap (λ a. next a (λ t. next (inputs_from t rest) (λ xs. accepted (report t xs)))) c ∙ from-listed s rest ins few l
 
     framed-refused : (n p : ℕ) → check sheet ≡ refused n p → framed sheet rest ≡ refused n p
@@ -136,8 +136,8 @@ module _ (sheet : List ℕ) (ins : List ℤ) (rest codes codes' : List ℕ) (val
   pub accepted-verdict : (n : ℕ) → r ≡ Accepted n → check sheet ≡ accepted (sheet_of sheet) →
       framed sheet rest ≡ accepted (report_in (sheet_of sheet) codes' values')
   accepted-verdict n e c =
-      let k = rw (c-many, v-many) at h.codes-after in
-      let w = rw (c-many, v-many) at h.values-after in
+      let k = rw (c-many, v-many) at h.codes_after in
+      let w = rw (c-many, v-many) at h.values_after in
       accepted-framed sheet ins rest l (sheet_of sheet) n codes values c (sym (ap told e) ∙ answer-is)
       ∙ ap (λ t. accepted (report_in (sheet_of sheet) t (lent_after (run sheet ins 4096 4096) (λ t. t.values) values))) (sym k)
       ∙ ap (λ t. accepted (report_in (sheet_of sheet) codes' t)) (sym w)

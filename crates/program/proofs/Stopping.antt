@@ -17,7 +17,7 @@ use Rattle.alpha.specs.Sheet.{Sheet}
 use Rattle.alpha.specs.Check.{check}
 use Rattle.alpha.specs.Run.{input_count}
 use Rattle.alpha.specs.Program.{inputs_from, report, framed, answered, printed, program}
-use Rattle.laws.proofs.Checked.{check-accepts, accepted-total}
+use Rattle.laws.proofs.Checked.{check_accepts, accepted-total}
 use Rattle.integer.proofs.Fields.{word_at-same}
 use Rattle.run.proofs.Listing.{count-total}
 use Rattle.program.proofs.Framing.{framed_at, frame-long, frame-negative, answered-framed}
@@ -32,7 +32,7 @@ framed-long sheet rest other h g = go (check sheet) refl
         next a (λ s. next (inputs_from s rest) (λ ins. accepted (report s ins))) ≡ next a (λ s. next (inputs_from s other) (λ ins. accepted (report s ins)))
     go (refused n p) e = refl
     go (accepted s) e =
-        let few : input_count s ≤ 4096 = omega (arith, count-total s, accepted-total (check-accepts e).holds-all) in
+        let few : input_count s ≤ 4096 = omega (arith, count-total s, accepted-total (check_accepts e).holds-all) in
         ap (λ a. next a (λ ins. accepted (report s ins))) (from-long s rest few h ∙ sym (from-long s other few g))
 
 small_size : (x : ℤ) → non_neg x ≡ true → le_z x (pos 65536) ≡ true → nat_abs x ≤ 65536

@@ -25,7 +25,7 @@ use Rattle.laws.proofs.Tests.{ifb-true, ifb-false}
 use Rattle.laws.proofs.Boxes.{index-point_at, point_at-in_box, read_box-ordered}
 use Rattle.laws.proofs.Elements.{element-at, number-of-element}
 use Rattle.laws.proofs.Growth.{outcome-outside, outcome-input}
-use Rattle.laws.proofs.Checked.{check-accepts}
+use Rattle.laws.proofs.Checked.{check_accepts}
 use Rattle.tree.specs.Ends.{EndsKept}
 use Rattle.domain.specs.Inside.{Inside, bit}
 use Rattle.domain.specs.declared.Standing.TheVariants.{Holds}
@@ -62,8 +62,8 @@ get_d-zeros (suc n) (suc m) x = get_d-zeros n m x
 
 pub started_none : (s : Sheet) (ins : List ℤ) → Started s ins (memo_of (replicate 4096 0)) 0
 started_none s ins = record {
-  codes-long = codes-many (replicate 4096 0) ∙ length-replicate {A = ℕ} 4096 0;
-  values-long = values-many (replicate 4096 0) ∙ length-replicate {A = ℕ} 4096 0;
+  codes_long = codes-many (replicate 4096 0) ∙ length-replicate {A = ℕ} 4096 0;
+  values_long = values-many (replicate 4096 0) ∙ length-replicate {A = ℕ} 4096 0;
   low = λ m. let z = zeros m in omega (arith, z);
   idle = λ m b. let z = zeros m in omega (arith, z, b);
   code = λ m h. absurd (omega arith);
@@ -127,11 +127,11 @@ module _ (bs tab : List ℕ) (v i : ℕ) (h : VariableLaid bs tab v) (low : i < 
     is-first : answer ≡ start_answer sheet ins (element_at sheet e) e
     is-first = ap (λ b. first_answer (eqb (get_or inside e 0) 1) b (get_or ins (inputs_before sheet v + i) (pos 0)) e) same ∙ answer-is ins
 
-    in-codes : e < length memo.codes
-    in-codes = omega (arith, S.codes-long, h.few)
+    in_codes : e < length memo.codes
+    in_codes = omega (arith, S.codes_long, h.few)
 
-    in-values : e < length memo.values
-    in-values = omega (arith, S.values-long, h.few)
+    in_values : e < length memo.values
+    in_values = omega (arith, S.values_long, h.few)
 
     -- below the next number: below this one, or this one
     upto : (m : ℕ) → m < before sheet v + (i + 1) → (m ≡ e → ⊥) → m < e
@@ -139,19 +139,19 @@ module _ (bs tab : List ℕ) (v i : ℕ) (h : VariableLaid bs tab v) (low : i < 
 
     pub started-next : Started sheet ins (stored memo e answer) (before sheet v + (i + 1))
     started-next = record {
-      codes-long = simp length-set S.codes-long;
-      values-long = simp length-set S.values-long;
+      codes_long = simp length-set S.codes_long;
+      values_long = simp length-set S.values_long;
       low = λ m. decide m e (ℕ_discrete m e)
-          (λ is. rw (is, code_same memo e (code_of answer) (value_of answer) in-codes) (answer-low answer))
+          (λ is. rw (is, code_same memo e (code_of answer) (value_of answer) in_codes) (answer-low answer))
           (λ other. rw (code_other memo e (code_of answer) (value_of answer) m other) (S.low m));
       idle = λ m b. decide m e (ℕ_discrete m e)
-          (λ is. answer-idle answer (sym (code_same memo e (code_of answer) (value_of answer) in-codes) ∙ rw is at b))
+          (λ is. answer-idle answer (sym (code_same memo e (code_of answer) (value_of answer) in_codes) ∙ rw is at b))
           (λ other. S.idle m (sym (code_other memo e (code_of answer) (value_of answer) m other) ∙ b));
       code = λ m l. decide m e (ℕ_discrete m e)
-          (λ is. rw is (code_same memo e (code_of answer) (value_of answer) in-codes ∙ ap code_of is-first))
+          (λ is. rw is (code_same memo e (code_of answer) (value_of answer) in_codes ∙ ap code_of is-first))
           (λ other. code_other memo e (code_of answer) (value_of answer) m other ∙ S.code m (upto m l other));
       value = λ m l. decide m e (ℕ_discrete m e)
-          (λ is. rw is (value_same memo e (code_of answer) (value_of answer) in-values ∙ ap value_of is-first))
+          (λ is. rw is (value_same memo e (code_of answer) (value_of answer) in_values ∙ ap value_of is-first))
           (λ other. value-other memo e (code_of answer) (value_of answer) m other ∙ S.value m (upto m l other));
     }
 
@@ -173,7 +173,7 @@ Covered s =
 
 pub accepted-covered : (bs : List ℕ) → check bs ≡ accepted (sheet_of bs) → Covered (sheet_of bs)
 accepted-covered bs e v z known body inside =
-    let a = (check-accepts e).holds-all in
+    let a = (check_accepts e).holds-all in
     rw (a.covered v z known body inside, a.clear v z known body inside) refl
 
 module _ (s : Sheet) (ins : List ℤ) (memo : Memo) (few : total s ≤ 4096) (S : Started s ins memo (total s)) where
@@ -203,7 +203,7 @@ module _ (s : Sheet) (ins : List ℤ) (memo : Memo) (few : total s ≤ 4096) (S 
         first-cases (λ r. 4 < code_of r → Bodied s here) (λ d l. absurd (omega arith)) (λ d i l. absurd (omega arith))
         (λ d i l.
         let known = (number-of-element s m (record { who = 0; at = [] }) lt).known in
-        record { known = known; domain = d; no-input = i; clear = covered here.who here.at known i d })
+        record { known = known; domain = d; no_input = i; clear = covered here.who here.at known i d })
         (rw (S.code m lt) at u)
 
     settled : code_at memo m ≤ 4 → Tells (element (outcomes s ins) m) (count memo) (saved_at memo m)
@@ -218,7 +218,7 @@ module _ (s : Sheet) (ins : List ℤ) (memo : Memo) (few : total s ≤ 4096) (S 
         always o is = record { is = is (count memo); stuck = λ l k. is k ∙ l }
 
   pub started-ready : Covered s → Ready s memo
-  started-ready covered = record { codes-long = S.codes-long; values-long = S.values-long; few = few; low = S.low; opens = λ m lt u. bodied m lt covered u }
+  started-ready covered = record { codes_long = S.codes_long; values_long = S.values_long; few = few; low = S.low; opens = λ m lt u. bodied m lt covered u }
 
   pub started-right : Right (outcomes s ins) (total s) memo
   started-right = record { settled = λ m lt l. settled m lt l }

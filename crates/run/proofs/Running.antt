@@ -71,8 +71,8 @@ module _ (bs : List ℕ) (ins : List ℤ) (codes : List ℕ) (values : List ℤ)
   refused-runs : (n p : ℕ) → ran ≡ refused n p → (r : Verdict) → told r ≡ refused n p → Runs bs ins codes codes values values r
   refused-runs n p is r e = record {
     answer = e ∙ sym (ap (λ a. next a (λ _. total_of (check bs))) is);
-    codes-after = sym (ap (λ a. lent_after a (λ t. t.codes) codes) is);
-    values-after = sym (ap (λ a. lent_after a (λ t. t.values) values) is);
+    codes_after = sym (ap (λ a. lent_after a (λ t. t.codes) codes) is);
+    values_after = sym (ap (λ a. lent_after a (λ t. t.values) values) is);
   }
 
   -- the sheet is refused
@@ -90,8 +90,8 @@ module _ (bs : List ℕ) (ins : List ℤ) (codes : List ℕ) (values : List ℤ)
         (Refused why) refl
 
     -- the total that the check answered
-    pub total-is : (n : ℕ) → accepted n ≡ total_of (check bs) → n ≡ total s
-    total-is n e = let f : accepted n ≡ accepted (total s) = e ∙ ap total_of is in cc
+    pub total_is : (n : ℕ) → accepted n ≡ total_of (check bs) → n ≡ total s
+    total_is n e = let f : accepted n ≡ accepted (total s) = e ∙ ap total_of is in cc
 
     module _ (taken : accepted tt ≡ inputs s ins) (n : ℕ) (many : n ≡ total s) where
       pub codes-runs : length codes < n → (r : Verdict) → told r ≡ refused ROOM n → Runs bs ins codes codes values values r
@@ -155,10 +155,10 @@ module _ (bs : List ℕ) (ins : List ℤ) (codes : List ℕ) (values : List ℤ)
             let done = run-all bs ins (length codes) (length values) s is (sym taken) (omega (arith, many)) (omega (arith, many)) in
             record {
               answer = ap accepted many ∙ sym (ap (λ a. next a (λ _. total_of (check bs))) done ∙ ap total_of is);
-              codes-after =
-                  filled code 0 codes codes' (omega (arith, many)) F.codes-long (λ m l. (F.shows ins R m l).code) F.codes-stay
+              codes_after =
+                  filled code 0 codes codes' (omega (arith, many)) F.codes_long (λ m l. (F.shows ins R m l).code) F.codes_stay
                   ∙ sym (ap (λ a. lent_after a (λ t. t.codes) codes) done);
-              values-after =
-                  filled number (pos 0) values values' (omega (arith, many)) F.values-long (λ m l. (F.shows ins R m l).value) F.values-stay
+              values_after =
+                  filled number (pos 0) values values' (omega (arith, many)) F.values_long (λ m l. (F.shows ins R m l).value) F.values_stay
                   ∙ sym (ap (λ a. lent_after a (λ t. t.values) values) done);
             }

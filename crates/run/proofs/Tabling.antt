@@ -45,7 +45,7 @@ count-few (c ∷ cs) = omega (arith, settled-one c, count-few cs)
 settled-outcome : (s : Sheet) (ins : List ℤ) (e : ℕ) (memo memo' : Memo) (o : Declared.Outcome) → Settled s e memo memo' o →
     Right (outcomes s ins) (total s) memo' → e < total s → outcome_of o ≡ outcome_at s ins (element_at s e)
 settled-outcome s ins e memo memo' o S R lt =
-    let few : count memo' ≤ deepest = omega (arith, count-few memo'.codes, S.ready.codes-long) in
+    let few : count memo' ≤ deepest = omega (arith, count-few memo'.codes, S.ready.codes_long) in
     let tells = tells-later (element (outcomes s ins) e) (element-grows s ins e) (count memo') deepest (saved_at memo' e) few
     (R.settled e lt S.settled) in
     S.says.is ∙ sym tells.is
@@ -55,8 +55,8 @@ settled-outcome s ins e memo memo' o S R lt =
 -- its first i entries are filled
 pub record FillsBelow (s : Sheet) (v : ℕ) (memo memo' : Memo) (codes : List ℕ) (values : List ℤ) (i : ℕ) : Type 0 where
   pub advances : Advances s memo memo'
-  pub codes-long : length codes ≡ size (variable s v).head.box
-  pub values-long : length values ≡ size (variable s v).head.box
+  pub codes_long : length codes ≡ size (variable s v).head.box
+  pub values_long : length values ≡ size (variable s v).head.box
   pub shows : (ins : List ℤ) → Right (outcomes s ins) (total s) memo → (j : ℕ) → j < i → Shows s ins codes values j (before s v + j)
 
 pub advances-none : (s : Sheet) (memo : Memo) → Ready s memo → Idle memo → Advances s memo memo
@@ -74,7 +74,7 @@ module _ (s : Sheet) (v : ℕ) (memo : Memo) where
 
   pub fills-none : (codes : List ℕ) (values : List ℤ) → Ready s memo → Idle memo → length codes ≡ stretch → length values ≡ stretch →
       FillsBelow s v memo memo codes values 0
-  fills-none codes values M I c w = record { advances = advances-none s memo M I; codes-long = c; values-long = w; shows = λ ins R j h. absurd (omega arith) }
+  fills-none codes values M I c w = record { advances = advances-none s memo M I; codes_long = c; values_long = w; shows = λ ins R j h. absurd (omega arith) }
 
   pub fills-next : (memo' memo'' : Memo) (codes : List ℕ) (values : List ℤ) (i : ℕ) → FillsBelow s v memo memo' codes values i → i < stretch →
       before s v + i < total s → (o : Declared.Outcome) →
@@ -82,14 +82,14 @@ module _ (s : Sheet) (v : ℕ) (memo : Memo) where
       values' ≡ set values i (value_for o) → FillsBelow s v memo memo'' codes' values' (i + 1)
   fills-next memo' memo'' codes values i F low lt o S codes' values' ce ve = rw (ce, ve) (record {
     advances = advances-on s memo memo' memo'' F.advances (advances-settled s (before s v + i) memo' memo'' o S);
-    codes-long = simp length-set F.codes-long;
-    values-long = simp length-set F.values-long;
+    codes_long = simp length-set F.codes_long;
+    values_long = simp length-set F.values_long;
     shows = λ ins R j h. decide j i (ℕ_discrete j i)
         (λ same.
         let is = settled-outcome s ins (before s v + i) memo' memo'' o S (S.right ins (F.advances.right ins R)) lt in
         rw same (record {
-          code = get_or-set_same codes i (code_for o) 0 (omega (arith, F.codes-long)) ∙ ap code_of is;
-          value = get_or-set_same values i (value_for o) (pos 0) (omega (arith, F.values-long)) ∙ ap value_of is;
+          code = get_or-set_same codes i (code_for o) 0 (omega (arith, F.codes_long)) ∙ ap code_of is;
+          value = get_or-set_same values i (value_for o) (pos 0) (omega (arith, F.values_long)) ∙ ap value_of is;
         }))
         (λ other.
         let old = F.shows ins R j (under j h other) in
@@ -105,7 +105,7 @@ module _ (s : Sheet) (v : ℕ) (memo : Memo) where
   pub fills-whole : (memo' : Memo) (codes : List ℕ) (values : List ℤ) (i : ℕ) → FillsBelow s v memo memo' codes values i → stretch ≤ i →
       FillsVariable s v memo memo' codes values
   fills-whole memo' codes values i F l =
-      record { advances = F.advances; codes-long = F.codes-long; values-long = F.values-long; shows = λ ins R j h. F.shows ins R j (omega arith) }
+      record { advances = F.advances; codes_long = F.codes_long; values_long = F.values_long; shows = λ ins R j h. F.shows ins R j (omega arith) }
 
 -- ---- a middle part that was lent on
 
@@ -151,11 +151,11 @@ part-long a b n xs is there l = length-take-le (b - a) (drop a xs) (omega (arith
 
 pub fills-start : (s : Sheet) (memo : Memo) (codes : List ℕ) (values : List ℤ) → FillsAll s memo 0 codes codes values values
 fills-start s memo codes values = record {
-  codes-long = refl;
-  values-long = refl;
+  codes_long = refl;
+  values_long = refl;
   shows = λ ins R m h. absurd (omega arith);
-  codes-stay = λ m h. refl;
-  values-stay = λ m h. refl;
+  codes_stay = λ m h. refl;
+  values_stay = λ m h. refl;
 }
 
 module _ (s : Sheet) (v a b : ℕ) (first : a ≡ before s v) (last : b ≡ before s v + size (variable s v).head.box) (memo memo' memo'' : Memo)
@@ -167,38 +167,38 @@ module _ (s : Sheet) (v a b : ℕ) (first : a ≡ before s v) (last : b ≡ befo
   wide = b - a
 
   long : length part ≡ wide
-  long = omega (arith, P.codes-long, first, last)
+  long = omega (arith, P.codes_long, first, last)
 
   tall : length number ≡ wide
-  tall = omega (arith, P.values-long, first, last)
+  tall = omega (arith, P.values_long, first, last)
 
-  in-codes : a + wide ≤ length codes'
-  in-codes = omega (arith, F.codes-long, first, last)
+  in_codes : a + wide ≤ length codes'
+  in_codes = omega (arith, F.codes_long, first, last)
 
-  in-values : a + wide ≤ length values'
-  in-values = omega (arith, F.values-long, first, last)
+  in_values : a + wide ≤ length values'
+  in_values = omega (arith, F.values_long, first, last)
 
   pub fills-on : FillsAll s memo b codes (put_middle a wide codes' part) values (put_middle a wide values' number)
   fills-on = record {
-    codes-long = put-length a wide codes' part 0 long in-codes ∙ F.codes-long;
-    values-long = put-length a wide values' number (pos 0) tall in-values ∙ F.values-long;
+    codes_long = put-length a wide codes' part 0 long in_codes ∙ F.codes_long;
+    values_long = put-length a wide values' number (pos 0) tall in_values ∙ F.values_long;
     shows = λ ins R m h. split m h
         (λ l. let old = F.shows ins R m (omega (arith, first)) in
         record {
-          code = put-before a wide codes' part 0 long in-codes m l ∙ old.code;
-          value = put-before a wide values' number (pos 0) tall in-values m l ∙ old.value;
+          code = put-before a wide codes' part 0 long in_codes m l ∙ old.code;
+          value = put-before a wide values' number (pos 0) tall in_values m l ∙ old.value;
         })
         (λ j is l.
         let new = P.shows ins (A.right ins R) j (omega (arith, first, last)) in
         let here : before s v + j ≡ m = omega (arith, first, is) in
         rw (← is) (record {
-          code = put-within a wide codes' part 0 long in-codes j l ∙ new.code ∙ ap (λ n. code_of (outcome_at s ins (element_at s n))) (here ∙ sym is);
+          code = put-within a wide codes' part 0 long in_codes j l ∙ new.code ∙ ap (λ n. code_of (outcome_at s ins (element_at s n))) (here ∙ sym is);
           value =
-              put-within a wide values' number (pos 0) tall in-values j l ∙ new.value
+              put-within a wide values' number (pos 0) tall in_values j l ∙ new.value
               ∙ ap (λ n. value_of (outcome_at s ins (element_at s n))) (here ∙ sym is);
         }));
-    codes-stay = λ m h. put-past a wide codes' part 0 long in-codes m (omega (arith, first, last)) ∙ F.codes-stay m (omega (arith, first, last));
-    values-stay = λ m h. put-past a wide values' number (pos 0) tall in-values m (omega (arith, first, last)) ∙ F.values-stay m (omega (arith, first, last));
+    codes_stay = λ m h. put-past a wide codes' part 0 long in_codes m (omega (arith, first, last)) ∙ F.codes_stay m (omega (arith, first, last));
+    values_stay = λ m h. put-past a wide values' number (pos 0) tall in_values m (omega (arith, first, last)) ∙ F.values_stay m (omega (arith, first, last));
   }
     where
       -- an element below b is before the stretch, or in it

@@ -27,36 +27,36 @@ pub record Shows (s : Sheet) (ins : List ℤ) (codes : List ℕ) (values : List 
 -- the stretch of variable v is filled
 pub record FillsVariable (s : Sheet) (v : ℕ) (memo memo' : Memo) (codes : List ℕ) (values : List ℤ) : Type 0 where
   pub advances : Advances s memo memo'
-  pub codes-long : length codes ≡ size (variable s v).head.box
-  pub values-long : length values ≡ size (variable s v).head.box
+  pub codes_long : length codes ≡ size (variable s v).head.box
+  pub values_long : length values ≡ size (variable s v).head.box
   pub shows : (ins : List ℤ) → Right (outcomes s ins) (total s) memo → (j : ℕ) → j < size (variable s v).head.box →
       Shows s ins codes values j (before s v + j)
 
 -- the entries of both tables below n are filled, and the others are as before
 pub record FillsAll (s : Sheet) (memo : Memo) (n : ℕ) (codes codes' : List ℕ) (values values' : List ℤ) : Type 0 where
-  pub codes-long : length codes' ≡ length codes
-  pub values-long : length values' ≡ length values
+  pub codes_long : length codes' ≡ length codes
+  pub values_long : length values' ≡ length values
   pub shows : (ins : List ℤ) → Right (outcomes s ins) (total s) memo → (m : ℕ) → m < n → Shows s ins codes' values' m m
-  pub codes-stay : (m : ℕ) → n ≤ m → get_or codes' m 0 ≡ get_or codes m 0
-  pub values-stay : (m : ℕ) → n ≤ m → get_or values' m (pos 0) ≡ get_or values m (pos 0)
+  pub codes_stay : (m : ℕ) → n ≤ m → get_or codes' m 0 ≡ get_or codes m 0
+  pub values_stay : (m : ℕ) → n ≤ m → get_or values' m (pos 0) ≡ get_or values m (pos 0)
 
 -- ---- what is required
 
 -- an outcome is put at i of two tables, which have room there
 pub record Puts (o : Declared.Outcome) (codes : List ℕ) (values : List ℤ) (i : ℕ) : Type 0 where
   pub small : Range.Small o
-  pub in-codes : i < length codes
-  pub in-values : i < length values
+  pub in_codes : i < length codes
+  pub in_values : i < length values
 
 -- the two parts are the stretch of variable v, and no element is in progress
 pub record Stretch (bs : List ℕ) (memo : Memo) (v : ℕ) (codes : List ℕ) (values : List ℤ) : Type 0 where
   pub idle : Idle memo
   pub known : v < vars_of bs
-  pub codes-long : length codes ≡ size (variable (sheet_of bs) v).head.box
-  pub values-long : length values ≡ size (variable (sheet_of bs) v).head.box
+  pub codes_long : length codes ≡ size (variable (sheet_of bs) v).head.box
+  pub values_long : length values ≡ size (variable (sheet_of bs) v).head.box
 
 -- both tables have an entry for each element, and none is in progress
 pub record Room (s : Sheet) (memo : Memo) (codes : List ℕ) (values : List ℤ) : Type 0 where
   pub idle : Idle memo
-  pub in-codes : total s ≤ length codes
-  pub in-values : total s ≤ length values
+  pub in_codes : total s ≤ length codes
+  pub in_values : total s ≤ length values

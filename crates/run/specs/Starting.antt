@@ -33,8 +33,8 @@ start_answer s ins e m =
 
 -- the entries of the elements below n are those before the run, and no entry is in progress
 pub record Started (s : Sheet) (ins : List ℤ) (memo : Memo) (n : ℕ) : Type 0 where
-  pub codes-long : length memo.codes ≡ 4096
-  pub values-long : length memo.values ≡ 4096
+  pub codes_long : length memo.codes ≡ 4096
+  pub values_long : length memo.values ≡ 4096
   pub low : (m : ℕ) → code_at memo m ≤ unknown
   pub idle : (m : ℕ) → code_at memo m ≡ busy → ⊥
   pub code : (m : ℕ) → m < n → code_at memo m ≡ code_of (start_answer s ins (element_at s m) m)

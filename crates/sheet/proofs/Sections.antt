@@ -215,13 +215,13 @@ noted-table {bs} {p} {n} {tab} {second} ds third nodes f =
     let many = heads-length f.known in
     record {
       sized = noted-sized tab n second third nodes sized;
-      record-at = λ v h. noted-kept tab n second third nodes sized v (omega arith) ∙ sym (ap (λ (x : Head). x.place) (heads-at f.known v (omega arith)));
+      record_at = λ v h. noted-kept tab n second third nodes sized v (omega arith) ∙ sym (ap (λ (x : Head). x.place) (heads-at f.known v (omega arith)));
       first-element = λ v h. noted-kept tab n second third nodes sized (32 + v) (omega arith) ∙ f.firsts v (omega arith);
       variables = noted-variables tab n second third nodes sized ∙ sym many;
       second = noted-second tab n second third nodes sized;
       third = noted-third tab n second third nodes sized;
       nodes = noted-nodes tab n second third nodes sized;
-      first-node = refl;
+      first_node = refl;
     }
 
 -- the entry after the last variable's is the element total

@@ -11,7 +11,7 @@ use Rattle.sheet.specs.Record.{points, before}
 pub record Table (tab : List ℕ) (r : Raw) : Type 0 where
   pub sized : length tab ≡ 102
   -- variable v's record
-  pub record-at : (v : ℕ) → v < length r.heads → get_or tab v 0 ≡ (get_or r.heads v no_head).place
+  pub record_at : (v : ℕ) → v < length r.heads → get_or tab v 0 ≡ (get_or r.heads v no_head).place
   -- variable v's first element, and the element total at v = the number of variables
   pub first-element : (v : ℕ) → v ≤ length r.heads → get_or tab (32 + v) 0 ≡ before r.heads v
   pub variables : get_or tab 65 0 ≡ length r.heads
@@ -20,7 +20,7 @@ pub record Table (tab : List ℕ) (r : Raw) : Type 0 where
   pub third : get_or tab 67 0 ≡ r.third
   pub nodes : get_or tab 68 0 ≡ r.nodes
   -- the first node stands after the third section's count
-  pub first-node : r.first ≡ r.third + 8
+  pub first_node : r.first ≡ r.third + 8
 
 -- a table with the numbers that stand after the records: the variables, the places of the second and third section, the nodes
 abbrev pub noted : List ℕ → ℕ → ℕ → ℕ → ℕ → List ℕ

@@ -47,11 +47,11 @@ module _ (bs tab : List ℕ) (f : Formed bs tab) (v : ℕ) (lt : v < vars_of bs)
   pub laid-name : trimmed (eight bs (get_or tab v 0)) ≡ trimmed (variable (sheet_of bs) v).head.name
   laid-name =
       let prepared = f.placed.prepared in
-      let named = heads-named bs (heads_of bs) [] 8 (raw_of bs).second (prepared-sections bs tab prepared).heads-stand v lt in
-      ap trimmed (ap (eight bs) (prepared.table.record-at v lt) ∙ sym named ∙ ap (λ h. h.name) (sym laid.head-is))
+      let named = heads-named bs (heads_of bs) [] 8 (raw_of bs).second (prepared-sections bs tab prepared).heads_stand v lt in
+      ap trimmed (ap (eight bs) (prepared.table.record_at v lt) ∙ sym named ∙ ap (λ h. h.name) (sym laid.head_is))
 
   pub laid-sort : (sort : ℕ) → (get_or (heads_of bs) v no_head).sort ≡ sort_of sort → sort_of sort ≡ (variable (sheet_of bs) v).head.sort
-  laid-sort sort e = sym e ∙ ap (λ h. h.sort) (sym laid.head-is)
+  laid-sort sort e = sym e ∙ ap (λ h. h.sort) (sym laid.head_is)
 
   module _ (i : ℕ) (low : i < size (variable (sheet_of bs) v).head.box) where
     abbrev box : List Range
@@ -64,7 +64,7 @@ module _ (bs tab : List ℕ) (f : Formed bs tab) (v : ℕ) (lt : v < vars_of bs)
     pub laid-length : length (spaced (point_at box i)) ≤ 28
     laid-length =
         let inside = point_at-in_box box i (read_box-ordered box laid.box_read) low in
-        let dims = laid.dims-are ∙ ap (λ h. length h.box) (sym laid.head-is) in
+        let dims = laid.dims-are ∙ ap (λ h. length h.box) (sym laid.head_is) in
         omega (
           arith,
           spaced-length (point_at box i) (λ j. in_box-small box (point_at box i) j laid.box_read inside),
@@ -74,4 +74,4 @@ module _ (bs tab : List ℕ) (f : Formed bs tab) (v : ℕ) (lt : v < vars_of bs)
         )
 
     pub laid-number : get_or tab (32 + v) 0 + i < 4096
-    laid-number = omega (arith, laid.first-is, laid.few)
+    laid-number = omega (arith, laid.first_is, laid.few)

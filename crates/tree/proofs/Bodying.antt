@@ -234,7 +234,7 @@ module _ (bs tab : List ℕ) (v p m : ℕ) (sized : length tab ≡ 102) (few : v
 module _ (bs : List ℕ) where
   -- what is known of the variable numbered v
   record Known (v m : ℕ) (x : Variable) : Type 0 where
-    declared-is : x.declared ≡ of_variable v (raw_of bs).decls
+    declared_is : x.declared ≡ of_variable v (raw_of bs).decls
     tree-at : is_input x ≡ false → (k : ℕ) × (n : ℕ) × (k ≤ m) × TreeAt (raw_of bs) bs x x.start k n
 
   each : (s : Sheet) (w p m : ℕ) → BodiesAt s (raw_of bs) bs w p m → (v : ℕ) → v < length s → Known (w + v) m (variable s v)
@@ -243,7 +243,7 @@ module _ (bs : List ℕ) where
   each (x ∷ s) w p m h zero lt =
       let e : w + 0 ≡ w = omega arith in
       rw e (record {
-        declared-is = h.declared-is;
+        declared_is = h.declared_is;
         tree-at =
             λ i. (
               m,
@@ -257,7 +257,7 @@ module _ (bs : List ℕ) where
       let e : w + suc v ≡ suc w + v = omega arith in
       let r = each s (suc w) x.end h.left h.after v (omega arith) in
       let l = left-fewer (raw_of bs) bs x.head.kind x p m h.left h.body-at in
-      rw e (record { declared-is = r.declared-is; tree-at = λ i. let t = r.tree-at i in (t.0, t.1, omega (arith, t.2), t.3) })
+      rw e (record { declared_is = r.declared_is; tree-at = λ i. let t = r.tree-at i in (t.0, t.1, omega (arith, t.2), t.3) })
 
   module _ (tab : List ℕ) (prepared : Prepared bs tab) (s : Sheet) (is : shaped_of bs ≡ accepted s) (places : PlacesFrom tab 0 (raw_of bs).first s) where
     same-sheet : sheet_of bs ≡ s
@@ -267,7 +267,7 @@ module _ (bs : List ℕ) where
     read = bodies-read (raw_of bs) bs is
 
     count : length s ≡ vars_of bs
-    count = sym (length-map s (λ x. x.head)) ∙ ap length read.heads-are
+    count = sym (length-map s (λ x. x.head)) ∙ ap length read.heads_are
 
     known : (v : ℕ) → v < vars_of bs → Known v (raw_of bs).nodes (variable s v)
     known v lt =
@@ -277,7 +277,7 @@ module _ (bs : List ℕ) where
     stands : (v : ℕ) → v < vars_of bs → is_input (variable s v) ≡ false → BodyStands bs (variable s v)
     stands v lt i =
         let t = (known v lt).tree-at i in
-        let few = (prepared-sections bs tab prepared).few-nodes in
+        let few = (prepared-sections bs tab prepared).few_nodes in
         record { at = t.3.at; few = omega (arith, t.2, t.3.count); deep = t.3.deep; fitting = t.3.fitting }
 
     pub all_placed : BodiesPlaced bs tab
@@ -285,8 +285,8 @@ module _ (bs : List ℕ) where
       prepared = prepared;
       shaped = is ∙ ap accepted (sym same-sheet);
       many = ap length same-sheet ∙ count;
-      head-is = λ v lt. rw same-sheet (sym (get_or-map (λ x. x.head) s v no_variable) ∙ ap (λ l. get_or l v no_head) read.heads-are);
-      declared-is = λ v lt. rw same-sheet (known v lt).declared-is;
+      head_is = λ v lt. rw same-sheet (sym (get_or-map (λ x. x.head) s v no_variable) ∙ ap (λ l. get_or l v no_head) read.heads_are);
+      declared_is = λ v lt. rw same-sheet (known v lt).declared_is;
       starts = λ v lt. rw same-sheet (start v (omega (arith, count)));
       ends = λ v lt. rw same-sheet (end v (omega (arith, count)));
       body = rw same-sheet stands;

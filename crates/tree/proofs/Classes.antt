@@ -122,12 +122,12 @@ module _ (P : Expr → Type 0) where
 
 -- a leaf ends with its node
 pub record LeafAt (e : Expr) (bs : List ℕ) (p q : ℕ) : Type 0 where
-  pub class-is : class_of (node_of e) ≡ Leaf
+  pub class_is : class_of (node_of e) ≡ Leaf
   pub none_below : children_of e ≡ none
   pub end : node_end (vars_of bs) bs p ≡ q
 
 pub record OperatorAt (e : Expr) : Type 0 where
-  pub class-is : class_of (node_of e) ≡ Operator
+  pub class_is : class_of (node_of e) ≡ Operator
 
 -- what a tree of a class is
 abbrev pub ViewAt : Expr → List ℕ → ℕ → ℕ → Class → Type 0
@@ -141,15 +141,15 @@ module _ (bs : List ℕ) where
   leaf-view : (e : Expr) (p q : ℕ) → At e (vars_of bs) bs p q → class_of (node_of e) ≡ Leaf → children_of e ≡ none → LeafAt e bs p q
   leaf-view e p q h is bare =
       let below = at-children (vars_of bs) bs e p q h in
-      record { class-is = is; none_below = bare; end = (all_at-none (vars_of bs) bs (children_of e) (node_end (vars_of bs) bs p) q below (rw bare refl)).end }
+      record { class_is = is; none_below = bare; end = (all_at-none (vars_of bs) bs (children_of e) (node_end (vars_of bs) bs p) q below (rw bare refl)).end }
 
   view : (e : Expr) (p q : ℕ) → At e (vars_of bs) bs p q → ViewAt e bs p q (class_of (node_of e))
   view (var v) p q h = leaf-view (var v) p q h refl refl
   view (int c) p q h = leaf-view (int c) p q h refl refl
   view (boo b) p q h = leaf-view (boo b) p q h refl refl
-  view (un o a) p q h = record { class-is = refl }
-  view (bin o a b) p q h = record { class-is = refl }
-  view (ite a b c) p q h = record { class-is = refl }
+  view (un o a) p q h = record { class_is = refl }
+  view (bin o a b) p q h = record { class_is = refl }
+  view (ite a b c) p q h = record { class_is = refl }
   view (kase es) p q h = at-shape (vars_of bs) bs (kase es) p q h
   view (restr d cs a) p q h = at-shape (vars_of bs) bs (restr d cs a) p q h
   view (dep f a) p q h = at-shape (vars_of bs) bs (dep f a) p q h
@@ -211,7 +211,7 @@ module _ (bs : List ℕ) (p : ℕ) (h : Noded (vars_of bs) bs p) where
 
 -- a node was read, and its class was told
 pub noded-as : (bs : List ℕ) (p : ℕ) → Noded (vars_of bs) bs p → (r class : Class) → r ≡ class_at bs p → r ≡ class → NodedAs bs p class
-noded-as bs p h r class told is = record { noded = h; class-is = sym told ∙ is }
+noded-as bs p h r class told is = record { noded = h; class_is = sym told ∙ is }
 
 -- ---- the fields by the class
 
@@ -257,53 +257,53 @@ module _ (bs : List ℕ) (p : ℕ) where
 
   module _ (h : NodedAs bs p Leaf) where
     pub leaf-there : p + 16 ≤ length bs
-    leaf-there = omega (arith, leaf-size (node_read (vars_of bs) bs p) h.class-is, (node-here bs p h.noded).there)
+    leaf-there = omega (arith, leaf-size (node_read (vars_of bs) bs p) h.class_is, (node-here bs p h.noded).there)
 
     pub leaf-end : p + 16 ≡ node_end (vars_of bs) bs p
-    leaf-end = omega (arith, leaf-size (node_read (vars_of bs) bs p) h.class-is, size-here bs p h.noded)
+    leaf-end = omega (arith, leaf-size (node_read (vars_of bs) bs p) h.class_is, size-here bs p h.noded)
 
     pub leaf-arity : 0 ≡ arity (node_read (vars_of bs) bs p)
-    leaf-arity = leaf-node (λ nd. 0 ≡ arity nd) (λ v. refl) (λ c. refl) (λ b. refl) (node_read (vars_of bs) bs p) h.class-is
+    leaf-arity = leaf-node (λ nd. 0 ≡ arity nd) (λ v. refl) (λ c. refl) (λ b. refl) (node_read (vars_of bs) bs p) h.class_is
 
   module _ (h : NodedAs bs p Operator) where
     pub operator-some : 1 ≤ arity (node_read (vars_of bs) bs p)
     operator-some =
-        operator-node (λ nd. 1 ≤ arity nd) (λ o. omega arith) (λ o. omega arith) (omega arith) (node_read (vars_of bs) bs p) h.class-is
+        operator-node (λ nd. 1 ≤ arity nd) (λ o. omega arith) (λ o. omega arith) (omega arith) (node_read (vars_of bs) bs p) h.class_is
 
   module _ (h : NodedAs bs p Case) where
     pub case-there : p + 16 ≤ length bs
-    case-there = omega (arith, case-size (node_read (vars_of bs) bs p) h.class-is, (node-here bs p h.noded).there)
+    case-there = omega (arith, case-size (node_read (vars_of bs) bs p) h.class_is, (node-here bs p h.noded).there)
 
     pub case-end : p + 16 ≡ node_end (vars_of bs) bs p
-    case-end = omega (arith, case-size (node_read (vars_of bs) bs p) h.class-is, size-here bs p h.noded)
+    case-end = omega (arith, case-size (node_read (vars_of bs) bs p) h.class_is, size-here bs p h.noded)
 
     pub case-some : 1 ≤ arity (node_read (vars_of bs) bs p)
-    case-some = case-node (λ nd. Here nd → 1 ≤ arity nd) (λ n at. at.fields.low) (node_read (vars_of bs) bs p) h.class-is (node-here bs p h.noded)
+    case-some = case-node (λ nd. Here nd → 1 ≤ arity nd) (λ n at. at.fields.low) (node_read (vars_of bs) bs p) h.class_is (node-here bs p h.noded)
 
     pub case-many : nat_abs (field bs (p + 8)) ≡ arity (node_read (vars_of bs) bs p)
-    case-many = case-arity (node_read (vars_of bs) bs p) h.class-is (node-here bs p h.noded)
+    case-many = case-arity (node_read (vars_of bs) bs p) h.class_is (node-here bs p h.noded)
 
   module _ (h : NodedAs bs p Restriction) where
     pub restriction-fields : Wide bs p
-    restriction-fields = restriction-wide (node_read (vars_of bs) bs p) h.class-is (node-here bs p h.noded)
+    restriction-fields = restriction-wide (node_read (vars_of bs) bs p) h.class_is (node-here bs p h.noded)
 
     pub restriction-end : p + (24 + nat_abs (field bs (p + 16)) * (16 + 8 * nat_abs (field bs (p + 8)))) ≡ node_end (vars_of bs) bs p
     restriction-end =
-        omega (arith, restriction-size (node_read (vars_of bs) bs p) h.class-is (node-here bs p h.noded), size-here bs p h.noded)
+        omega (arith, restriction-size (node_read (vars_of bs) bs p) h.class_is (node-here bs p h.noded), size-here bs p h.noded)
 
     pub restriction-arity : 1 ≡ arity (node_read (vars_of bs) bs p)
-    restriction-arity = restriction-node (λ nd. 1 ≡ arity nd) (λ d cs. refl) (node_read (vars_of bs) bs p) h.class-is
+    restriction-arity = restriction-node (λ nd. 1 ≡ arity nd) (λ d cs. refl) (node_read (vars_of bs) bs p) h.class_is
 
   module _ (h : NodedAs bs p Dependence) where
     pub dependence-fields : Wide bs p
-    dependence-fields = dependence-wide (node_read (vars_of bs) bs p) h.class-is (node-here bs p h.noded)
+    dependence-fields = dependence-wide (node_read (vars_of bs) bs p) h.class_is (node-here bs p h.noded)
 
     pub dependence-rows : nat_abs (field bs (p + 16)) ≤ 4
-    dependence-rows = rows_few (node_read (vars_of bs) bs p) h.class-is (node-here bs p h.noded)
+    dependence-rows = rows_few (node_read (vars_of bs) bs p) h.class_is (node-here bs p h.noded)
 
     pub dependence-end : p + (24 + nat_abs (field bs (p + 16)) * (8 + 8 * nat_abs (field bs (p + 8)))) ≡ node_end (vars_of bs) bs p
     dependence-end =
-        omega (arith, dependence-size (node_read (vars_of bs) bs p) h.class-is (node-here bs p h.noded), size-here bs p h.noded)
+        omega (arith, dependence-size (node_read (vars_of bs) bs p) h.class_is (node-here bs p h.noded), size-here bs p h.noded)
 
     pub dependence-arity : 1 ≡ arity (node_read (vars_of bs) bs p)
-    dependence-arity = dependence-node (λ nd. 1 ≡ arity nd) (λ f. refl) (node_read (vars_of bs) bs p) h.class-is
+    dependence-arity = dependence-node (λ nd. 1 ≡ arity nd) (λ f. refl) (node_read (vars_of bs) bs p) h.class_is

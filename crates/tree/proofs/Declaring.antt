@@ -71,8 +71,8 @@ module _ (bs : List ℕ) (p v : ℕ) (d : Declared) (q : ℕ) (e : declared (hea
 pub section-there : (bs tab : List ℕ) → Prepared bs tab → (raw_of bs).second + 8 ≤ length bs
 section-there bs tab h =
     let s = prepared-sections bs tab h in
-    let d : (raw_of bs).second + 8 ≤ (raw_of bs).third = row_goes (heads_of bs) bs (raw_of bs).decls ((raw_of bs).second + 8) (raw_of bs).third s.declared-stand in
-    omega (arith, s.first-is, s.first-there)
+    let d : (raw_of bs).second + 8 ≤ (raw_of bs).third = row_goes (heads_of bs) bs (raw_of bs).decls ((raw_of bs).second + 8) (raw_of bs).third s.declared_stand in
+    omega (arith, s.first_is, s.first_there)
 
 -- the constraints of v among these pass if the first does and those among the others do
 own-more : (v : ℕ) (d : Declared) (ds : List Declared) → all_reach top_reach (of_variable v (d ∷ ds)) ≡ declared_passes v d && all_reach top_reach (of_variable v ds)
@@ -94,8 +94,8 @@ module _ (bs : List ℕ) (v : ℕ) where
   pub all_left : (tab : List ℕ) → Prepared bs tab → (left p : ℕ) → left ≡ nat_abs (field bs (raw_of bs).second) → p ≡ (raw_of bs).second + 8 → DeclaredLeft left p
   all_left tab h left p l e =
       let s = prepared-sections bs tab h in
-      let n : length (raw_of bs).decls ≡ left = sym (l ∙ ap nat_abs s.declared-count) in
-      record { rest = (raw_of bs).decls; many = n; stand = rw e s.declared-stand; decides = refl }
+      let n : length (raw_of bs).decls ≡ left = sym (l ∙ ap nat_abs s.declared_count) in
+      record { rest = (raw_of bs).decls; many = n; stand = rw e s.declared_stand; decides = refl }
 
   module _ (left p : ℕ) (h : DeclaredLeft left p) where
     pub none-declared-left : left ≤ 0 → true ≡ all_reach top_reach (of_variable v (raw_of bs).decls)

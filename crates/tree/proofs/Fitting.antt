@@ -59,11 +59,11 @@ module _ (bs : List ℕ) (p : ℕ) where
 
     pub restriction-fits : NodedAs bs p Restriction → eqb (nat_abs (field bs (p + 8))) n ≡ fits_here nd hs n
     restriction-fits h =
-        restriction-node AsField (λ d cs at. ap (λ x. eqb x n) (sym (counted_is at.fields.dim))) nd h.class-is (node-here bs p h.noded)
+        restriction-node AsField (λ d cs at. ap (λ x. eqb x n) (sym (counted_is at.fields.dim))) nd h.class_is (node-here bs p h.noded)
 
     pub dependence-fits : NodedAs bs p Dependence → eqb (nat_abs (field bs (p + 8))) n ≡ fits_here nd hs n
     dependence-fits h =
-        dependence-node AsField (λ f at. ap (λ x. eqb x n) (sym (counted_is at.fields.width))) nd h.class-is (node-here bs p h.noded)
+        dependence-node AsField (λ f at. ap (λ x. eqb x n) (sym (counted_is at.fields.width))) nd h.class_is (node-here bs p h.noded)
 
   -- ---- what is wanted of the children
 
@@ -83,4 +83,4 @@ module _ (bs : List ℕ) (p : ℕ) where
     pub dependence-wants : NodedAs bs p Dependence → nat_abs (field bs (p + 16)) ≡ wanted nd n
     dependence-wants h =
         dependence-node (λ nd. NodeAt (vars_of bs) bs p nd → nat_abs (field bs (p + 16)) ≡ wanted nd n) (λ f at. sym (counted_is at.fields.many))
-        nd h.class-is (node-here bs p h.noded)
+        nd h.class_is (node-here bs p h.noded)

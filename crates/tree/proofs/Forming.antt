@@ -26,18 +26,18 @@ use Rattle.tree.proofs.Passing.{body-reaches}
 
 -- ---- SHAPE over all variables
 
-module _ (bs tab : List ℕ) (h : Prepared bs tab) (p m : ℕ) (first-is : p ≡ get_or tab 67 0 + 8) (nodes-are : m ≡ get_or tab 68 0) where
+module _ (bs tab : List ℕ) (h : Prepared bs tab) (p m : ℕ) (first_is : p ≡ get_or tab 67 0 + 8) (nodes_are : m ≡ get_or tab 68 0) where
   place : p ≡ (raw_of bs).first
-  place = first-is ∙ ap (λ x. x + 8) h.table.third ∙ sym h.table.first-node
+  place = first_is ∙ ap (λ x. x + 8) h.table.third ∙ sym h.table.first_node
 
   count : m ≡ (raw_of bs).nodes
-  count = nodes-are ∙ h.table.nodes
+  count = nodes_are ∙ h.table.nodes
 
   -- all the nodes stand from the first on
   pub all-flat : Flat bs p m
   all-flat =
       let s = prepared-sections bs tab h in
-      rw (place, count) (record { nodes = s.listed; many = s.listed-count; stand = s.nodes-stand })
+      rw (place, count) (record { nodes = s.listed; many = s.listed_count; stand = s.nodes_stand })
 
   whole : shapes_from bs 0 p m ≡ shaped_of bs
   whole = ap (λ x. shapes_from bs 0 x m) place ∙ ap (shapes_from bs 0 (raw_of bs).first) count
@@ -100,5 +100,5 @@ module _ (bs tab : List ℕ) (a : Ruling) (sh : ShapesAll bs tab a) where
                 reaches = y;
                 typing = λ v lt. typing v (omega arith);
                 reaching = λ v lt. reaching v (omega arith);
-                body-reach = λ v lt i. body-reaches (variable (sheet_of bs) v) i (reaching v (omega arith));
+                body_reach = λ v lt i. body-reaches (variable (sheet_of bs) v) i (reaching v (omega arith));
               }

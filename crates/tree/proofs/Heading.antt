@@ -49,9 +49,9 @@ module _ (bs tab : List ℕ) (h : Prepared bs tab) where
   module _ (v : ℕ) (lt : v < vars_of bs) where
     pub prepared-record : Recorded bs (get_or (heads_of bs) v no_head) (get_or tab v 0)
     prepared-record =
-        rw (h.table.record-at v lt)
+        rw (h.table.record_at v lt)
         (heads_at-each (λ x. Recorded bs x x.place) bs (λ earlier p x a. head-recorded earlier bs p x a) (heads_of bs) [] 8 (raw_of bs).second
-        prepared-sections.heads-stand v lt no_head)
+        prepared-sections.heads_stand v lt no_head)
 
     -- the table has a place for each variable
     pub prepared-few : v < 32

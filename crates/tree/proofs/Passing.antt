@@ -90,10 +90,10 @@ module _ (bs tab : List ℕ) (h : BodiesPlaced bs tab) (v : ℕ) (lt : v < vars_
   few = omega (arith, (prepared-sections bs tab h.prepared).few)
 
   pub is-input : (k : ℕ) → (get_or (heads_of bs) v no_head).kind ≡ kind_of k → k ≡ 0 → is_input (variable (sheet_of bs) v) ≡ true
-  is-input k e z = ap (λ x. is_input_kind x.kind) (h.head-is v lt) ∙ ap is_input_kind e ∙ input-is k z
+  is-input k e z = ap (λ x. is_input_kind x.kind) (h.head_is v lt) ∙ ap is_input_kind e ∙ input-is k z
 
-  pub no-input : (k : ℕ) → (get_or (heads_of bs) v no_head).kind ≡ kind_of k → k ≤ 2 → (k ≡ 0 → ⊥) → is_input (variable (sheet_of bs) v) ≡ false
-  no-input k e l n = ap (λ x. is_input_kind x.kind) (h.head-is v lt) ∙ ap is_input_kind e ∙ other-is k l n
+  pub no_input : (k : ℕ) → (get_or (heads_of bs) v no_head).kind ≡ kind_of k → k ≤ 2 → (k ≡ 0 → ⊥) → is_input (variable (sheet_of bs) v) ≡ false
+  no_input k e l n = ap (λ x. is_input_kind x.kind) (h.head_is v lt) ∙ ap is_input_kind e ∙ other-is k l n
 
   -- the body stands where the table says
   pub body-standing : is_input (variable (sheet_of bs) v) ≡ false → (p : ℕ) → p ≡ get_or tab (69 + v) 0 → Standing (vars_of bs) bs p 2048
@@ -116,7 +116,7 @@ module _ (bs tab : List ℕ) (h : BodiesPlaced bs tab) (v : ℕ) (lt : v < vars_
 
     typed-by : (o : Option Sort) → type_of (variable (sheet_of bs) v).body (heads_of bs) ≡ o →
         is_sort (get_or (heads_of bs) v no_head).sort o ≡ typed (heads_of bs) (variable (sheet_of bs) v)
-    typed-by o f = rw (i, f, h.head-is v lt)
+    typed-by o f = rw (i, f, h.head_is v lt)
 
     module _ (t : Typed) (says : TreeTyped bs p t) where
       pub type-of-integer : (m : ℕ) → t ≡ Integer m → (k : ℕ) → (get_or (heads_of bs) v no_head).sort ≡ sort_of k → k ≤ 1 →
@@ -142,7 +142,7 @@ module _ (bs tab : List ℕ) (h : BodiesPlaced bs tab) (v : ℕ) (lt : v < vars_
 
   module _ (b : Bool) (declared : b ≡ all_reach top_reach (of_variable v (raw_of bs).decls)) where
     declared-so : all_reach top_reach (variable (sheet_of bs) v).declared ≡ b
-    declared-so = ap (all_reach top_reach) (h.declared-is v lt) ∙ sym declared
+    declared-so = ap (all_reach top_reach) (h.declared_is v lt) ∙ sym declared
 
     pub reach-undeclared : b ≡ false → false ≡ reached (variable (sheet_of bs) v)
     reach-undeclared e = let d = declared-so ∙ e in rw d

@@ -17,13 +17,13 @@ prepared-kept bs tab tab' h sized kept =
       accepted = h.accepted;
       table = record {
         sized = sized;
-        record-at = λ v lt. kept v (omega arith) ∙ t.record-at v lt;
+        record_at = λ v lt. kept v (omega arith) ∙ t.record_at v lt;
         first-element = λ v lt. kept (32 + v) (omega arith) ∙ t.first-element v lt;
         variables = kept 65 (omega arith) ∙ t.variables;
         second = kept 66 (omega arith) ∙ t.second;
         third = kept 67 (omega arith) ∙ t.third;
         nodes = kept 68 (omega arith) ∙ t.nodes;
-        first-node = t.first-node;
+        first_node = t.first_node;
       };
     }
 

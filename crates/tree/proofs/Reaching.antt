@@ -90,8 +90,8 @@ module _ (r n : ℕ) (bs : List ℕ) where
           let e : suc (j - 1) ≡ j = omega arith in
           let m : suc (j - 1) * (16 + 8 * n) ≡ j * (16 + 8 * n) = ap (λ i. i * (16 + 8 * n)) e in omega (arith, suc-mul (j - 1) (16 + 8 * n))
 
-      pub first-there : p + (16 + 8 * n) ≤ length bs
-      first-there = omega (arith, room, h.there)
+      pub first_there : p + (16 + 8 * n) ≤ length bs
+      first_there = omega (arith, room, h.there)
 
       pub first-fails : leb (row_reach r (row_fields n bs (p + 8))) limit ≡ false → false ≡ constraints_reach r n k bs at
       first-fails e = sym (split-first j p l ∙ rw e) ∙ h.decides
@@ -158,7 +158,7 @@ module _ (bs : List ℕ) (p r : ℕ) where
     restriction-reaches b found =
         restriction-node (λ nd. NodeAt (vars_of bs) bs p nd → Passing (reached_at b r) nd)
         (λ d cs n. ap (λ x. reached_at x r) (sym found ∙ by-constraints d cs n.fields))
-        (node_read (vars_of bs) bs p) h.class-is (node-here bs p h.noded)
+        (node_read (vars_of bs) bs p) h.class_is (node-here bs p h.noded)
 
   pub dependence-reaches : NodedAs bs p Dependence → (m : Code.Map) → MapRead bs (p + 8) m → (y : Reached) → Tells y (map_reach r (map_of m).rows) →
       NodeReached bs p r y
@@ -166,7 +166,7 @@ module _ (bs : List ℕ) (p r : ℕ) where
       dependence-node (λ nd. NodeAt (vars_of bs) bs p nd → Passing y nd)
       (λ f n. tells-reached y (map_reach r f.rows)
       (subst (λ (g : Map). Tells y (map_reach r g.rows)) (read.is f n.fields.next n.fields.read) t))
-      (node_read (vars_of bs) bs p) h.class-is (node-here bs p h.noded)
+      (node_read (vars_of bs) bs p) h.class_is (node-here bs p h.noded)
 
 -- an answer with a reach says that the node passes, and what the reach is; any other that it does not
 pub record Reaches (b : Bool) (n x : ℕ) : Type 0 where

@@ -47,8 +47,8 @@ pub record BodiesPlaced (bs tab : List ℕ) : Type 0 where
   pub prepared : Prepared bs tab
   pub shaped : shaped_of bs ≡ accepted (sheet_of bs)
   pub many : length (sheet_of bs) ≡ vars_of bs
-  pub head-is : (v : ℕ) → v < vars_of bs → (variable (sheet_of bs) v).head ≡ get_or (heads_of bs) v no_head
-  pub declared-is : (v : ℕ) → v < vars_of bs → (variable (sheet_of bs) v).declared ≡ of_variable v (raw_of bs).decls
+  pub head_is : (v : ℕ) → v < vars_of bs → (variable (sheet_of bs) v).head ≡ get_or (heads_of bs) v no_head
+  pub declared_is : (v : ℕ) → v < vars_of bs → (variable (sheet_of bs) v).declared ≡ of_variable v (raw_of bs).decls
   pub starts : (v : ℕ) → v < vars_of bs → get_or tab (69 + v) 0 ≡ (variable (sheet_of bs) v).start
   pub ends : (v : ℕ) → v < vars_of bs → get_or tab (69 + v + 1) 0 ≡ (variable (sheet_of bs) v).end
   pub body : (v : ℕ) → v < vars_of bs → is_input (variable (sheet_of bs) v) ≡ false → BodyStands bs (variable (sheet_of bs) v)
@@ -70,7 +70,7 @@ pub record Formed (bs tab : List ℕ) : Type 0 where
   pub reaches : first REACH reached 0 (sheet_of bs) ≡ accepted tt
   pub typing : (v : ℕ) → v < vars_of bs → typed (heads_of bs) (variable (sheet_of bs) v) ≡ true
   pub reaching : (v : ℕ) → v < vars_of bs → reached (variable (sheet_of bs) v) ≡ true
-  pub body-reach : (v : ℕ) → v < vars_of bs → is_input (variable (sheet_of bs) v) ≡ false → reach (variable (sheet_of bs) v).body top_reach ≡ true
+  pub body_reach : (v : ℕ) → v < vars_of bs → is_input (variable (sheet_of bs) v) ≡ false → reach (variable (sheet_of bs) v).body top_reach ≡ true
 
 -- the promise of the check of SHAPE, TYPE and REACH: refusals 7, 8 and 9 with their places, and what is known where there is none
 pub record Forms (bs tab' : List ℕ) (r : Ruling) : Type 0 where

@@ -18,7 +18,7 @@ pub record Noded (vars : ℕ) (bs : List ℕ) (p : ℕ) : Type 0 where
 -- one of that class was
 pub record NodedAs (bs : List ℕ) (p : ℕ) (class : Class) : Type 0 where
   pub noded : Noded (vars_of bs) bs p
-  pub class-is : class_at bs p ≡ class
+  pub class_is : class_at bs p ≡ class
 
 -- the three number fields of a restriction or a dependence stand at p, and the second and third are within their limits
 pub record Wide (bs : List ℕ) (p : ℕ) : Type 0 where
@@ -37,7 +37,7 @@ pub record Standing (vars : ℕ) (bs : List ℕ) (p left : ℕ) : Type 0 where
 -- whose first node is of that class
 pub record StandingAs (bs : List ℕ) (p left : ℕ) (class : Class) : Type 0 where
   pub stands : Standing (vars_of bs) bs p left
-  pub class-is : class_at bs p ≡ class
+  pub class_is : class_at bs p ≡ class
 
 -- n trees, of at most `left` nodes in all, stand from p on
 pub record StandingAll (vars : ℕ) (bs : List ℕ) (p left n : ℕ) : Type 0 where

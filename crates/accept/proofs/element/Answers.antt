@@ -16,4 +16,4 @@ returns-in_default c =
 pub returns : goal.returns
 returns c =
     let admitted = c.judge-judged.ensures.admits.admitted _ c.in-Accepted.is in
-    record { answer = c.number_of.ensures ∙ sym (accepted-number _ _ _ _ admitted.sheet-is) }
+    record { answer = c.number_of.ensures ∙ sym (accepted-number _ _ _ _ admitted.sheet_is) }

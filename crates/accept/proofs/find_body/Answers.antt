@@ -18,4 +18,4 @@ pub returns : goal.returns
 returns c =
     let admitted = c.judge-r.ensures.admits.admitted _ c.in-Accepted.is in
     let p = c.part_of.ensures in
-    record { is = accepted-part _ _ admitted.sheet-is ∙ p.is; there = p.there }
+    record { is = accepted-part _ _ admitted.sheet_is ∙ p.is; there = p.there }

@@ -17,7 +17,7 @@ returns-then-point-d c =
     let laid = laid-variable _ _ c.requires.placed _ lt in
     let dims = c.dimension_of-d.ensures.0 in
     other-asked (sheet_of c.args.s.now) c.args.variable c.args.point.now
-    (λ e. c.if-point-d.true (e ∙ ap (λ h. length h.box) laid.head-is ∙ sym dims))
+    (λ e. c.if-point-d.true (e ∙ ap (λ h. length h.box) laid.head_is ∙ sym dims))
 
 pub record_place-requires : goal.record_place-requires
 record_place-requires c =
@@ -62,7 +62,7 @@ overflow_add-result c =
     c.index-found.ensures
     ∙ index_is _ _ c.requires _ lt _ c.coordinates-z.result c.args.point.now
     c.record_place.ensures dims c.coordinates-z.ensures in
-    let first = c.first_element.ensures ∙ (laid-variable _ _ c.requires.placed _ lt).first-is in
+    let first = c.first_element.ensures ∙ (laid-variable _ _ c.requires.placed _ lt).first_is in
     omega (arith, first, found-low _ _ c.requires _ lt c.in-At.i _ (sym c.in-At.is ∙ found))
 
 pub returns : goal.returns
@@ -75,6 +75,6 @@ returns c =
     ∙ index_is _ _ c.requires _ lt _ c.coordinates-z.result c.args.point.now
     c.record_place.ensures dims c.coordinates-z.ensures in
     let laid = laid-variable _ _ c.requires.placed _ lt in
-    let first = c.first_element.ensures ∙ laid.first-is in
+    let first = c.first_element.ensures ∙ laid.first_is in
     found-asked (sheet_of c.args.s.now) c.args.variable c.args.point.now _ _ laid.known
     (sym c.in-At.is ∙ found) (ap (λ n. n + c.in-At.i) first)

@@ -16,7 +16,7 @@ use Rattle.accept.specs.Admits.{Admitted}
 use Rattle.accept.proofs.Steps.{long-refuses}
 use Rattle.run.proofs.Listing.{inputs-length}
 use Rattle.run.proofs.Beginning.{started_none, no-end-kept, accepted-covered, started-ready, started-idle, started-right}
-use Rattle.run.proofs.Running.{unread-runs, inputs-runs, total-is, codes-runs, values-runs, all_runs}
+use Rattle.run.proofs.Running.{unread-runs, inputs-runs, total_is, codes-runs, values-runs, all_runs}
 use Rattle.run.proofs.run.Goals.{In-Accepted-judged, In_default-r}
 use Rattle.run.proofs.run.Goals as goal
 
@@ -26,7 +26,7 @@ admits c = c.admit-judged.ensures.admitted _ c.in-Accepted-judged.is
 
 many : (c : In-Accepted-judged) → c.in-Accepted-judged.total ≡ total (sheet_of c.args.s.now)
 many c =
-    total-is _ c.args.ins.now c.args.codes.now c.args.values.now _ (admits c).sheet-is _
+    total_is _ c.args.ins.now c.args.codes.now c.args.values.now _ (admits c).sheet_is _
     (sym (ap told c.in-Accepted-judged.is) ∙ c.admit-judged.ensures.answer)
 
 -- and so is the list
@@ -48,16 +48,16 @@ returns-in_default-judged c = unread-runs _ _ _ _ _ c.in_default-judged.is c.adm
 
 pub returns-in-Refused : goal.returns-in-Refused
 returns-in-Refused c =
-    inputs-runs _ _ c.args.codes.now c.args.values.now _ (admits (goal.at.returns-in-Refused c).In-Accepted-judged).sheet-is _
+    inputs-runs _ _ c.args.codes.now c.args.values.now _ (admits (goal.at.returns-in-Refused c).In-Accepted-judged).sheet_is _
     (sym (ap ruled c.in-Refused.is) ∙ c.inputs-r.ensures)
 
 pub returns-then-codes-total : goal.returns-then-codes-total
 returns-then-codes-total c =
-    codes-runs _ _ _ c.args.values.now _ (admits (goal.at.returns-then-codes-total c).In-Accepted-judged).sheet-is (taken (goal.at.returns-then-codes-total c).In_default-r) _ (many (goal.at.returns-then-codes-total c).In-Accepted-judged) c.if-codes-total.true _ refl
+    codes-runs _ _ _ c.args.values.now _ (admits (goal.at.returns-then-codes-total c).In-Accepted-judged).sheet_is (taken (goal.at.returns-then-codes-total c).In_default-r) _ (many (goal.at.returns-then-codes-total c).In-Accepted-judged) c.if-codes-total.true _ refl
 
 pub returns-then-values-total : goal.returns-then-values-total
 returns-then-values-total c =
-    values-runs _ _ _ _ _ (admits (goal.at.returns-then-values-total c).In-Accepted-judged).sheet-is (taken (goal.at.returns-then-values-total c).In_default-r) _ (many (goal.at.returns-then-values-total c).In-Accepted-judged) c.if-codes-total.false c.if-values-total.true _ refl
+    values-runs _ _ _ _ _ (admits (goal.at.returns-then-values-total c).In-Accepted-judged).sheet_is (taken (goal.at.returns-then-values-total c).In_default-r) _ (many (goal.at.returns-then-values-total c).In-Accepted-judged) c.if-codes-total.false c.if-values-total.true _ refl
 
 pub keep_all-requires : goal.keep_all-requires
 keep_all-requires c =
@@ -74,17 +74,17 @@ fill_all-requires c =
     let S = c.start.ensures in
     let few = laid-total _ _ a.formed.placed in
     let n = many (goal.at.fill_all-requires c).In-Accepted-judged in
-    let covered = accepted-covered _ a.sheet-is in (
+    let covered = accepted-covered _ a.sheet_is in (
       record {
         formed = a.formed;
         inside_is = a.filled;
-        ends-kept = c.keep_all.ensures;
+        ends_kept = c.keep_all.ensures;
         ready = started-ready _ _ _ few S covered;
       },
       record {
         idle = started-idle _ _ _ few S;
-        in-codes = omega (arith, n, c.if-codes-total.false);
-        in-values = omega (arith, n, c.if-values-total.false);
+        in_codes = omega (arith, n, c.if-codes-total.false);
+        in_values = omega (arith, n, c.if-values-total.false);
       },
     )
 
@@ -92,5 +92,5 @@ pub returns : goal.returns
 returns c =
     let a = admits (goal.at.returns c).In-Accepted-judged in
     let few = laid-total _ _ a.formed.placed in
-    all_runs _ _ _ _ _ a.sheet-is (taken (goal.at.returns c).In_default-r) _ (many (goal.at.returns c).In-Accepted-judged) c.if-codes-total.false c.if-values-total.false _
+    all_runs _ _ _ _ _ a.sheet_is (taken (goal.at.returns c).In_default-r) _ (many (goal.at.returns c).In-Accepted-judged) c.if-codes-total.false c.if-values-total.false _
     (started-right _ _ _ few c.start.ensures) _ _ c.fill_all.ensures

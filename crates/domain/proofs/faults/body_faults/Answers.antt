@@ -18,19 +18,19 @@ laid : (c : Start) → VariableLaid c.args.s.now c.args.tab.now c.args.v
 laid c = laid-variable _ _ c.requires.0.formed.placed _ c.requires.1.known
 
 -- its first element
-first-is : (c : After-first_element-first) →
+first_is : (c : After-first_element-first) →
     (laid : VariableLaid c.args.s.now c.args.tab.now c.args.v) →
     c.first_element-first.result ≡ before (sheet_of c.args.s.now) c.args.v
-first-is c laid = c.first_element-first.ensures ∙ laid.first-is
+first_is c laid = c.first_element-first.ensures ∙ laid.first_is
 
 -- how many it has
 size_is : (c : After-first_element) →
     (laid : VariableLaid c.args.s.now c.args.tab.now c.args.v) →
-    (first-is : c.first_element-first.result ≡ before (sheet_of c.args.s.now) c.args.v) →
+    (first_is : c.first_element-first.result ≡ before (sheet_of c.args.s.now) c.args.v) →
     c.first_element.result - c.first_element-first.result
     ≡ Box.size (variable (sheet_of c.args.s.now) c.args.v).head.box
-size_is c laid first-is =
-    let l = laid.last-is in omega (arith, first-is, c.first_element.ensures)
+size_is c laid first_is =
+    let l = laid.last-is in omega (arith, first_is, c.first_element.ensures)
 
 -- the element is one of the variable's
 low : (c : In-loop-i) →
@@ -48,7 +48,7 @@ first_element-requires c = omega (arith, (laid (goal.at.first_element-requires c
 pub overflow_sub-size : goal.overflow_sub-size
 overflow_sub-size c =
     let l = (laid (goal.at.overflow_sub-size c).Start).last-is in omega
-    (arith, first-is (goal.at.overflow_sub-size c).After-first_element-first (laid (goal.at.overflow_sub-size c).Start), c.first_element.ensures)
+    (arith, first_is (goal.at.overflow_sub-size c).After-first_element-first (laid (goal.at.overflow_sub-size c).Start), c.first_element.ensures)
 
 pub body_stands-how-requires : goal.body_stands-how-requires
 body_stands-how-requires c = (
@@ -57,7 +57,7 @@ body_stands-how-requires c = (
     has_body = c.requires.1;
     low = low (goal.at.body_stands-how-requires c).In-loop-i
         (size_is (goal.at.body_stands-how-requires c).After-first_element (laid (goal.at.body_stands-how-requires c).Start)
-        (first-is (goal.at.body_stands-how-requires c).After-first_element-first (laid (goal.at.body_stands-how-requires c).Start)));
+        (first_is (goal.at.body_stands-how-requires c).After-first_element-first (laid (goal.at.body_stands-how-requires c).Start)));
   },
 )
 
@@ -66,25 +66,25 @@ returns-then-not-is_clear c =
     let how = c.body_stands-how in
     let faulty = sym c.is_clear.ensures ∙ c.if-not-is_clear.true in
     c.fault.ensures
-    ∙ ap (λ n. fault_of how.result (n + c.loop-i.i)) (first-is (goal.at.returns-then-not-is_clear c).After-first_element-first (laid (goal.at.returns-then-not-is_clear c).Start))
+    ∙ ap (λ n. fault_of how.result (n + c.loop-i.i)) (first_is (goal.at.returns-then-not-is_clear c).After-first_element-first (laid (goal.at.returns-then-not-is_clear c).Start))
     ∙ body-fails _ _ _ c.loop-i.invariant (low (goal.at.returns-then-not-is_clear c).In-loop-i
     (size_is (goal.at.returns-then-not-is_clear c).After-first_element (laid (goal.at.returns-then-not-is_clear c).Start)
-    (first-is (goal.at.returns-then-not-is_clear c).After-first_element-first
-    (laid (goal.at.returns-then-not-is_clear c).Start)))) c.requires.1.no-input _ how.ensures faulty
+    (first_is (goal.at.returns-then-not-is_clear c).After-first_element-first
+    (laid (goal.at.returns-then-not-is_clear c).Start)))) c.requires.1.no_input _ how.ensures faulty
 
 pub loop-i-preserved : goal.loop-i-preserved
 loop-i-preserved c =
     let clear = sym c.is_clear.ensures ∙ c.if-not-is_clear.false in
     body-passes _ _ _ c.loop-i.invariant (low (goal.at.loop-i-preserved c).In-loop-i
     (size_is (goal.at.loop-i-preserved c).After-first_element (laid (goal.at.loop-i-preserved c).Start)
-    (first-is (goal.at.loop-i-preserved c).After-first_element-first
-    (laid (goal.at.loop-i-preserved c).Start)))) c.requires.1.no-input _ c.body_stands-how.ensures clear
+    (first_is (goal.at.loop-i-preserved c).After-first_element-first
+    (laid (goal.at.loop-i-preserved c).Start)))) c.requires.1.no_input _ c.body_stands-how.ensures clear
 
 pub returns : goal.returns
 returns c =
     body_end _ _ _ c.loop-i.invariant (omega (
       arith,
       size_is (goal.at.returns c).After-first_element (laid (goal.at.returns c).Start)
-          (first-is (goal.at.returns c).After-first_element-first (laid (goal.at.returns c).Start)),
+          (first_is (goal.at.returns c).After-first_element-first (laid (goal.at.returns c).Start)),
       c.loop-i-test.false,
     ))

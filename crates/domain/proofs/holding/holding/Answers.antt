@@ -20,17 +20,17 @@ noded c = standing-noded _ _ _ _ (walk-standing _ _ _ _ c.requires.held.walk)
 
 some : (c : After-children-more) → 1 ≤ c.children-more.result
 some c =
-    some-branch _ _ _ _ _ _ c.requires.held c.requires.is-case refl c.children-more.ensures
+    some-branch _ _ _ _ _ _ c.requires.held c.requires.is_case refl c.children-more.ensures
 
 module _ (c : After-node_end-spared) where
   branches : WalkAll c.args.s.now c.node_end-spared.result (c.args.left - 1) c.children-more.result c.args.z
   branches =
-      walk-branches _ _ _ _ _ _ c.requires.held c.requires.is-case c.node_end-spared.ensures c.children-more.ensures
+      walk-branches _ _ _ _ _ _ c.requires.held c.requires.is_case c.node_end-spared.ensures c.children-more.ensures
 
-  first-branch :
+  first_branch :
       (some : 1 ≤ c.children-more.result) →
       Walk c.args.s.now c.node_end-spared.result (c.args.left - 1) c.args.z
-  first-branch some = walk_first _ _ _ _ _ some branches
+  first_branch some = walk_first _ _ _ _ _ some branches
 
 -- what is taken of the first branch, which is spared, and of the others
 module _ (c : At-loop-more) where
@@ -39,7 +39,7 @@ module _ (c : At-loop-more) where
       c.node_end-spared.result r →
       Chooses c.args.s.now c.args.at (c.args.left - 1) c.args.z r
   case-chooses r x =
-      chooses _ _ _ _ _ _ c.requires.held c.requires.is-case c.node_end-spared.ensures c.children-more.ensures _
+      chooses _ _ _ _ _ _ c.requires.held c.requires.is_case c.node_end-spared.ensures c.children-more.ensures _
       c.end_of-next.ensures r x
 
 -- ---- in the loop
@@ -62,18 +62,18 @@ node_end-spared-requires c = noded (goal.at.node_end-spared-requires c).Start
 
 pub end_of-next-requires : goal.end_of-next-requires
 end_of-next-requires c =
-    (walk-standing _ _ _ _ (first-branch (goal.at.end_of-next-requires c).After-node_end-spared (some (goal.at.end_of-next-requires c).After-children-more)), c.requires.kept)
+    (walk-standing _ _ _ _ (first_branch (goal.at.end_of-next-requires c).After-node_end-spared (some (goal.at.end_of-next-requires c).After-children-more)), c.requires.kept)
 
 pub overflow_sub-size : goal.overflow_sub-size
 overflow_sub-size c =
-    let w = first-branch (goal.at.overflow_sub-size c).After-node_end-spared (some (goal.at.overflow_sub-size c).After-children-more) in
+    let w = first_branch (goal.at.overflow_sub-size c).After-node_end-spared (some (goal.at.overflow_sub-size c).After-children-more) in
     omega (arith, c.end_of-next.ensures w.tree w.end w.at, at_long _ _ w.tree _ _ w.at)
 
 pub loop-more-init : goal.loop-more-init
 loop-more-init c =
     let ends = c.end_of-next.ensures in
     let others = walk-rest _ _ _ _ _ (some (goal.at.loop-more-init c).After-children-more) (branches (goal.at.loop-more-init c).After-node_end-spared) _ (λ e q n h f. ends e q h) in
-    (first-branch (goal.at.loop-more-init c).After-node_end-spared (some (goal.at.loop-more-init c).After-children-more), others, λ r x. x)
+    (first_branch (goal.at.loop-more-init c).After-node_end-spared (some (goal.at.loop-more-init c).After-children-more), others, λ r x. x)
 
 pub end_of-end-requires : goal.end_of-end-requires
 end_of-end-requires c =

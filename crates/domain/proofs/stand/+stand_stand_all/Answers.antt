@@ -62,7 +62,7 @@ stand-leaf_stands-how-requires t c = (
   c.requires.0,
   record {
     noded = noded t (goal.at.stand-leaf_stands-how-requires t c).Start;
-    class-is = is-class t
+    class_is = is-class t
         (goal.at.stand-leaf_stands-how-requires t c).After-node_end-next _ c.in-Leaf.is;
   },
 )

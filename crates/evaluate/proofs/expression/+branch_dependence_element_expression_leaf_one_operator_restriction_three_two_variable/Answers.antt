@@ -36,7 +36,7 @@ use Rattle.evaluate.proofs.expression.+branch_dependence_element_expression_leaf
 -- a dependence's fields are there
 dependence-noded : (t : ℕ) (c : dependence-Start t) → NodedAs c.args.s.now c.args.at Dependence
 dependence-noded t c =
-    let node = c.requires.1 in record { noded = held-noded _ _ _ _ node.held; class-is = node.class-is }
+    let node = c.requires.1 in record { noded = held-noded _ _ _ _ node.held; class_is = node.class_is }
 
 -- the memo has no outcome of the element
 element-late : (t : ℕ) (c : element-In-Deep t) → Memo.unknown ≤ Memo.code_at (memo_of c.args.memo.now) c.args.e
@@ -55,12 +55,12 @@ element-body t c =
 -- a leaf's node was read
 leaf-noded : (t : ℕ) (c : leaf-Start t) → NodedAs c.args.s.now c.args.at Leaf
 leaf-noded t c =
-    let node = c.requires.1 in record { noded = held-noded _ _ _ _ node.held; class-is = node.class-is }
+    let node = c.requires.1 in record { noded = held-noded _ _ _ _ node.held; class_is = node.class_is }
 
 -- its fields are there, and the number in the second is a variable's
 variable-there : (t : ℕ) (c : variable-Start t) → NodedAs c.args.s.now c.args.at Leaf
 variable-there t c =
-    let leaf = c.requires.1.leaf in record { noded = held-noded _ _ _ _ leaf.held; class-is = leaf.class-is }
+    let leaf = c.requires.1.leaf in record { noded = held-noded _ _ _ _ leaf.held; class_is = leaf.class_is }
 
 variable-laid : (t : ℕ) (c : variable-After-natural-v t) → VariableLaid c.args.s.now c.args.tab.now c.natural-v.result
 variable-laid t c =
@@ -79,7 +79,7 @@ branch-expression-r-requires t c =
 pub branch-returns : goal.branch-returns
 branch-returns t c =
     let a = c.expression-r.ensures in
-    branch-way _ _ c.args.z _ c.requires.1.class-is _ c.holding-taken.ensures _ _ _ a _ c.end_of-end.ensures
+    branch-way _ _ c.args.z _ c.requires.1.class_is _ c.holding-taken.ensures _ _ _ a _ c.end_of-end.ensures
 
 pub dependence-overflow_sub-n : goal.dependence-overflow_sub-n
 dependence-overflow_sub-n t c = omega (arith, held-some _ _ _ _ c.requires.1.held)
@@ -91,7 +91,7 @@ dependence-overflow_add-at t c =
 pub dependence-image_at-y-requires : goal.dependence-image_at-y-requires
 dependence-image_at-y-requires t c =
     let node = c.requires.1 in
-    (map-stands _ _ _ _ node.held.walk node.class-is, image-fits _ _ _ _ node.held.walk node.class-is)
+    (map-stands _ _ _ _ node.held.walk node.class_is, image-fits _ _ _ _ node.held.walk node.class_is)
 
 pub dependence-node_end-child-requires : goal.dependence-node_end-child-requires
 dependence-node_end-child-requires t c = held-noded _ _ _ _ c.requires.1.held
@@ -103,12 +103,12 @@ dependence-expression-requires t c =
     let some = held-some _ _ _ _ node.held in
     let image = c.image_at-y.ensures in
     let next = c.node_end-child.ensures in
-    (omega arith, (c.requires.0, held-image _ _ _ _ node.held _ next node.class-is _ image.read _ image.is image.rest))
+    (omega arith, (c.requires.0, held-image _ _ _ _ node.held _ next node.class_is _ image.read _ image.is image.rest))
 
 pub dependence-returns : goal.dependence-returns
 dependence-returns t c =
     let image = c.image_at-y in
-    image-way _ _ c.args.z c.requires.1.class-is _ c.node_end-child.ensures image.result image.ensures _ _ _
+    image-way _ _ c.args.z c.requires.1.class_is _ c.node_end-child.ensures image.result image.ensures _ _ _
     c.expression.ensures
 
 pub element-known-had-requires : goal.element-known-had-requires
@@ -232,7 +232,7 @@ one-returns t c =
 pub operator-operator_of-kind-requires : goal.operator-operator_of-kind-requires
 operator-operator_of-kind-requires t c =
     let node = c.requires.1 in
-    record { noded = held-noded _ _ _ _ node.held; class-is = node.class-is }
+    record { noded = held-noded _ _ _ _ node.held; class_is = node.class_is }
 
 pub restriction-overflow_sub-n : goal.restriction-overflow_sub-n
 restriction-overflow_sub-n t c = omega (arith, held-some _ _ _ _ c.requires.1.held)
@@ -245,11 +245,11 @@ restriction-expression-requires t c =
     let is = c.decreases in
     let node = c.requires.1 in
     let some = held-some _ _ _ _ node.held in
-    (omega arith, (c.requires.0, held-restricted _ _ _ _ node.held _ c.node_end-child.ensures node.class-is))
+    (omega arith, (c.requires.0, held-restricted _ _ _ _ node.held _ c.node_end-child.ensures node.class_is))
 
 pub restriction-returns : goal.restriction-returns
 restriction-returns t c =
-    restriction-way _ _ c.args.z c.requires.1.class-is _ c.node_end-child.ensures _ _ _ c.expression.ensures
+    restriction-way _ _ c.args.z c.requires.1.class_is _ c.node_end-child.ensures _ _ _ c.expression.ensures
 
 pub three-overflow_sub-n : goal.three-overflow_sub-n
 three-overflow_sub-n t c =

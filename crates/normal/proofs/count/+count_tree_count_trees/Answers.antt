@@ -24,7 +24,7 @@ class : (t : ℕ) (c : count_tree-After-node_end-next t) {k : Class} →
 class t c told =
     record {
       noded = standing-noded _ _ _ _ c.requires;
-      class-is = sym c.class_of-class.ensures ∙ told;
+      class_is = sym c.class_of-class.ensures ∙ told;
     }
 
 -- there is a node left
@@ -84,34 +84,34 @@ count_tree-count_tree-requires-in-Dependence t c =
 
 pub count_tree-returns-in-Leaf : goal.count_tree-returns-in-Leaf
 count_tree-returns-in-Leaf t c =
-    let a-leaf = (class t (goal.at.count_tree-returns-in-Leaf t c).After-node_end-next c.in-Leaf.is).class-is in
+    let a-leaf = (class t (goal.at.count_tree-returns-in-Leaf t c).After-node_end-next c.in-Leaf.is).class_is in
     (leaf-way _ _ a-leaf, leaf-ends _ _ _ c.node_end-next.ensures a-leaf)
 
 pub count_tree-returns-in-Operator : goal.count_tree-returns-in-Operator
 count_tree-returns-in-Operator t c =
     let counted = c.count_trees.ensures in (
-      operator-way _ _ _ c.node_end-next.ensures _ _ c.children.ensures (class t (goal.at.count_tree-returns-in-Operator t c).After-node_end-next c.in-Operator.is).class-is counted.0,
+      operator-way _ _ _ c.node_end-next.ensures _ _ c.children.ensures (class t (goal.at.count_tree-returns-in-Operator t c).After-node_end-next c.in-Operator.is).class_is counted.0,
       node-ends _ _ _ _ _ _ c.node_end-next.ensures c.children.ensures counted.1,
     )
 
 pub count_tree-returns-in-Case : goal.count_tree-returns-in-Case
 count_tree-returns-in-Case t c =
     let counted = c.count_trees-in-Case.ensures in (
-      case-way _ _ _ c.node_end-next.ensures _ _ c.children-in-Case.ensures (class t (goal.at.count_tree-returns-in-Case t c).After-node_end-next c.in-Case.is).class-is counted.0,
+      case-way _ _ _ c.node_end-next.ensures _ _ c.children-in-Case.ensures (class t (goal.at.count_tree-returns-in-Case t c).After-node_end-next c.in-Case.is).class_is counted.0,
       node-ends _ _ _ _ _ _ c.node_end-next.ensures c.children-in-Case.ensures counted.1,
     )
 
 pub count_tree-returns-in-Restriction : goal.count_tree-returns-in-Restriction
 count_tree-returns-in-Restriction t c =
     let next = c.node_end-next.ensures in
-    let below = restriction-below _ _ _ next (class t (goal.at.count_tree-returns-in-Restriction t c).After-node_end-next c.in-Restriction.is).class-is in
+    let below = restriction-below _ _ _ next (class t (goal.at.count_tree-returns-in-Restriction t c).After-node_end-next c.in-Restriction.is).class_is in
     let counted = c.count_tree.ensures in
     (below-way _ _ _ next below _ counted.0, below-ends _ _ _ next below _ counted.1)
 
 pub count_tree-returns-in-Dependence : goal.count_tree-returns-in-Dependence
 count_tree-returns-in-Dependence t c =
     let next = c.node_end-next.ensures in
-    let below = dependence-below _ _ _ next (class t (goal.at.count_tree-returns-in-Dependence t c).After-node_end-next c.in-Dependence.is).class-is in
+    let below = dependence-below _ _ _ next (class t (goal.at.count_tree-returns-in-Dependence t c).After-node_end-next c.in-Dependence.is).class_is in
     let counted = c.count_tree-in-Dependence.ensures in
     (below-way _ _ _ next below _ counted.0, below-ends _ _ _ next below _ counted.1)
 

@@ -61,7 +61,7 @@ follow-follow_all-requires t c =
     let below =
     route-operands _ _ _ _ _ _ _ _ _ _ c.requires (class t (goal.at.follow-follow_all-requires t c).After-node_end-next c.in-Operator.is) _ _ c.node_end-next.ensures
     c.children-many.ensures _ _ _ _ c.visit-now.ensures refl in
-    (omega (arith, below.many-low), below)
+    (omega (arith, below.many_low), below)
 
 pub follow-overflow_sub-left-in-Case : goal.follow-overflow_sub-left-in-Case
 follow-overflow_sub-left-in-Case t c = omega (arith, some t (goal.at.follow-overflow_sub-left-in-Case t c).Start)

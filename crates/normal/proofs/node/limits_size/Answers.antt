@@ -24,7 +24,7 @@ a-restriction : (c : In-Restriction)
     →
     NodedAs c.args.s.now c.args.at Restriction
 a-restriction c class =
-    record { noded = c.requires.0; class-is = class _ c.in-Restriction.is }
+    record { noded = c.requires.0; class_is = class _ c.in-Restriction.is }
 
 pub overflow_add-at : goal.overflow_add-at
 overflow_add-at c =
@@ -38,7 +38,7 @@ pub overflow_mul-result-in-Restriction : goal.overflow_mul-result-in-Restriction
 overflow_mul-result-in-Restriction c =
     let many = (restriction-fields _ _ (a-restriction (goal.at.overflow_mul-result-in-Restriction c).In-Restriction (class (goal.at.overflow_mul-result-in-Restriction c).After-class_of-class))).many in
     let few : c.natural-count.result ≤ 64 = omega (arith, many, c.natural-count.ensures) in
-    omega (arith, mul-le-mul_right (16 + 8 * c.args.m.width) few, c.requires.1.cols-few)
+    omega (arith, mul-le-mul_right (16 + 8 * c.args.m.width) few, c.requires.1.cols_few)
 
 pub returns-in-Restriction : goal.returns-in-Restriction
 returns-in-Restriction c =

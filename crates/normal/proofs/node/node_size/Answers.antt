@@ -22,10 +22,10 @@ overflow_sub-result c = omega (arith, c.node_end.ensures, end-far _ _ c.requires
 
 pub returns-in-Leaf : goal.returns-in-Leaf
 returns-in-Leaf c =
-    leaf-sizes _ _ c.args.m (record { noded = c.requires.noded; class-is = class (goal.at.returns-in-Leaf c).After-class_of-class c.in-Leaf.is })
+    leaf-sizes _ _ c.args.m (record { noded = c.requires.noded; class_is = class (goal.at.returns-in-Leaf c).After-class_of-class c.in-Leaf.is })
     c.args.level
 
 pub returns-in-Operator : goal.returns-in-Operator
 returns-in-Operator c =
-    operator-sizes _ _ c.args.m (record { noded = c.requires.noded; class-is = class (goal.at.returns-in-Operator c).After-class_of-class c.in-Operator.is })
+    operator-sizes _ _ c.args.m (record { noded = c.requires.noded; class_is = class (goal.at.returns-in-Operator c).After-class_of-class c.in-Operator.is })
     c.args.level _ c.node_end.ensures

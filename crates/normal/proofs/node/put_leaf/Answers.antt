@@ -16,7 +16,7 @@ use Rattle.normal.proofs.node.put_leaf.Goals.{Start}
 use Rattle.normal.proofs.node.put_leaf.Goals as goal
 
 a-leaf : (c : Start) → NodedAs c.args.s.now c.args.at Leaf
-a-leaf c = record { noded = c.requires.0.noded; class-is = c.requires.1 }
+a-leaf c = record { noded = c.requires.0.noded; class_is = c.requires.1 }
 
 -- room for the map's dependence and the two fields
 room : (c : Start) → c.args.to + (24 + c.args.m.height * (8 * c.args.m.width + 8)) + 16 ≤ length c.args.out.now

@@ -24,7 +24,7 @@ a-restriction : (c : In-Restriction)
     →
     NodedAs c.args.s.now c.args.at Restriction
 a-restriction c class =
-    record { noded = c.requires.noded; class-is = class _ c.in-Restriction.is }
+    record { noded = c.requires.noded; class_is = class _ c.in-Restriction.is }
 
 -- its three fields stand there
 there : (c : In-Restriction)
@@ -58,7 +58,7 @@ put_constraints-requires c =
     let restricts = a-restriction (goal.at.put_constraints-requires c).In-Restriction (class (goal.at.put_constraints-requires c).After-class_of-class) in
     let dim = c.natural-n.ensures in
     let many = c.natural-count.ensures in
-    let h = c.requires.limits restricts.class-is in
+    let h = c.requires.limits restricts.class_is in
     record {
       neat = c.requires.neat;
       dims = dim ∙ h.0;

@@ -18,5 +18,5 @@ class c told = sym c.class_of-class.ensures ∙ told
 pub put_operator-requires : goal.put_operator-requires
 put_operator-requires c =
     let operates : NodedAs c.args.s.now c.args.at Operator =
-    record { noded = c.requires.noded; class-is = class (goal.at.put_operator-requires c).After-class_of-class c.in-Operator.is } in
+    record { noded = c.requires.noded; class_is = class (goal.at.put_operator-requires c).After-class_of-class c.in-Operator.is } in
     (operates, operator-room _ _ c.args.m operates _ _ c.requires)

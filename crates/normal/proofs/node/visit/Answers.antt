@@ -6,9 +6,9 @@ use Rattle.normal.proofs.node.visit.Goals as goal
 pub moved-requires : goal.moved-requires
 moved-requires c =
     visit-room _ _ c.args.m c.args.tree c.args.level c.args.pen _ c.size_of-size.ensures c.args.dry c.args.out.now
-    c.requires.spot c.requires.things-low
+    c.requires.spot c.requires.things_low
 
 pub moved-requires-2 : goal.moved-requires-2
 moved-requires-2 c =
     visit-room _ _ c.args.m c.args.tree c.args.level c.args.pen _ c.size_of-size.ensures c.args.dry c.args.out.now
-    c.requires.spot c.requires.things-low
+    c.requires.spot c.requires.things_low

@@ -6,7 +6,7 @@ use native.Mathlib.Omega.{arith}
 use borrow.Author.Rules.{rules}
 use Rattle.laws.specs.Sheets.{vars_of}
 use Rattle.tree.proofs.Heading.{prepared-sections}
-use Rattle.tree.proofs.Passing.{is-input, no-input}
+use Rattle.tree.proofs.Passing.{is-input, no_input}
 use Rattle.normal.proofs.Plans.{plan-none, plan-input, plan-stops, plan-goes, small-total}
 use Rattle.normal.proofs.totals.+plan_from.Given as goal
 

@@ -6,7 +6,7 @@ use native.Mathlib.Omega.{arith}
 use borrow.Author.Rules.{rules}
 use Rattle.laws.specs.Sheets.{vars_of}
 use Rattle.tree.proofs.Heading.{prepared-sections}
-use Rattle.tree.proofs.Passing.{is-input, no-input}
+use Rattle.tree.proofs.Passing.{is-input, no_input}
 use Rattle.normal.proofs.Storing.{bodies-none, next-writes, input-room, input-stored, writes_body, body-room, rest-room, more-stored}
 use Rattle.normal.proofs.write.+put_bodies.Goals.{Else-variable_count-v, Start}
 use Rattle.normal.proofs.write.+put_bodies.Goals as goal
@@ -38,7 +38,7 @@ pub put_body-next-requires : goal.put_body-next-requires
 put_body-next-requires t c =
     let lt = known t (goal.at.put_body-next-requires t c).Else-variable_count-v in
     let body =
-    no-input _ _ c.requires.0.formed.placed _ lt _ c.kind_of.ensures.0 c.kind_of.ensures.1
+    no_input _ _ c.requires.0.formed.placed _ lt _ c.kind_of.ensures.0 c.kind_of.ensures.1
     c.if-kind_of-eq0.false in
     (writes_body _ _ _ c.requires.0 lt body, body-room _ _ _ c.requires.0 lt body c.args.out.now c.args.to c.requires.1)
 
@@ -48,7 +48,7 @@ put_bodies-requires-2 t c =
     let low = few t (goal.at.put_bodies-requires-2 t c).Start in
     let is = c.decreases in
     let body =
-    no-input _ _ c.requires.0.formed.placed _ lt _ c.kind_of.ensures.0 c.kind_of.ensures.1
+    no_input _ _ c.requires.0.formed.placed _ lt _ c.kind_of.ensures.0 c.kind_of.ensures.1
     c.if-kind_of-eq0.false in
     let stored = c.put_body-next.ensures in (
       omega arith,
@@ -62,7 +62,7 @@ pub returns : goal.returns
 returns t c =
     let lt = known t (goal.at.returns t c).Else-variable_count-v in
     let body =
-    no-input _ _ c.requires.0.formed.placed _ lt _ c.kind_of.ensures.0 c.kind_of.ensures.1
+    no_input _ _ c.requires.0.formed.placed _ lt _ c.kind_of.ensures.0 c.kind_of.ensures.1
     c.if-kind_of-eq0.false in
     more-stored _ _ _ c.requires.0 lt body c.args.out.now c.args.to _ c.put_body-next.ensures
     c.put_bodies-2.ensures

@@ -6,7 +6,7 @@ use native.Mathlib.Omega.{arith}
 use borrow.Author.Rules.{rules}
 use Rattle.laws.specs.Sheets.{vars_of}
 use Rattle.tree.proofs.Heading.{prepared-sections}
-use Rattle.tree.proofs.Passing.{is-input, no-input}
+use Rattle.tree.proofs.Passing.{is-input, no_input}
 use Rattle.normal.proofs.Storing.{bodies-none, next-writes, input-room, input-stored, writes_body, body-room, rest-room, more-stored}
 use Rattle.normal.proofs.write.+put_bodies.Given as goal
 

@@ -15,7 +15,7 @@ pub copy-requires : goal.copy-requires
 copy-requires c =
     let h = c.requires in
     let third = c.third_place-third.ensures ∙ h.formed.placed.prepared.table.third in
-    (omega (arith, third, front-there _ _ h.formed h.sheet-is), omega (arith, third, bodies-long _ _ _ _ h, c.if-out-size.false))
+    (omega (arith, third, front-there _ _ h.formed h.sheet_is), omega (arith, third, bodies-long _ _ _ _ h, c.if-out-size.false))
 
 pub put_bodies-end-requires : goal.put_bodies-end-requires
 put_bodies-end-requires c =

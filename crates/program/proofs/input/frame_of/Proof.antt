@@ -11,8 +11,8 @@ use Rattle.program.proofs.input.frame_of.Statement.{statement}
 use Rattle.program.proofs.input.frame_of.Tie as tie
 
 -- the length of the sheet is at most 65,536, or it is not
-length-is : (c : tie.After-at-most) → c.at_most.result ≡ le_z (field c.before.before.before.before.before.args.input.now 0) (pos 65536)
-length-is c =
+length_is : (c : tie.After-at-most) → c.at_most.result ≡ le_z (field c.before.before.before.before.before.args.input.now 0) (pos 65536)
+length_is c =
     let x : c.before.of.result.v ≡ pos 65536 = c.before.of.ensures in
     c.at_most.ensures ∙ rw (c.before.before.number_at.ensures, x)
 
@@ -38,7 +38,7 @@ at-most-requires c κs = search rules
 returns-2 : tie.Need-returns-2
 returns-2 c =
     let else1 = c.before.before.before.before in
-    frame-long _ else1.if1.false (sym (length-is c.before) ∙ not-true _ c.if2.true)
+    frame-long _ else1.if1.false (sym (length_is c.before) ∙ not-true _ c.if2.true)
 
 not-negative-requires : tie.Need-not-negative-requires
 not-negative-requires c κs = search rules
@@ -49,7 +49,7 @@ returns-3 c =
     let else2 = after-not-negative.before in
     let after-at-most = else2.before in
     let else1 = after-at-most.before.before.before in
-    let small = sym (length-is after-at-most) ∙ not-false _ else2.if2.false in
+    let small = sym (length_is after-at-most) ∙ not-false _ else2.if2.false in
     frame-negative _ else1.if1.false small (sym (sign-is after-not-negative) ∙ not-true _ c.if3.true)
 
 to-usize-requires : tie.Need-to-usize-requires
@@ -67,7 +67,7 @@ returns-4 c =
     let after-at-most = else2.before in
     let after-number-at = after-at-most.before.before in
     let else1 = after-number-at.before in
-    let small = sym (length-is after-at-most) ∙ not-false _ else2.if2.false in
+    let small = sym (length_is after-at-most) ∙ not-false _ else2.if2.false in
     let positive = sym (sign-is after-not-negative) ∙ not-false _ else3.if3.false in
     frame_past _ else1.if1.false small positive
     (omega (arith, after-to-usize.to-usize.ensures, ap nat_abs after-number-at.number_at.ensures, c.if4.true))
@@ -84,7 +84,7 @@ returns-5 c =
     let after-at-most = else2.before in
     let after-number-at = after-at-most.before.before in
     let else1 = after-number-at.before in
-    let small = sym (length-is after-at-most) ∙ not-false _ else2.if2.false in
+    let small = sym (length_is after-at-most) ∙ not-false _ else2.if2.false in
     let positive = sym (sign-is after-not-negative) ∙ not-false _ else3.if3.false in
     frame-sheet _ else1.if1.false small positive _ (after-to-usize.to-usize.ensures ∙ ap nat_abs after-number-at.number_at.ensures) c.if4.false
 

@@ -39,7 +39,7 @@ laid c count-is = laid-variable _ _ c.requires.0.formed.placed _ (known c count-
 from_is : (c : After-first_element-from) →
     (laid : VariableLaid c.args.s.now c.args.tab.now c.loop-v.v) →
     c.first_element-from.result ≡ before (sheet_of c.args.s.now) c.loop-v.v
-from_is c laid = c.first_element-from.ensures ∙ laid.first-is
+from_is c laid = c.first_element-from.ensures ∙ laid.first_is
 
 to_is : (c : After-first_element-to) →
     (laid : VariableLaid c.args.s.now c.args.tab.now c.loop-v.v) →
@@ -53,19 +53,19 @@ room : (c : After-first_element-to) →
     (c.first_element-to.result ≤ length c.args.codes.now) × (c.first_element-to.result ≤ length c.args.values.now)
 room c laid =
     let fits = before-fits (sheet_of c.args.s.now) c.loop-v.v laid.known in
-    (omega (arith, to_is c laid, fits, c.requires.1.in-codes), omega (arith, to_is c laid, fits, c.requires.1.in-values))
+    (omega (arith, to_is c laid, fits, c.requires.1.in_codes), omega (arith, to_is c laid, fits, c.requires.1.in_values))
 
-in-codes : (c : After-first_element-to) →
+in_codes : (c : After-first_element-to) →
     (laid : VariableLaid c.args.s.now c.args.tab.now c.loop-v.v) →
     c.first_element-to.result ≤ length c.loop-v.codes
-in-codes c laid =
-    omega (arith, (room c laid).0, c.loop-v.invariant.0.codes-long)
+in_codes c laid =
+    omega (arith, (room c laid).0, c.loop-v.invariant.0.codes_long)
 
-in-values : (c : After-first_element-to) →
+in_values : (c : After-first_element-to) →
     (laid : VariableLaid c.args.s.now c.args.tab.now c.loop-v.v) →
     c.first_element-to.result ≤ length c.loop-v.values
-in-values c laid =
-    omega (arith, (room c laid).1, c.loop-v.invariant.0.values-long)
+in_values c laid =
+    omega (arith, (room c laid).1, c.loop-v.invariant.0.values_long)
 
 order : (c : After-first_element-to) →
     (from_is : c.first_element-from.result ≡ before (sheet_of c.args.s.now) c.loop-v.v) →
@@ -97,7 +97,7 @@ first_element-to-requires c =
 
 pub slice_bounds-fill-count : goal.slice_bounds-fill-count
 slice_bounds-fill-count c =
-    omega (arith, order (goal.at.slice_bounds-fill-count c).After-first_element-to (from_is (goal.at.slice_bounds-fill-count c).After-first_element-from (laid (goal.at.slice_bounds-fill-count c).In-loop-v (count-is (goal.at.slice_bounds-fill-count c).After-variable_count-n))) (laid (goal.at.slice_bounds-fill-count c).In-loop-v (count-is (goal.at.slice_bounds-fill-count c).After-variable_count-n)), in-codes (goal.at.slice_bounds-fill-count c).After-first_element-to (laid (goal.at.slice_bounds-fill-count c).In-loop-v (count-is (goal.at.slice_bounds-fill-count c).After-variable_count-n)))
+    omega (arith, order (goal.at.slice_bounds-fill-count c).After-first_element-to (from_is (goal.at.slice_bounds-fill-count c).After-first_element-from (laid (goal.at.slice_bounds-fill-count c).In-loop-v (count-is (goal.at.slice_bounds-fill-count c).After-variable_count-n))) (laid (goal.at.slice_bounds-fill-count c).In-loop-v (count-is (goal.at.slice_bounds-fill-count c).After-variable_count-n)), in_codes (goal.at.slice_bounds-fill-count c).After-first_element-to (laid (goal.at.slice_bounds-fill-count c).In-loop-v (count-is (goal.at.slice_bounds-fill-count c).After-variable_count-n)))
 
 pub slice_bounds-fill-start : goal.slice_bounds-fill-start
 slice_bounds-fill-start c =
@@ -105,7 +105,7 @@ slice_bounds-fill-start c =
 
 pub slice_bounds-fill-end : goal.slice_bounds-fill-end
 slice_bounds-fill-end c =
-    omega (arith, in-codes (goal.at.slice_bounds-fill-end c).After-first_element-to (laid (goal.at.slice_bounds-fill-end c).In-loop-v (count-is (goal.at.slice_bounds-fill-end c).After-variable_count-n)))
+    omega (arith, in_codes (goal.at.slice_bounds-fill-end c).After-first_element-to (laid (goal.at.slice_bounds-fill-end c).In-loop-v (count-is (goal.at.slice_bounds-fill-end c).After-variable_count-n)))
 
 pub offset_bounds-values-from : goal.offset_bounds-values-from
 offset_bounds-values-from c =
@@ -113,7 +113,7 @@ offset_bounds-values-from c =
 
 pub slice_bounds-fill-count-in-loop-v : goal.slice_bounds-fill-count-in-loop-v
 slice_bounds-fill-count-in-loop-v c =
-    omega (arith, order (goal.at.slice_bounds-fill-count-in-loop-v c).After-first_element-to (from_is (goal.at.slice_bounds-fill-count-in-loop-v c).After-first_element-from (laid (goal.at.slice_bounds-fill-count-in-loop-v c).In-loop-v (count-is (goal.at.slice_bounds-fill-count-in-loop-v c).After-variable_count-n))) (laid (goal.at.slice_bounds-fill-count-in-loop-v c).In-loop-v (count-is (goal.at.slice_bounds-fill-count-in-loop-v c).After-variable_count-n)), in-codes (goal.at.slice_bounds-fill-count-in-loop-v c).After-first_element-to (laid (goal.at.slice_bounds-fill-count-in-loop-v c).In-loop-v (count-is (goal.at.slice_bounds-fill-count-in-loop-v c).After-variable_count-n)))
+    omega (arith, order (goal.at.slice_bounds-fill-count-in-loop-v c).After-first_element-to (from_is (goal.at.slice_bounds-fill-count-in-loop-v c).After-first_element-from (laid (goal.at.slice_bounds-fill-count-in-loop-v c).In-loop-v (count-is (goal.at.slice_bounds-fill-count-in-loop-v c).After-variable_count-n))) (laid (goal.at.slice_bounds-fill-count-in-loop-v c).In-loop-v (count-is (goal.at.slice_bounds-fill-count-in-loop-v c).After-variable_count-n)), in_codes (goal.at.slice_bounds-fill-count-in-loop-v c).After-first_element-to (laid (goal.at.slice_bounds-fill-count-in-loop-v c).In-loop-v (count-is (goal.at.slice_bounds-fill-count-in-loop-v c).After-variable_count-n)))
 
 pub slice_bounds-fill-start-in-loop-v : goal.slice_bounds-fill-start-in-loop-v
 slice_bounds-fill-start-in-loop-v c =
@@ -121,7 +121,7 @@ slice_bounds-fill-start-in-loop-v c =
 
 pub slice_bounds-fill-end-in-loop-v : goal.slice_bounds-fill-end-in-loop-v
 slice_bounds-fill-end-in-loop-v c =
-    omega (arith, in-values (goal.at.slice_bounds-fill-end-in-loop-v c).After-first_element-to (laid (goal.at.slice_bounds-fill-end-in-loop-v c).In-loop-v (count-is (goal.at.slice_bounds-fill-end-in-loop-v c).After-variable_count-n)))
+    omega (arith, in_values (goal.at.slice_bounds-fill-end-in-loop-v c).After-first_element-to (laid (goal.at.slice_bounds-fill-end-in-loop-v c).In-loop-v (count-is (goal.at.slice_bounds-fill-end-in-loop-v c).After-variable_count-n)))
 
 pub fill-requires : goal.fill-requires
 fill-requires c =
@@ -131,8 +131,8 @@ fill-requires c =
       record {
         idle = m.idle;
         known = known (goal.at.fill-requires c).In-loop-v (count-is (goal.at.fill-requires c).After-variable_count-n);
-        codes-long = part-long _ _ _ _ wide (in-codes (goal.at.fill-requires c).After-first_element-to (laid (goal.at.fill-requires c).In-loop-v (count-is (goal.at.fill-requires c).After-variable_count-n))) (order (goal.at.fill-requires c).After-first_element-to (from_is (goal.at.fill-requires c).After-first_element-from (laid (goal.at.fill-requires c).In-loop-v (count-is (goal.at.fill-requires c).After-variable_count-n))) (laid (goal.at.fill-requires c).In-loop-v (count-is (goal.at.fill-requires c).After-variable_count-n)));
-        values-long = part-long _ _ _ _ wide (in-values (goal.at.fill-requires c).After-first_element-to (laid (goal.at.fill-requires c).In-loop-v (count-is (goal.at.fill-requires c).After-variable_count-n))) (order (goal.at.fill-requires c).After-first_element-to (from_is (goal.at.fill-requires c).After-first_element-from (laid (goal.at.fill-requires c).In-loop-v (count-is (goal.at.fill-requires c).After-variable_count-n))) (laid (goal.at.fill-requires c).In-loop-v (count-is (goal.at.fill-requires c).After-variable_count-n)));
+        codes_long = part-long _ _ _ _ wide (in_codes (goal.at.fill-requires c).After-first_element-to (laid (goal.at.fill-requires c).In-loop-v (count-is (goal.at.fill-requires c).After-variable_count-n))) (order (goal.at.fill-requires c).After-first_element-to (from_is (goal.at.fill-requires c).After-first_element-from (laid (goal.at.fill-requires c).In-loop-v (count-is (goal.at.fill-requires c).After-variable_count-n))) (laid (goal.at.fill-requires c).In-loop-v (count-is (goal.at.fill-requires c).After-variable_count-n)));
+        values_long = part-long _ _ _ _ wide (in_values (goal.at.fill-requires c).After-first_element-to (laid (goal.at.fill-requires c).In-loop-v (count-is (goal.at.fill-requires c).After-variable_count-n))) (order (goal.at.fill-requires c).After-first_element-to (from_is (goal.at.fill-requires c).After-first_element-from (laid (goal.at.fill-requires c).In-loop-v (count-is (goal.at.fill-requires c).After-variable_count-n))) (laid (goal.at.fill-requires c).In-loop-v (count-is (goal.at.fill-requires c).After-variable_count-n)));
       },
     )
 

@@ -26,7 +26,7 @@ input-is : (c : After-kind_of) →
     (laid : VariableLaid c.args.s.now c.args.tab.now c.args.v) →
     is_input (variable (sheet_of c.args.s.now) c.args.v) ≡ is_input_kind (kind_of c.kind_of.result)
 input-is c laid =
-    ap (λ h. is_input_kind h.kind) laid.head-is ∙ ap is_input_kind c.kind_of.ensures.0
+    ap (λ h. is_input_kind h.kind) laid.head_is ∙ ap is_input_kind c.kind_of.ensures.0
 
 input : (c : After-kind_of) →
     (laid : VariableLaid c.args.s.now c.args.tab.now c.args.v) →
@@ -37,7 +37,7 @@ input c laid e = input-is c laid ∙ input-kind _ e
 sort-is : (c : After-sort_of) →
     (laid : VariableLaid c.args.s.now c.args.tab.now c.args.v) →
     (variable (sheet_of c.args.s.now) c.args.v).head.sort ≡ sort_of c.sort_of.result
-sort-is c laid = ap (λ h. h.sort) laid.head-is ∙ c.sort_of.ensures.0
+sort-is c laid = ap (λ h. h.sort) laid.head_is ∙ c.sort_of.ensures.0
 
 -- its entries end where the next variable's start
 step : (c : After-inputs_before-to) →

@@ -21,7 +21,7 @@ input-is : (c : After-kind_of) →
     is_input (variable (sheet_of c.args.s.now) c.args.v)
     ≡ is_input_kind (kind_of c.kind_of.result)
 input-is c laid =
-    ap (λ h. is_input_kind h.kind) laid.head-is ∙ ap is_input_kind c.kind_of.ensures.0
+    ap (λ h. is_input_kind h.kind) laid.head_is ∙ ap is_input_kind c.kind_of.ensures.0
 
 pub first_element-requires : goal.first_element-requires
 first_element-requires c = omega (arith, (laid (goal.at.first_element-requires c).Start).low)
@@ -33,7 +33,7 @@ first_element-requires-then-kind_of-eq0 c =
 pub overflow_sub-result : goal.overflow_sub-result
 overflow_sub-result c =
     let l = laid (goal.at.overflow_sub-result c).Start in
-    omega (arith, l.first-is, l.last-is, c.first_element-then-kind_of-eq0.ensures, c.first_element.ensures)
+    omega (arith, l.first_is, l.last-is, c.first_element-then-kind_of-eq0.ensures, c.first_element.ensures)
 
 pub returns-then-kind_of-eq0 : goal.returns-then-kind_of-eq0
 returns-then-kind_of-eq0 c =
@@ -41,7 +41,7 @@ returns-then-kind_of-eq0 c =
     let input = input-is (goal.at.returns-then-kind_of-eq0 c).After-kind_of (laid (goal.at.returns-then-kind_of-eq0 c).Start) ∙ input-kind _ c.if-kind_of-eq0.true in
     omega (
       arith,
-      l.first-is,
+      l.first_is,
       l.last-is,
       c.first_element-then-kind_of-eq0.ensures,
       c.first_element.ensures,

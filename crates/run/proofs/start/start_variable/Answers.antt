@@ -29,31 +29,31 @@ input-is : (c : After-kind_of-input) →
     is_input (variable (sheet_of c.args.s.now) c.args.v)
     ≡ eqb c.kind_of-input.result 0
 input-is c laid =
-    ap (λ h. is_input_kind h.kind) laid.head-is ∙ ap is_input_kind c.kind_of-input.ensures.0 ∙ kind-test _ c.kind_of-input.ensures.1
+    ap (λ h. is_input_kind h.kind) laid.head_is ∙ ap is_input_kind c.kind_of-input.ensures.0 ∙ kind-test _ c.kind_of-input.ensures.1
 
 -- its first element
-first-is : (c : After-first_element-first) →
+first_is : (c : After-first_element-first) →
     (laid : VariableLaid c.args.s.now c.args.tab.now c.args.v) →
     c.first_element-first.result ≡ before (sheet_of c.args.s.now) c.args.v
-first-is c laid =
-    c.first_element-first.ensures ∙ laid.first-is
+first_is c laid =
+    c.first_element-first.ensures ∙ laid.first_is
 
 -- the next is one of its elements
 many : (c : In-loop-i) →
     (laid : VariableLaid c.args.s.now c.args.tab.now c.args.v) →
-    (first-is : c.first_element-first.result ≡ before (sheet_of c.args.s.now) c.args.v) →
+    (first_is : c.first_element-first.result ≡ before (sheet_of c.args.s.now) c.args.v) →
     c.loop-i.i < size (variable (sheet_of c.args.s.now) c.args.v).head.box
-many c laid first-is =
+many c laid first_is =
     let l = laid in
-    omega (arith, c.loop-i-test.true, first-is, l.last-is, c.first_element.ensures)
+    omega (arith, c.loop-i-test.true, first_is, l.last-is, c.first_element.ensures)
 
 -- an input's element has an entry
 listed : (c : In-loop-i) →
     (laid : VariableLaid c.args.s.now c.args.tab.now c.args.v) →
-    (first-is : c.first_element-first.result ≡ before (sheet_of c.args.s.now) c.args.v) →
+    (first_is : c.first_element-first.result ≡ before (sheet_of c.args.s.now) c.args.v) →
     is_input (variable (sheet_of c.args.s.now) c.args.v) ≡ true →
     c.inputs_before-from.result + c.loop-i.i < length c.args.ins.now
-listed c laid first-is t =
+listed c laid first_is t =
     let sheet = sheet_of c.args.s.now in
     omega (
       arith,
@@ -61,7 +61,7 @@ listed c laid first-is t =
       before-step sheet c.args.v laid.known,
       before-count sheet (suc c.args.v),
       size-input sheet c.args.v t,
-      many c laid first-is,
+      many c laid first_is,
       c.requires.0.many,
     )
 
@@ -73,9 +73,9 @@ short c =
 -- after its last element
 whole : (c : After-loop-i) →
     (laid : VariableLaid c.args.s.now c.args.tab.now c.args.v) →
-    (first-is : c.first_element-first.result ≡ before (sheet_of c.args.s.now) c.args.v) →
+    (first_is : c.first_element-first.result ≡ before (sheet_of c.args.s.now) c.args.v) →
     before (sheet_of c.args.s.now) c.args.v + c.loop-i.i ≡ before (sheet_of c.args.s.now) (c.args.v + 1)
-whole c laid first-is =
+whole c laid first_is =
     let sheet = sheet_of c.args.s.now in
     let l = laid in
     let one : c.args.v + 1 ≡ suc c.args.v = omega arith in
@@ -85,7 +85,7 @@ whole c laid first-is =
       before-suc sheet c.args.v l.known,
       c.loop-i-test.false,
       all,
-      first-is,
+      first_is,
       l.last-is,
       c.first_element.ensures,
     ))
@@ -98,26 +98,26 @@ first_element-requires c = omega (arith, (laid (goal.at.first_element-requires c
 
 pub overflow_sub-size : goal.overflow_sub-size
 overflow_sub-size c =
-    let l = laid (goal.at.overflow_sub-size c).Start in omega (arith, l.first-is, l.last-is, c.first_element.ensures, c.first_element-first.ensures)
+    let l = laid (goal.at.overflow_sub-size c).Start in omega (arith, l.first_is, l.last-is, c.first_element.ensures, c.first_element-first.ensures)
 
 pub overflow_add-from : goal.overflow_add-from
 overflow_add-from c =
     let n = c.inputs_before-from.ensures in
-    omega (arith, n, before-count (sheet_of c.args.s.now) c.args.v, c.requires.0.many, many (goal.at.overflow_add-from c).In-loop-i (laid (goal.at.overflow_add-from c).Start) (first-is (goal.at.overflow_add-from c).After-first_element-first (laid (goal.at.overflow_add-from c).Start)), (laid (goal.at.overflow_add-from c).Start).few, short (goal.at.overflow_add-from c).Start)
+    omega (arith, n, before-count (sheet_of c.args.s.now) c.args.v, c.requires.0.many, many (goal.at.overflow_add-from c).In-loop-i (laid (goal.at.overflow_add-from c).Start) (first_is (goal.at.overflow_add-from c).After-first_element-first (laid (goal.at.overflow_add-from c).Start)), (laid (goal.at.overflow_add-from c).Start).few, short (goal.at.overflow_add-from c).Start)
 
 pub start_element-requires : goal.start_element-requires
 start_element-requires c =
-    (omega (arith, first-is (goal.at.start_element-requires c).After-first_element-first (laid (goal.at.start_element-requires c).Start), many (goal.at.start_element-requires c).In-loop-i (laid (goal.at.start_element-requires c).Start) (first-is (goal.at.start_element-requires c).After-first_element-first (laid (goal.at.start_element-requires c).Start)), (laid (goal.at.start_element-requires c).Start).few), λ t. listed (goal.at.start_element-requires c).In-loop-i (laid (goal.at.start_element-requires c).Start) (first-is (goal.at.start_element-requires c).After-first_element-first (laid (goal.at.start_element-requires c).Start)) (input-is (goal.at.start_element-requires c).After-kind_of-input (laid (goal.at.start_element-requires c).Start) ∙ t))
+    (omega (arith, first_is (goal.at.start_element-requires c).After-first_element-first (laid (goal.at.start_element-requires c).Start), many (goal.at.start_element-requires c).In-loop-i (laid (goal.at.start_element-requires c).Start) (first_is (goal.at.start_element-requires c).After-first_element-first (laid (goal.at.start_element-requires c).Start)), (laid (goal.at.start_element-requires c).Start).few), λ t. listed (goal.at.start_element-requires c).In-loop-i (laid (goal.at.start_element-requires c).Start) (first_is (goal.at.start_element-requires c).After-first_element-first (laid (goal.at.start_element-requires c).Start)) (input-is (goal.at.start_element-requires c).After-kind_of-input (laid (goal.at.start_element-requires c).Start) ∙ t))
 
 pub loop-i-preserved : goal.loop-i-preserved
 loop-i-preserved c =
-    let here = first-is (goal.at.loop-i-preserved c).After-first_element-first (laid (goal.at.loop-i-preserved c).Start) in
+    let here = first_is (goal.at.loop-i-preserved c).After-first_element-first (laid (goal.at.loop-i-preserved c).Start) in
     let from = c.inputs_before-from.ensures in
-    let next = started-next _ _ _ _ (laid (goal.at.loop-i-preserved c).Start) (many (goal.at.loop-i-preserved c).In-loop-i (laid (goal.at.loop-i-preserved c).Start) (first-is (goal.at.loop-i-preserved c).After-first_element-first (laid (goal.at.loop-i-preserved c).Start))) _ c.requires.0.inside_is _ _ c.loop-i.invariant.0 _ (sym (input-is (goal.at.loop-i-preserved c).After-kind_of-input (laid (goal.at.loop-i-preserved c).Start))) in
+    let next = started-next _ _ _ _ (laid (goal.at.loop-i-preserved c).Start) (many (goal.at.loop-i-preserved c).In-loop-i (laid (goal.at.loop-i-preserved c).Start) (first_is (goal.at.loop-i-preserved c).After-first_element-first (laid (goal.at.loop-i-preserved c).Start))) _ c.requires.0.inside_is _ _ c.loop-i.invariant.0 _ (sym (input-is (goal.at.loop-i-preserved c).After-kind_of-input (laid (goal.at.loop-i-preserved c).Start))) in
     (rw (c.start_element.ensures, here, from) next, omega (arith, c.loop-i-test.true))
 
 pub returns : goal.returns
 returns c =
     let l = laid (goal.at.returns c).Start in
-    let done : before (sheet_of c.args.s.now) c.args.v + c.loop-i.i ≡ before (sheet_of c.args.s.now) (c.args.v + 1) = whole (goal.at.returns c).After-loop-i (laid (goal.at.returns c).Start) (first-is (goal.at.returns c).After-first_element-first (laid (goal.at.returns c).Start)) in
+    let done : before (sheet_of c.args.s.now) c.args.v + c.loop-i.i ≡ before (sheet_of c.args.s.now) (c.args.v + 1) = whole (goal.at.returns c).After-loop-i (laid (goal.at.returns c).Start) (first_is (goal.at.returns c).After-first_element-first (laid (goal.at.returns c).Start)) in
     subst (Started _ _ _) done c.loop-i.invariant.0

@@ -32,7 +32,7 @@ number-low c =
 number_is : (c : After-first_element) → c.first_element.result + c.args.i
     ≡ before (sheet_of c.args.s.now) c.args.v + c.args.i
 number_is c =
-    ap (λ n. n + c.args.i) (c.first_element.ensures ∙ (laid _ _ c.requires.formed _ c.requires.element.known).first-is)
+    ap (λ n. n + c.args.i) (c.first_element.ensures ∙ (laid _ _ c.requires.formed _ c.requires.element.known).first_is)
 
 -- the outcome's text is that of the definition
 outcome-is : (c : After-sort_of-sort) →

@@ -20,7 +20,7 @@ size_is : (c : After-first_element) → c.first_element.result - c.first_element
     ≡ Box.size (variable (sheet_of c.args.s.now) c.args.v).head.box
 size_is c =
     let l = laid _ _ c.requires.formed _ c.requires.known in
-    omega (arith, l.first-is, l.last-is, c.first_element-first.ensures, c.first_element.ensures)
+    omega (arith, l.first_is, l.last-is, c.first_element-first.ensures, c.first_element.ensures)
 
 -- the point is one of them
 low-in : (c : In-loop-i) →
@@ -39,7 +39,7 @@ first_element-requires c = omega (arith, (laid _ _ c.requires.formed _ c.require
 pub overflow_sub-size : goal.overflow_sub-size
 overflow_sub-size c =
     let l = laid _ _ c.requires.formed _ c.requires.known in
-    omega (arith, l.first-is, l.last-is, c.first_element-first.ensures, c.first_element.ensures)
+    omega (arith, l.first_is, l.last-is, c.first_element-first.ensures, c.first_element.ensures)
 
 pub line-next-requires : goal.line-next-requires
 line-next-requires c =

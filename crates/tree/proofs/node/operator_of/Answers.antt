@@ -20,4 +20,4 @@ pub returns-in_default : goal.returns-in_default
 returns-in_default c =
     let is = c.natural-code.ensures ∙ code_here _ _ c.requires.noded in
     let nd = node_read (vars_of c.args.s.now) c.args.s.now c.args.at in
-    omega (arith, is, operator-low nd c.requires.class-is, operator-high nd c.requires.class-is)
+    omega (arith, is, operator-low nd c.requires.class_is, operator-high nd c.requires.class_is)

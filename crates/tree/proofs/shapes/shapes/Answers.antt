@@ -10,7 +10,7 @@ pub overflow_add-first : goal.overflow_add-first
 overflow_add-first c =
     let h = c.requires in
     let s = prepared-sections _ _ h in
-    omega (arith, s.first-there, s.first-is, c.third_place-first.ensures, h.table.third)
+    omega (arith, s.first_there, s.first_is, c.third_place-first.ensures, h.table.third)
 
 pub shapes_from-requires : goal.shapes_from-requires
 shapes_from-requires c =

@@ -20,7 +20,7 @@ code-of t c = c.operator_of-kind.ensures
 pub operator_type-operator_of-kind-requires : goal.operator_type-operator_of-kind-requires
 operator_type-operator_of-kind-requires t c =
     let h = c.requires.1 in
-    record { noded = standing-noded _ _ _ _ h.stands; class-is = h.class-is }
+    record { noded = standing-noded _ _ _ _ h.stands; class_is = h.class_is }
 
 pub operator_type-node_end-next-requires : goal.operator_type-node_end-next-requires
 operator_type-node_end-next-requires t c = standing-noded _ _ _ _ c.requires.1.stands
