@@ -16,7 +16,7 @@ use Rattle.alpha.specs.Sheet.{Sheet, Point, Range}
 use Rattle.alpha.specs.Box.{in_box, index}
 use Rattle.alpha.specs.Holds.{variable}
 use Rattle.alpha.specs.Check.{check}
-use Rattle.alpha.specs.Ask.{asks, number_of, before, element_number, numbered}
+use Rattle.alpha.specs.Ask.{asks, before, element_number, numbered}
 use Rattle.alpha.specs.Promise.{total_of}
 use Rattle.alpha.specs.Verdict.{told, place_of}
 use Rattle.alpha.specs.Verdict as Verdicts

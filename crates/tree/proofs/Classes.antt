@@ -1,13 +1,13 @@
 -- What a node's class says: of the node, of the tree that it heads, and of its fields and the place after it. `view` is the one law by a
 -- tree's cases; `leaf-tree` and `operator-tree` take a leaf's and an operator's cases apart. Assumes nothing.
 use mathlib.Core.Path.{◌≡◌, refl, sym, ap, ◌∙◌, subst}
-use Prim.Native.Nat.{ℕ, ◌+◌, ◌*◌, ◌≤◌, ◌<◌}
+use Prim.Native.Nat.{ℕ, ◌+◌, ◌*◌, ◌≤◌}
 use native.Mathlib.Omega.{arith}
 use mathlib.Core.List.{List}
 use lib.ListN.{length}
 use lib.IntN.{ℤ, pos, nat_abs}
 use Rattle.alpha.specs.Field.{field}
-use Rattle.alpha.specs.Sheet.{Unary, Binary, Constraint, Map, Node, Expr, Exprs}
+use Rattle.alpha.specs.Sheet.{Unary, Binary, Constraint, Map, Node, Expr}
 use Rattle.alpha.specs.Sheet.{Node.n_var, Node.n_int, Node.n_bool, Node.n_unary, Node.n_binary, Node.n_if, Node.n_case, Node.n_restr, Node.n_dep}
 use Rattle.alpha.specs.Sheet.{Expr.var, Expr.int, Expr.boo, Expr.un, Expr.bin, Expr.ite, Expr.kase, Expr.restr, Expr.dep, Exprs.none}
 use Rattle.alpha.specs.Read.{got, node}

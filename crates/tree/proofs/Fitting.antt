@@ -1,11 +1,10 @@
 -- What the walk that judges SHAPE says of one node: whether it may stand where so many dimensions are wanted, and how many are wanted of its
 -- children, by its class. Assumes nothing.
 use mathlib.Core.Path.{◌≡◌, refl, sym, ap}
-use Prim.Native.Nat.{ℕ, ◌+◌, ◌-◌, ◌≤◌, ◌<◌}
+use Prim.Native.Nat.{ℕ, ◌+◌, ◌<◌}
 use native.Mathlib.Omega.{arith}
 use mathlib.Core.Bool.{true}
 use mathlib.Core.List.{List}
-use lib.ListN.{length}
 use lib.IntN.{nat_abs}
 use lib.Dec.{eqb}
 use Rattle.alpha.specs.Field.{field}

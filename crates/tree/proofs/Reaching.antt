@@ -20,7 +20,7 @@ use Rattle.affine.specs.declared.Map as Code
 use Rattle.affine.specs.Value.{several, map_of}
 use Rattle.affine.specs.Size.{Tells}
 use Rattle.affine.specs.Reading.{row_fields, MapRead}
-use Rattle.laws.specs.At.{node_of, node_read, node_end, At, AllAt}
+use Rattle.laws.specs.At.{node_of, node_read, node_end, At}
 use Rattle.laws.specs.Children.{children_of, arity, reach_here, reach_below}
 use Rattle.laws.specs.Sheets.{vars_of}
 use Rattle.laws.proofs.Readers.{counted_is}

@@ -1,6 +1,5 @@
 -- `accept::admit` meets its contract. Assumes nothing.
 use Rattle.accept.proofs.Steps.{faults-admit, all-admit}
-use borrow.Author.Rules.{rules}
 use Rattle.accept.proofs.admit.Goals as goal
 
 pub returns-in-Refused : goal.returns-in-Refused

@@ -1,5 +1,4 @@
 -- `accept::check` meets its contract. Assumes nothing.
-use borrow.Author.Rules.{rules}
 use Rattle.accept.proofs.Steps.{long-refuses}
 use Rattle.accept.proofs.check.Goals as goal
 

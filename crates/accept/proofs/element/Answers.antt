@@ -3,7 +3,6 @@ use mathlib.Core.Path.{refl, sym, ◌∙◌}
 use Rattle.alpha.specs.declared.Refusal.TheVariants.{Long}
 use Rattle.accept.proofs.Steps.{long-refuses}
 use Rattle.accept.proofs.Asked.{refused-number, accepted-number}
-use borrow.Author.Rules.{rules}
 use Rattle.accept.proofs.element.Goals as goal
 
 pub returns-then-too_long : goal.returns-then-too_long

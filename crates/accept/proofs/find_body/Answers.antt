@@ -3,7 +3,6 @@ use mathlib.Core.Path.{refl, ◌∙◌}
 use Rattle.alpha.specs.declared.Refusal.TheVariants.{Long}
 use Rattle.accept.proofs.Steps.{long-refuses}
 use Rattle.accept.proofs.Parts.{no-part, refused-part, accepted-part}
-use borrow.Author.Rules.{rules}
 use Rattle.accept.proofs.find_body.Goals as goal
 
 pub returns-then-too_long : goal.returns-then-too_long

@@ -1,6 +1,5 @@
 -- `accept::form` meets its contract, step by step. Assumes nothing.
-use Rattle.accept.proofs.Steps.{read-forms, rules-form, all-form, prepared-after}
-use borrow.Author.Rules.{rules}
+use Rattle.accept.proofs.Steps.{read-forms, rules-form, prepared-after}
 use Rattle.accept.proofs.form.Goals as goal
 
 pub returns-in_default : goal.returns-in_default

@@ -4,12 +4,10 @@ use Prim.Native.Nat.{◌<◌, ◌+◌}
 use native.Mathlib.Omega.{arith}
 use lib.ListN.{length}
 use Rattle.alpha.specs.Box.{size}
-use Rattle.alpha.specs.Holds.{variable}
 use Rattle.laws.specs.Sheets.{vars_of, sheet_of}
 use Rattle.points.specs.Number.{box_of}
-use Rattle.domain.proofs.Records.{laid-variable, laid-length}
-use Rattle.accept.proofs.Asked.{unknown-asked, other-asked, off-asked, found-asked, index_is, found-low}
-use borrow.Author.Rules.{rules}
+use Rattle.domain.proofs.Records.{laid-variable}
+use Rattle.accept.proofs.Asked.{other-asked, off-asked, found-asked, index_is, found-low}
 use Rattle.accept.proofs.number_of.Goals as goal
 
 pub returns-then-point-d : goal.returns-then-point-d

@@ -4,8 +4,7 @@ use Prim.Native.Nat.{◌<◌}
 use native.Mathlib.Omega.{arith}
 use Rattle.laws.specs.Sheets.{vars_of}
 use Rattle.domain.proofs.Records.{laid-variable}
-use Rattle.accept.proofs.Parts.{unknown-part, input-part, places-ordered, body-part, no-part}
-use borrow.Author.Rules.{rules}
+use Rattle.accept.proofs.Parts.{places-ordered, body-part}
 use Rattle.accept.proofs.part_of.Goals as goal
 
 pub body_place-start-requires : goal.body_place-start-requires

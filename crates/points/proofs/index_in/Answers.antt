@@ -1,20 +1,19 @@
 -- `points::index_in` meets its contract: coordinate by coordinate, the number from here is the number asked for. Assumes nothing.
 use mathlib.Core.Path.{◌≡◌, sym, ap, ◌∙◌}
-use mathlib.Core.List.{List, [], ◌∷◌}
+use mathlib.Core.List.{List}
 use native.Mathlib.Omega.{arith}
 use native.Mathlib.Nat.{mul-le-mul}
-use borrow.Author.Rules.{rules}
 use Rattle.alpha.specs.declared.Int.{Int}
 use Rattle.affine.specs.Value.{point_of}
 use Rattle.sheet.specs.Record.{range_at, box_at}
 use Rattle.points.specs.Number.{number_in}
 use Rattle.points.specs.declared.Found.{Found}
-use Rattle.points.proofs.Steps.{Kept, number_from-none, first_four, first-four, kept_low, kept-end, kept_off, kept-head, kept_more, digit_low}
-use Rattle.points.proofs.index_in.Goals.{After-x3-1}
+use Rattle.points.proofs.Steps.{first_four, first-four, kept_low, kept-end, kept_off, kept_more, digit_low}
+use Rattle.points.proofs.index_in.Goals.{Start}
 use Rattle.points.proofs.index_in.Goals as goal
 
 -- their number is the number asked for
-number_same : (c : After-x3-1) → let a = c.args in
+number_same : (c : Start) → let a = c.args in
     let number : List Int → Found = λ z. number_in (box_at a.s.now a.at a.n) (point_of a.n z) in
     number (first_four a.z) ≡ number a.z
 number_same c =
@@ -23,7 +22,7 @@ number_same c =
 pub returns-in_default : goal.returns-in_default
 returns-in_default c =
     let answer = c.digit-d.ensures in
-    kept_off _ c.loop-left-test.true c.loop-left.invariant (sym answer ∙ c.in_default.is) ∙ number_same (goal.at.returns-in_default c).After-x3-1
+    kept_off _ c.loop-left-test.true c.loop-left.invariant (sym answer ∙ c.in_default.is) ∙ number_same (goal.at.returns-in_default c).Start
 
 pub overflow_mul-e : goal.overflow_mul-e
 overflow_mul-e c =
@@ -46,4 +45,4 @@ loop-left-preserved c =
 
 pub returns : goal.returns
 returns c =
-    kept-end _ (omega (arith, c.loop-left-test.false)) c.loop-left.invariant ∙ number_same (goal.at.returns c).After-x3-1
+    kept-end _ (omega (arith, c.loop-left-test.false)) c.loop-left.invariant ∙ number_same (goal.at.returns c).Start

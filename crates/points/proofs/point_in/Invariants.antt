@@ -1,14 +1,7 @@
 -- `points::point_in` meets its contract: from the last coordinate to the first, those made so far are the point of a number in the box of
 -- their ranges. Assumes nothing.
-use mathlib.Core.Path.{◌≡◌}
 use mathlib.Core.List.{[], ◌∷◌}
-use Prim.Native.Nat.{◌+◌, ◌*◌, ◌-◌}
-use native.Mathlib.Omega.{arith}
-use native.Mathlib.Nat.{mod-le}
-use borrow.Author.Rules.{rules}
-use Rattle.sheet.specs.Record.{Ranges}
-use Rattle.points.proofs.Coordinates.{Making, making-none, making-more, making-end}
-use Rattle.points.proofs.Ranges.{ranges-at}
+use Rattle.points.proofs.Coordinates.{Making}
 use Rattle.points.proofs.point_in.Given as goal
 
 abbrev pub invariant-loop-left : goal.invariant-loop-left

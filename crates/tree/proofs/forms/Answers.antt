@@ -1,6 +1,5 @@
 -- `tree::forms` meets its contract: SHAPE, then TYPE, then REACH, the first refusal deciding. Assumes nothing.
-use borrow.Author.Rules.{rules}
-use Rattle.tree.proofs.Forming.{forms-unshaped, placed, forms-mistyped, forms-rest}
+use Rattle.tree.proofs.Forming.{forms-rest}
 use Rattle.tree.proofs.forms.Goals as goal
 
 pub returns : goal.returns

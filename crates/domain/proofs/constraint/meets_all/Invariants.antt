@@ -1,12 +1,8 @@
 -- `domain::meets_all` meets its contract: what the constraints from here on say is what all of them say. Assumes nothing.
-use mathlib.Core.Path.{◌≡◌, refl, sym, ◌∙◌}
-use native.Mathlib.Omega.{arith}
-use borrow.Author.Rules.{rules}
-use borrow.Author.Tests.{not-true, not-false}
+use mathlib.Core.Path.{◌≡◌}
 use Rattle.alpha.specs.Affine as Affine
 use Rattle.affine.specs.Value.{point_of}
 use Rattle.domain.specs.Constraints.{constraints_fields, AllTestable}
-use Rattle.domain.proofs.Restrictions.{testable-first, testable-rest, first-fails, first_holds, none-fail}
 use Rattle.domain.proofs.constraint.meets_all.Given as goal
 
 abbrev pub invariant-loop-left : goal.invariant-loop-left

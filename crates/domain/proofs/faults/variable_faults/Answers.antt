@@ -1,6 +1,5 @@
 -- `domain::variable_faults` meets its contract: an input has no fault, and of any other its body is asked. Assumes nothing.
-use borrow.Author.Rules.{rules}
-use Rattle.tree.proofs.Passing.{is-input, no_input}
+use Rattle.tree.proofs.Passing.{is-input}
 use Rattle.domain.proofs.Checking.{input-clear}
 use Rattle.domain.proofs.faults.variable_faults.Goals as goal
 

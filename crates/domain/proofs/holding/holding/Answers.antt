@@ -3,7 +3,6 @@
 use mathlib.Core.Path.{refl, sym, ◌∙◌}
 use Prim.Native.Nat.{ℕ, ◌-◌, ◌≤◌}
 use native.Mathlib.Omega.{arith}
-use borrow.Author.Rules.{rules}
 use Rattle.laws.specs.Sheets.{vars_of}
 use Rattle.laws.proofs.Shapes.{at_long}
 use Rattle.tree.specs.Standing.{Noded}

@@ -1,5 +1,4 @@
 -- `domain::holds` meets its contract: a tree holds as it stands. Assumes nothing.
-use borrow.Author.Rules.{rules}
 use Rattle.domain.proofs.Choices.{held_at}
 use Rattle.domain.proofs.holding.holds.Goals as goal
 

@@ -2,7 +2,6 @@
 use mathlib.Core.Path.{◌≡◌, ap, ◌∙◌}
 use native.Mathlib.Omega.{arith}
 use lib.IntN.{nat_abs}
-use borrow.Author.Rules.{rules}
 use Rattle.alpha.specs.Affine.{meets_all}
 use Rattle.alpha.specs.Field.{field}
 use Rattle.alpha.specs.Holds.{variable}

@@ -1,12 +1,8 @@
 -- `domain::fill` meets its contract. The loop's invariant: the bytes of the variables before v are as they must be. The measure is how
 -- many variables are left. Assumes nothing.
-use mathlib.Core.Path.{◌≡◌, ◌∙◌}
 use Prim.Native.Nat.{◌-◌}
-use native.Mathlib.Omega.{arith}
-use borrow.Author.Rules.{rules}
-use Rattle.laws.specs.Sheets.{vars_of, sheet_of}
+use Rattle.laws.specs.Sheets.{sheet_of}
 use Rattle.domain.specs.Filling.{FilledBelow}
-use Rattle.domain.proofs.Filled.{fill_start, fill_end}
 use Rattle.domain.proofs.inside.fill.Given as goal
 
 abbrev pub invariant-loop-v : goal.invariant-loop-v

@@ -8,7 +8,7 @@ use Rattle.alpha.specs.Holds.{variable}
 use Rattle.alpha.specs.Ask.{before}
 use Rattle.laws.specs.Sheets.{sheet_of}
 use Rattle.domain.proofs.Records.{VariableLaid, laid-variable}
-use Rattle.domain.proofs.Filled.{FilledTo, fill_none, fill_one, fill-all}
+use Rattle.domain.proofs.Filled.{fill_one, fill-all}
 use Rattle.domain.proofs.inside.fill_variable.Goals.{After-first_element, After-first_element-first, In-loop-i, Start}
 use Rattle.domain.proofs.inside.fill_variable.Goals as goal
 
@@ -56,22 +56,43 @@ first_element-requires c = omega (arith, (laid (goal.at.first_element-requires c
 
 pub overflow_sub-size : goal.overflow_sub-size
 overflow_sub-size c =
-    let l = (laid (goal.at.overflow_sub-size c).Start).last-is in omega (arith, first_is (goal.at.overflow_sub-size c).After-first_element-first (laid (goal.at.overflow_sub-size c).Start), c.first_element.ensures)
+    let l = (laid (goal.at.overflow_sub-size c).Start).last-is in omega
+    (arith, first_is (goal.at.overflow_sub-size c).After-first_element-first (laid (goal.at.overflow_sub-size c).Start), c.first_element.ensures)
 
 pub element_inside-met-requires : goal.element_inside-met-requires
-element_inside-met-requires c =
-    (c.requires.0, record { known = c.requires.1.known; low = low (goal.at.element_inside-met-requires c).In-loop-i (size_is (goal.at.element_inside-met-requires c).After-first_element (laid (goal.at.element_inside-met-requires c).Start) (first_is (goal.at.element_inside-met-requires c).After-first_element-first (laid (goal.at.element_inside-met-requires c).Start))) })
+element_inside-met-requires c = (
+  c.requires.0,
+  record {
+    known = c.requires.1.known;
+    low = low (goal.at.element_inside-met-requires c).In-loop-i
+        (size_is (goal.at.element_inside-met-requires c).After-first_element (laid (goal.at.element_inside-met-requires c).Start)
+        (first_is (goal.at.element_inside-met-requires c).After-first_element-first (laid (goal.at.element_inside-met-requires c).Start)));
+  },
+)
 
 pub keep-requires : goal.keep-requires
 keep-requires c =
-    number-low (goal.at.keep-requires c).In-loop-i (first_is (goal.at.keep-requires c).After-first_element-first (laid (goal.at.keep-requires c).Start)) (size_is (goal.at.keep-requires c).After-first_element (laid (goal.at.keep-requires c).Start) (first_is (goal.at.keep-requires c).After-first_element-first (laid (goal.at.keep-requires c).Start))) (laid (goal.at.keep-requires c).Start)
+    number-low (goal.at.keep-requires c).In-loop-i
+    (first_is (goal.at.keep-requires c).After-first_element-first (laid (goal.at.keep-requires c).Start))
+    (size_is (goal.at.keep-requires c).After-first_element (laid (goal.at.keep-requires c).Start)
+    (first_is (goal.at.keep-requires c).After-first_element-first (laid (goal.at.keep-requires c).Start))) (laid (goal.at.keep-requires c).Start)
 
 pub loop-i-preserved : goal.loop-i-preserved
 loop-i-preserved c =
     let number = ap (λ n. n + c.loop-i.i) (first_is (goal.at.loop-i-preserved c).After-first_element-first (laid (goal.at.loop-i-preserved c).Start)) in
     let met = c.element_inside-met.ensures in
-    fill_one _ _ _ _ _ _ _ (laid (goal.at.loop-i-preserved c).Start).known c.loop-i.invariant number (number-low (goal.at.loop-i-preserved c).In-loop-i (first_is (goal.at.loop-i-preserved c).After-first_element-first (laid (goal.at.loop-i-preserved c).Start)) (size_is (goal.at.loop-i-preserved c).After-first_element (laid (goal.at.loop-i-preserved c).Start) (first_is (goal.at.loop-i-preserved c).After-first_element-first (laid (goal.at.loop-i-preserved c).Start))) (laid (goal.at.loop-i-preserved c).Start)) met c.keep.ensures
+    fill_one _ _ _ _ _ _ _ (laid (goal.at.loop-i-preserved c).Start).known c.loop-i.invariant number
+    (number-low (goal.at.loop-i-preserved c).In-loop-i
+    (first_is (goal.at.loop-i-preserved c).After-first_element-first (laid (goal.at.loop-i-preserved c).Start))
+    (size_is (goal.at.loop-i-preserved c).After-first_element (laid (goal.at.loop-i-preserved c).Start)
+    (first_is (goal.at.loop-i-preserved c).After-first_element-first (laid (goal.at.loop-i-preserved c).Start)))
+    (laid (goal.at.loop-i-preserved c).Start)) met c.keep.ensures
 
 pub returns : goal.returns
 returns c =
-    fill-all _ _ _ _ (omega (arith, size_is (goal.at.returns c).After-first_element (laid (goal.at.returns c).Start) (first_is (goal.at.returns c).After-first_element-first (laid (goal.at.returns c).Start)), c.loop-i-test.false)) c.loop-i.invariant
+    fill-all _ _ _ _ (omega (
+      arith,
+      size_is (goal.at.returns c).After-first_element (laid (goal.at.returns c).Start)
+          (first_is (goal.at.returns c).After-first_element-first (laid (goal.at.returns c).Start)),
+      c.loop-i-test.false,
+    )) c.loop-i.invariant

@@ -1,14 +1,8 @@
 -- `domain::fill_variable` meets its contract. The loop's invariant: the bytes of the variables before v and of v's first i elements are
 -- as they must be. The measure is how many elements are left. Assumes nothing.
-use mathlib.Core.Path.{◌≡◌, ap, ◌∙◌}
-use Prim.Native.Nat.{◌+◌, ◌-◌, ◌<◌}
-use native.Mathlib.Omega.{arith}
-use Rattle.alpha.specs.Box as Box
-use Rattle.alpha.specs.Holds.{variable}
-use Rattle.alpha.specs.Ask.{before}
+use Prim.Native.Nat.{◌-◌}
 use Rattle.laws.specs.Sheets.{sheet_of}
-use Rattle.domain.proofs.Records.{VariableLaid, laid-variable}
-use Rattle.domain.proofs.Filled.{FilledTo, fill_none, fill_one, fill-all}
+use Rattle.domain.proofs.Filled.{FilledTo}
 use Rattle.domain.proofs.inside.fill_variable.Given as goal
 
 abbrev pub invariant-loop-i : goal.invariant-loop-i

@@ -1,7 +1,6 @@
 -- `domain::leaf_stands` meets its contract: a variable stands as its element does, and a constant holds. Assumes nothing.
 use mathlib.Core.Path.{ap, ◌∙◌}
 use native.Mathlib.Omega.{arith}
-use borrow.Author.Rules.{rules}
 use Rattle.tree.specs.Classes.{leaf_code}
 use Rattle.tree.proofs.Classes.{leaf-there}
 use Rattle.tree.proofs.Heading.{prepared-sections}

@@ -1,10 +1,7 @@
 -- `domain::stand` and `domain::stand_all` meet their contracts: a tree stands as its node says of its children. Assumes nothing.
-use borrow.Fn.PlainCycle.{Measures, is, falls, and}
-use Rattle.domain.proofs.stand.+stand_stand_all.{statement}
-use Prim.Native.Nat.{ℕ, ◌+◌, ◌*◌, ◌-◌, ◌≤◌, ◌<◌}
+use Prim.Native.Nat.{ℕ, ◌-◌, ◌≤◌}
 use mathlib.Core.Path.{◌≡◌, sym, ◌∙◌}
 use native.Mathlib.Omega.{arith}
-use borrow.Author.Rules.{rules}
 use Rattle.laws.specs.Sheets.{vars_of}
 use Rattle.tree.specs.declared.Class.{Class}
 use Rattle.tree.specs.declared.Class.TheVariants.{Restriction, Dependence}
@@ -12,11 +9,11 @@ use Rattle.tree.specs.Classes.{class_at}
 use Rattle.tree.specs.Standing.{Noded}
 use Rattle.tree.proofs.Classes.{code-there}
 use Rattle.tree.proofs.Standings.{standing-noded, standing-some}
-use Rattle.domain.specs.Walk.{Walk, WalkAll}
+use Rattle.domain.specs.Walk.{Walk}
 use Rattle.domain.proofs.Walks.{walk-standing, walk-children, map-stands, image-fits, walk-image, walk_first, walk-rest}
 use Rattle.domain.proofs.Restrictions.{restriction-testable, restriction-walk}
 use Rattle.domain.proofs.Ways.{operands-way, branches-way, restriction-way, restriction-off-way, image-way}
-use Rattle.domain.proofs.Ways.{SoFar, sofar-none, sofar-more, sofar-all}
+use Rattle.domain.proofs.Ways.{sofar-none, sofar-more, sofar-all}
 use Rattle.domain.proofs.stand.+stand_stand_all.Goals.{stand-After-node_end-next, stand-In-Dependence, stand-In-Restriction, stand-Start}
 use Rattle.domain.proofs.stand.+stand_stand_all.Goals as goal
 
@@ -61,8 +58,14 @@ pub stand-node_end-next-requires : goal.stand-node_end-next-requires
 stand-node_end-next-requires t c = noded t (goal.at.stand-node_end-next-requires t c).Start
 
 pub stand-leaf_stands-how-requires : goal.stand-leaf_stands-how-requires
-stand-leaf_stands-how-requires t c =
-    (c.requires.0, record { noded = noded t (goal.at.stand-leaf_stands-how-requires t c).Start; class_is = is-class t (goal.at.stand-leaf_stands-how-requires t c).After-node_end-next _ c.in-Leaf.is })
+stand-leaf_stands-how-requires t c = (
+  c.requires.0,
+  record {
+    noded = noded t (goal.at.stand-leaf_stands-how-requires t c).Start;
+    class_is = is-class t
+        (goal.at.stand-leaf_stands-how-requires t c).After-node_end-next _ c.in-Leaf.is;
+  },
+)
 
 pub stand-returns-in-Leaf : goal.stand-returns-in-Leaf
 stand-returns-in-Leaf t c = rw c.node_end-next.ensures c.leaf_stands-how.ensures
@@ -96,8 +99,14 @@ pub stand-stand_all-requires-in-Case : goal.stand-stand_all-requires-in-Case
 stand-stand_all-requires-in-Case t c =
     let left = some t (goal.at.stand-stand_all-requires-in-Case t c).After-node_end-next in
     let is = c.decreases in
-    let case = is-class t (goal.at.stand-stand_all-requires-in-Case t c).After-node_end-next _ c.in-Case.is in
-    (omega arith, (c.requires.0, walk-children _ _ _ _ (walk t (goal.at.stand-stand_all-requires-in-Case t c).After-node_end-next) _ _ c.node_end-next.ensures c.children-in-Case.ensures (rw case tt)))
+    let case = is-class t (goal.at.stand-stand_all-requires-in-Case t c).After-node_end-next _ c.in-Case.is in (
+      omega arith,
+      (
+        c.requires.0,
+        walk-children _ _ _ _
+            (walk t (goal.at.stand-stand_all-requires-in-Case t c).After-node_end-next) _ _ c.node_end-next.ensures c.children-in-Case.ensures (rw case tt),
+      ),
+    )
 
 pub stand-returns-in-Case : goal.stand-returns-in-Case
 stand-returns-in-Case t c =
@@ -106,7 +115,9 @@ stand-returns-in-Case t c =
 
 pub stand-restriction_meets-requires : goal.stand-restriction_meets-requires
 stand-restriction_meets-requires t c =
-    restriction-testable _ _ _ _ (walk t (goal.at.stand-restriction_meets-requires t c).After-node_end-next) (restriction t (goal.at.stand-restriction_meets-requires t c).In-Restriction (is-class t (goal.at.stand-restriction_meets-requires t c).After-node_end-next))
+    restriction-testable _ _ _ _ (walk t (goal.at.stand-restriction_meets-requires t c).After-node_end-next)
+    (restriction t (goal.at.stand-restriction_meets-requires t c).In-Restriction
+    (is-class t (goal.at.stand-restriction_meets-requires t c).After-node_end-next))
 
 pub stand-overflow_sub-left-then-restriction_meets : goal.stand-overflow_sub-left-then-restriction_meets
 stand-overflow_sub-left-then-restriction_meets t c =
@@ -115,12 +126,20 @@ stand-overflow_sub-left-then-restriction_meets t c =
 pub stand-stand-requires : goal.stand-stand-requires
 stand-stand-requires t c =
     let left = some t (goal.at.stand-stand-requires t c).After-node_end-next in
-    let is = c.decreases in
-    (omega arith, (c.requires.0, child-walk t (goal.at.stand-stand-requires t c).In-Restriction (walk t (goal.at.stand-stand-requires t c).After-node_end-next) (is-class t (goal.at.stand-stand-requires t c).After-node_end-next)))
+    let is = c.decreases in (
+      omega arith,
+      (
+        c.requires.0,
+        child-walk t (goal.at.stand-stand-requires t c).In-Restriction
+            (walk t (goal.at.stand-stand-requires t c).After-node_end-next) (is-class t (goal.at.stand-stand-requires t c).After-node_end-next),
+      ),
+    )
 
 pub stand-returns-then-restriction_meets : goal.stand-returns-then-restriction_meets
 stand-returns-then-restriction_meets t c =
-    restriction-way _ _ _ c.args.z c.node_end-next.ensures (restriction t (goal.at.stand-returns-then-restriction_meets t c).In-Restriction (is-class t (goal.at.stand-returns-then-restriction_meets t c).After-node_end-next)) _
+    restriction-way _ _ _ c.args.z c.node_end-next.ensures
+    (restriction t (goal.at.stand-returns-then-restriction_meets t c).In-Restriction
+    (is-class t (goal.at.stand-returns-then-restriction_meets t c).After-node_end-next)) _
     c.restriction_meets.ensures _ c.if-restriction_meets.true c.stand.ensures
 
 pub stand-overflow_sub-left-in-Restriction : goal.stand-overflow_sub-left-in-Restriction
@@ -129,23 +148,37 @@ stand-overflow_sub-left-in-Restriction t c =
 
 pub stand-skip-requires : goal.stand-skip-requires
 stand-skip-requires t c =
-    walk-standing _ _ _ _ (child-walk t (goal.at.stand-skip-requires t c).In-Restriction (walk t (goal.at.stand-skip-requires t c).After-node_end-next) (is-class t (goal.at.stand-skip-requires t c).After-node_end-next))
+    walk-standing _ _ _ _ (child-walk t (goal.at.stand-skip-requires t c).In-Restriction
+    (walk t (goal.at.stand-skip-requires t c).After-node_end-next) (is-class t (goal.at.stand-skip-requires t c).After-node_end-next))
 
 pub stand-returns-else-restriction_meets : goal.stand-returns-else-restriction_meets
 stand-returns-else-restriction_meets t c =
-    restriction-off-way _ _ _ c.args.z c.node_end-next.ensures (restriction t (goal.at.stand-returns-else-restriction_meets t c).In-Restriction (is-class t (goal.at.stand-returns-else-restriction_meets t c).After-node_end-next)) _
+    restriction-off-way _ _ _ c.args.z c.node_end-next.ensures
+    (restriction t (goal.at.stand-returns-else-restriction_meets t c).In-Restriction
+    (is-class t (goal.at.stand-returns-else-restriction_meets t c).After-node_end-next)) _
     c.restriction_meets.ensures _ c.if-restriction_meets.false c.skip.ensures
 
 pub stand-overflow_add-at : goal.stand-overflow_add-at
 stand-overflow_add-at t c = omega (arith, code-there _ _ (noded t (goal.at.stand-overflow_add-at t c).Start))
 
 pub stand-image_at-y-requires : goal.stand-image_at-y-requires
-stand-image_at-y-requires t c =
-    (map-stands _ _ _ _ (walk t (goal.at.stand-image_at-y-requires t c).After-node_end-next) (dependence t (goal.at.stand-image_at-y-requires t c).In-Dependence (is-class t (goal.at.stand-image_at-y-requires t c).After-node_end-next)), image-fits _ _ _ _ (walk t (goal.at.stand-image_at-y-requires t c).After-node_end-next) (dependence t (goal.at.stand-image_at-y-requires t c).In-Dependence (is-class t (goal.at.stand-image_at-y-requires t c).After-node_end-next)))
+stand-image_at-y-requires t c = (
+  map-stands _ _ _ _ (walk t (goal.at.stand-image_at-y-requires t c).After-node_end-next)
+      (dependence t (goal.at.stand-image_at-y-requires t c).In-Dependence (is-class t (goal.at.stand-image_at-y-requires t c).After-node_end-next)),
+  image-fits _ _ _ _ (walk t (goal.at.stand-image_at-y-requires t c).After-node_end-next)
+      (dependence t (goal.at.stand-image_at-y-requires t c).In-Dependence (is-class t (goal.at.stand-image_at-y-requires t c).After-node_end-next)),
+)
 
 pub stand-overflow_sub-left-in-Dependence : goal.stand-overflow_sub-left-in-Dependence
 stand-overflow_sub-left-in-Dependence t c =
     omega (arith, some t (goal.at.stand-overflow_sub-left-in-Dependence t c).After-node_end-next)
+
+pub stand-returns-in-Dependence : goal.stand-returns-in-Dependence
+stand-returns-in-Dependence t c =
+    let y = c.image_at-y in
+    image-way _ _ _ c.args.z c.node_end-next.ensures _ y.result _
+    (dependence t (goal.at.stand-returns-in-Dependence t c).In-Dependence (is-class t (goal.at.stand-returns-in-Dependence t c).After-node_end-next))
+    y.ensures.read y.ensures.is c.stand-in-Dependence.ensures
 
 pub stand-stand-requires-in-Dependence : goal.stand-stand-requires-in-Dependence
 stand-stand-requires-in-Dependence t c =
@@ -154,12 +187,6 @@ stand-stand-requires-in-Dependence t c =
     let y = c.image_at-y.ensures in
     let dep = dependence t (goal.at.stand-stand-requires-in-Dependence t c).In-Dependence (is-class t (goal.at.stand-stand-requires-in-Dependence t c).After-node_end-next) in
     (omega arith, (c.requires.0, walk-image _ _ _ _ (walk t (goal.at.stand-stand-requires-in-Dependence t c).After-node_end-next) dep _ y.read _ c.node_end-next.ensures _ y.is y.rest))
-
-pub stand-returns-in-Dependence : goal.stand-returns-in-Dependence
-stand-returns-in-Dependence t c =
-    let y = c.image_at-y in
-    image-way _ _ _ c.args.z c.node_end-next.ensures _ y.result _ (dependence t (goal.at.stand-returns-in-Dependence t c).In-Dependence (is-class t (goal.at.stand-returns-in-Dependence t c).After-node_end-next))
-    y.ensures.read y.ensures.is c.stand-in-Dependence.ensures
 
 pub stand_all-loop-more-init : goal.stand_all-loop-more-init
 stand_all-loop-more-init t c =

@@ -1,22 +1,7 @@
 -- `domain::stand` and `domain::stand_all` meet their contracts: a tree stands as its node says of its children. Assumes nothing.
-use borrow.Fn.PlainCycle.{Measures, is, falls, and}
-use Rattle.domain.proofs.stand.+stand_stand_all.{statement}
-use Prim.Native.Nat.{ℕ, ◌+◌, ◌*◌, ◌-◌, ◌≤◌, ◌<◌}
-use mathlib.Core.Path.{◌≡◌, sym, ◌∙◌}
-use native.Mathlib.Omega.{arith}
-use borrow.Author.Rules.{rules}
-use Rattle.laws.specs.Sheets.{vars_of}
-use Rattle.tree.specs.declared.Class.{Class}
-use Rattle.tree.specs.declared.Class.TheVariants.{Restriction, Dependence}
-use Rattle.tree.specs.Classes.{class_at}
-use Rattle.tree.specs.Standing.{Noded}
-use Rattle.tree.proofs.Classes.{code-there}
-use Rattle.tree.proofs.Standings.{standing-noded, standing-some}
-use Rattle.domain.specs.Walk.{Walk, WalkAll}
-use Rattle.domain.proofs.Walks.{walk-standing, walk-children, map-stands, image-fits, walk-image, walk_first, walk-rest}
-use Rattle.domain.proofs.Restrictions.{restriction-testable, restriction-walk}
-use Rattle.domain.proofs.Ways.{operands-way, branches-way, restriction-way, restriction-off-way, image-way}
-use Rattle.domain.proofs.Ways.{SoFar, sofar-none, sofar-more, sofar-all}
+use Prim.Native.Nat.{◌+◌, ◌*◌}
+use Rattle.domain.specs.Walk.{WalkAll}
+use Rattle.domain.proofs.Ways.{SoFar}
 use Rattle.domain.proofs.stand.+stand_stand_all.Given as goal
 
 abbrev pub decreases-stand : goal.decreases-stand

@@ -1,14 +1,9 @@
 -- `tree::keep_tree` and `tree::keep_trees` meet their contracts: a tree ends where its children end, and its entry says so once theirs do.
 -- Assumes nothing.
-use Prim.Native.Nat.{ℕ, ◌+◌, ◌*◌, ◌<◌}
-use native.Mathlib.Omega.{arith}
+use Prim.Native.Nat.{ℕ, ◌+◌, ◌*◌}
 use Rattle.laws.specs.Sheets.{vars_of}
 use Rattle.tree.specs.Standing.{StandingAll}
 use Rattle.tree.specs.Ends.{AllEnd, EndsKept}
-use Rattle.tree.proofs.Standings.{standing-noded, standing-some, standing-children, first-standing, rest-standing}
-use Rattle.tree.proofs.Standings.{node-ends, none-ends, more-ends}
-use borrow.Fn.PlainCycle.{Measures, is, falls, and}
-use Rattle.tree.proofs.ends.+keep_tree_keep_trees.{statement}
 use Rattle.tree.proofs.ends.+keep_tree_keep_trees.Given as goal
 
 abbrev pub decreases-keep_tree : goal.decreases-keep_tree

@@ -1,7 +1,5 @@
 -- `tree::end_of` meets its contract: by its entry, or by the walk. Assumes nothing.
 use mathlib.Core.Path.{refl}
-use Prim.Native.Nat.{◌/◌}
-use borrow.Author.Rules.{rules}
 use Rattle.tree.proofs.Ending.{kept-ends}
 use Rattle.tree.proofs.ends.end_of.Goals as goal
 

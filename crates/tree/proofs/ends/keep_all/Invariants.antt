@@ -1,8 +1,5 @@
 -- `tree::keep_all` meets its contract: every entry that is kept is right after each body. Assumes nothing.
-use mathlib.Core.Path.{◌∙◌}
 use Prim.Native.Nat.{◌-◌}
-use native.Mathlib.Omega.{arith}
-use borrow.Author.Rules.{rules}
 use Rattle.tree.specs.Ends.{EndsKept}
 use Rattle.tree.proofs.ends.keep_all.Given as goal
 

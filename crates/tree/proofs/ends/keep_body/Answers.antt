@@ -1,7 +1,5 @@
 -- `tree::keep_body` meets its contract: the body stands where the table of places says. Assumes nothing.
-use native.Mathlib.Omega.{arith}
-use borrow.Author.Rules.{rules}
-use Rattle.tree.proofs.Passing.{few, no_input, body-standing}
+use Rattle.tree.proofs.Passing.{few}
 use Rattle.tree.proofs.ends.keep_body.Goals as goal
 
 pub body_place-requires : goal.body_place-requires

@@ -1,10 +1,9 @@
 -- `tree::children` meets its contract, class by class. Assumes nothing.
 use mathlib.Core.Path.{◌∙◌}
 use native.Mathlib.Omega.{arith}
-use borrow.Author.Rules.{rules}
-use Rattle.tree.specs.declared.Class.TheVariants.{Leaf, Operator, Case, Restriction, Dependence}
+use Rattle.tree.specs.declared.Class.TheVariants.{Case}
 use Rattle.tree.specs.Standing.{NodedAs}
-use Rattle.tree.proofs.Classes.{noded-as, leaf-arity, case-there, case-many, restriction-arity, dependence-arity}
+use Rattle.tree.proofs.Classes.{noded-as, case-there, case-many}
 use Rattle.tree.proofs.node.children.Goals.{In-Case}
 use Rattle.tree.proofs.node.children.Goals as goal
 

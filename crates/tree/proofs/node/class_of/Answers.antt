@@ -1,7 +1,6 @@
 -- `tree::class_of` meets its contract, code by code. Assumes nothing.
 use mathlib.Core.Path.{◌≡◌, sym, ◌∙◌}
 use native.Mathlib.Omega.{arith}
-use Rattle.alpha.specs.Sheet.{Node}
 use Rattle.laws.specs.At.{code_of, node_read}
 use Rattle.laws.specs.Sheets.{vars_of}
 use Rattle.tree.proofs.Classes.{code_here, code-there}
@@ -26,16 +25,15 @@ returns-in-7 c =
 
 pub returns-in-0 : goal.returns-in-0
 returns-in-0 c =
-    leaf-coded (node_read (vars_of c.args.s.now) c.args.s.now c.args.at) (omega (arith, code (goal.at.returns-in-0 c).After-natural-code, c.in-0.if-code-lt3-own.true))
+    leaf-coded (node_read (vars_of c.args.s.now) c.args.s.now c.args.at) (omega (arith, code (goal.at.returns-in-0 c).After-natural-code))
 
 pub returns-in-3 : goal.returns-in-3
 returns-in-3 c =
     let is = code (goal.at.returns-in-3 c).After-natural-code in
-    operator-coded (node_read (vars_of c.args.s.now) c.args.s.now c.args.at) (omega (arith, is, c.in-3.if-code-lt3-own.false)) (omega (arith, is, c.in-3.if-code-lt6-own.true))
+    operator-coded (node_read (vars_of c.args.s.now) c.args.s.now c.args.at) (omega (arith, is)) (omega (arith, is))
 
 pub returns-in_default : goal.returns-in_default
 returns-in_default c =
     let is = code (goal.at.returns-in_default c).After-natural-code in
     let nd = (node_read (vars_of c.args.s.now) c.args.s.now c.args.at) in
-    let rest = c.in_default.in_default-own.rest in
-    dependence-coded nd (omega (arith, is, c.in_default.if-code-lt3-own.false, c.in_default.if-code-lt6-own.false, rest.0.1, rest.1, code-most nd))
+    dependence-coded nd (omega (arith, is, code-most nd))

@@ -19,6 +19,5 @@ returns-in-1 c = sym (code_here _ _ c.requires.noded) ∙ sym c.natural-code.ens
 pub returns-in_default : goal.returns-in_default
 returns-in_default c =
     let is = c.natural-code.ensures ∙ code_here _ _ c.requires.noded in
-    let rest = c.in_default.in_default-own.rest in
     let nd = node_read (vars_of c.args.s.now) c.args.s.now c.args.at in
-    omega (arith, is, rest.0.1, rest.1, leaf-code nd c.requires.class_is)
+    omega (arith, is, leaf-code nd c.requires.class_is)

@@ -1,8 +1,5 @@
 -- `tree::node_end` meets its contract, class by class. Assumes nothing.
-use mathlib.Core.Path.{sym, ap, ◌∙◌}
-use Prim.Native.Nat.{◌+◌}
 use native.Mathlib.Omega.{arith}
-use borrow.Author.Rules.{rules}
 use Rattle.tree.specs.declared.Class.TheVariants.{Leaf, Operator, Case, Restriction, Dependence}
 use Rattle.tree.specs.Standing.{NodedAs}
 use Rattle.tree.proofs.Classes.{noded-as, size-here, end-there, leaf-end, case-end, restriction-fields, restriction-end, dependence-fields, dependence-end}

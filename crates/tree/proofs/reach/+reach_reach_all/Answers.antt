@@ -1,15 +1,7 @@
 -- `tree::reach` and `tree::reach_all` meet their contracts: a tree by its node and then by its children. Assumes nothing.
-use Prim.Native.Nat.{ℕ, ◌+◌, ◌*◌, ◌<◌}
 use native.Mathlib.Omega.{arith}
-use borrow.Author.Rules.{rules}
-use Rattle.laws.specs.Sheets.{vars_of}
-use Rattle.tree.specs.declared.Bounded.{Bounded}
-use Rattle.tree.specs.Standing.{StandingAll}
-use Rattle.tree.specs.Bounding.{TreesBounded}
 use Rattle.tree.proofs.Standings.{standing-noded, standing-some, standing-children, first-standing, rest-standing}
 use Rattle.tree.proofs.Reaching.{reach-some, reach-past, reach-goes, trees-none-bounded, first_ends, trees-beyond, trees-bounded}
-use borrow.Fn.PlainCycle.{Measures, is, falls, and}
-use Rattle.tree.proofs.reach.+reach_reach_all.{statement}
 use Rattle.tree.proofs.reach.+reach_reach_all.Goals as goal
 
 pub reach-reach_below-r-requires : goal.reach-reach_below-r-requires
@@ -36,7 +28,7 @@ reach-reach_all-requires t c =
     let many = c.children.ensures in
     let says = c.reach_below-r.ensures in
     let below = reach-some _ _ _ _ says h.1 (standing-noded _ _ _ _ h.0) _ c.in-Within.is in
-    (omega arith, (standing-children _ _ _ _ h.0 _ _ next many, below))
+    (omega arith, (standing-children _ _ _ _ h.0 _ _ next many, omega (arith, h.1, below)))
 
 pub reach-returns : goal.reach-returns
 reach-returns t c =

@@ -1,15 +1,9 @@
 -- `tree::reach` and `tree::reach_all` meet their contracts: a tree by its node and then by its children. Assumes nothing.
-use Prim.Native.Nat.{ℕ, ◌+◌, ◌*◌, ◌<◌}
-use native.Mathlib.Omega.{arith}
-use borrow.Author.Rules.{rules}
+use Prim.Native.Nat.{◌+◌, ◌*◌}
 use Rattle.laws.specs.Sheets.{vars_of}
 use Rattle.tree.specs.declared.Bounded.{Bounded}
 use Rattle.tree.specs.Standing.{StandingAll}
 use Rattle.tree.specs.Bounding.{TreesBounded}
-use Rattle.tree.proofs.Standings.{standing-noded, standing-some, standing-children, first-standing, rest-standing}
-use Rattle.tree.proofs.Reaching.{reach-some, reach-past, reach-goes, trees-none-bounded, first_ends, trees-beyond, trees-bounded}
-use borrow.Fn.PlainCycle.{Measures, is, falls, and}
-use Rattle.tree.proofs.reach.+reach_reach_all.{statement}
 use Rattle.tree.proofs.reach.+reach_reach_all.Given as goal
 
 abbrev pub decreases-reach : goal.decreases-reach

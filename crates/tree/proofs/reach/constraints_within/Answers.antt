@@ -1,10 +1,7 @@
 -- `tree::constraints_within` meets its contract. The loop's invariant: those that are left are there and decide. The measure is how many
 -- are left. Assumes nothing.
-use mathlib.Core.Path.{refl, sym, ◌∙◌}
-use native.Mathlib.Omega.{arith}
-use borrow.Author.Rules.{rules}
-use borrow.Author.Tests.{not-true, not-false}
-use Rattle.tree.proofs.Reaching.{ConstraintsLeft, none-left-pass, first_there, first-fails, first_passes}
+use mathlib.Core.Path.{sym, ◌∙◌}
+use Rattle.tree.proofs.Reaching.{none-left-pass, first-fails, first_passes}
 use Rattle.tree.proofs.reach.constraints_within.Goals as goal
 
 pub returns-then-not-row_within : goal.returns-then-not-row_within

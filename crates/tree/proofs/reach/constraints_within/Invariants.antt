@@ -1,10 +1,6 @@
 -- `tree::constraints_within` meets its contract. The loop's invariant: those that are left are there and decide. The measure is how many
 -- are left. Assumes nothing.
-use mathlib.Core.Path.{refl, sym, ◌∙◌}
-use native.Mathlib.Omega.{arith}
-use borrow.Author.Rules.{rules}
-use borrow.Author.Tests.{not-true, not-false}
-use Rattle.tree.proofs.Reaching.{ConstraintsLeft, none-left-pass, first_there, first-fails, first_passes}
+use Rattle.tree.proofs.Reaching.{ConstraintsLeft}
 use Rattle.tree.proofs.reach.constraints_within.Given as goal
 
 abbrev pub invariant-loop-left : goal.invariant-loop-left

@@ -1,11 +1,9 @@
 -- `tree::reach_below` meets its contract, class by class. Assumes nothing.
-use mathlib.Core.Path.{◌≡◌, sym, ◌∙◌}
 use native.Mathlib.Omega.{arith}
-use borrow.Author.Rules.{rules}
-use Rattle.tree.specs.declared.Class.TheVariants.{Restriction, Dependence}
+use Rattle.tree.specs.declared.Class.TheVariants.{Dependence}
 use Rattle.tree.specs.Standing.{NodedAs}
 use Rattle.tree.proofs.Classes.{noded-as, dependence-fields}
-use Rattle.tree.proofs.Reaching.{leaf-reaches, operator-reaches, case-reaches, dependence-reaches}
+use Rattle.tree.proofs.Reaching.{dependence-reaches}
 use Rattle.tree.proofs.reach.reach_below.Goals.{In-Dependence}
 use Rattle.tree.proofs.reach.reach_below.Goals as goal
 

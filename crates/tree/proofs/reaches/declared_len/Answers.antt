@@ -1,10 +1,5 @@
 -- `tree::declared_len` meets its contract: the variable is known, and so its dimension. Assumes nothing.
-use mathlib.Core.Path.{ap, ◌∙◌}
-use Prim.Native.Nat.{◌+◌, ◌*◌}
 use native.Mathlib.Omega.{arith}
-use borrow.Author.Rules.{rules}
-use Rattle.alpha.specs.Read.{dimension}
-use Rattle.laws.specs.Sheets.{heads_of}
 use Rattle.tree.proofs.Declaring.{who-there, who-known}
 use Rattle.tree.proofs.reaches.declared_len.Goals as goal
 

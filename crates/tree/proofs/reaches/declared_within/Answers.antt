@@ -4,11 +4,9 @@ use mathlib.Core.Path.{◌≡◌, ap, ◌∙◌}
 use Prim.Native.Nat.{◌+◌}
 use native.Mathlib.Omega.{arith}
 use lib.IntN.{nat_abs}
-use borrow.Author.Rules.{rules}
-use borrow.Author.Tests.{not-true, not-false}
 use Rattle.alpha.specs.Field.{field}
 use Rattle.laws.specs.Sheets.{raw_of}
-use Rattle.tree.proofs.Declaring.{DeclaredLeft, all_left, none-declared-left, first-declared, one-declared-fails, one-declared-passes}
+use Rattle.tree.proofs.Declaring.{all_left, first-declared, one-declared-fails, one-declared-passes}
 use Rattle.tree.proofs.Declaring.{declared-there, section-there}
 use Rattle.tree.proofs.reaches.declared_within.Goals.{After-second_place-second}
 use Rattle.tree.proofs.reaches.declared_within.Goals as goal

@@ -1,14 +1,9 @@
 -- `tree::shape` and `tree::shape_all` meet their contracts: a tree is judged by its node and then by its children. Assumes nothing.
-use Prim.Native.Nat.{ℕ, ◌+◌, ◌*◌, ◌<◌}
-use mathlib.Core.Path.{◌≡◌, refl, sym, ◌∙◌}
+use Prim.Native.Nat.{ℕ}
+use mathlib.Core.Path.{sym, ◌∙◌}
 use native.Mathlib.Omega.{arith}
-use borrow.Author.Rules.{rules}
-use borrow.Author.Tests.{not-true, not-false}
-use Rattle.tree.specs.Judged.{Flat, trees_judged}
 use Rattle.tree.proofs.Judging.{FirstOf, flat-first, tree-no-nodes, tree-no-depth, tree-misfit}
 use Rattle.tree.proofs.Judging.{tree-goes, trees-none, trees-bad, trees-go, bad-judges, fits-judges}
-use borrow.Fn.PlainCycle.{Measures, is, falls, and}
-use Rattle.tree.proofs.shape.+shape_shape_all.{statement}
 use Rattle.tree.proofs.shape.+shape_shape_all.Goals.{shape-Else-deep-lt1}
 use Rattle.tree.proofs.shape.+shape_shape_all.Goals as goal
 

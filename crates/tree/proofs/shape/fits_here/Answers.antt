@@ -1,12 +1,11 @@
 -- `tree::fits_here` meets its contract, class by class. Assumes nothing.
-use mathlib.Core.Path.{◌≡◌, sym, ap, ◌∙◌}
+use mathlib.Core.Path.{ap, ◌∙◌}
 use native.Mathlib.Omega.{arith}
 use lib.Dec.{eqb}
-use borrow.Author.Rules.{rules}
-use Rattle.tree.specs.declared.Class.TheVariants.{Leaf, Restriction, Dependence}
+use Rattle.tree.specs.declared.Class.TheVariants.{Restriction, Dependence}
 use Rattle.tree.specs.Standing.{NodedAs}
 use Rattle.tree.proofs.Classes.{noded-as, restriction-fields, dependence-fields}
-use Rattle.tree.proofs.Fitting.{operator-fits, case-fits, restriction-fits, dependence-fits}
+use Rattle.tree.proofs.Fitting.{restriction-fits, dependence-fits}
 use Rattle.tree.proofs.shape.fits_here.Goals.{In-Dependence, In-Restriction}
 use Rattle.tree.proofs.shape.fits_here.Goals as goal
 

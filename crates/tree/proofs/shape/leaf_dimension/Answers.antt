@@ -2,13 +2,12 @@
 use mathlib.Core.Path.{ap, ◌∙◌}
 use native.Mathlib.Omega.{arith}
 use lib.Dec.{eqb}
-use borrow.Author.Rules.{rules}
 use Rattle.alpha.specs.Read.{dimension}
 use Rattle.laws.specs.Sheets.{heads_of}
 use Rattle.tree.specs.Classes.{leaf_code}
 use Rattle.tree.proofs.Classes.{leaf-there}
 use Rattle.tree.proofs.Heading.{prepared-sections}
-use Rattle.tree.proofs.Fitting.{variable-known, variable-fits, integer-fits, boolean-fits}
+use Rattle.tree.proofs.Fitting.{variable-known, variable-fits}
 use Rattle.tree.proofs.shape.leaf_dimension.Goals as goal
 
 pub overflow_add-at : goal.overflow_add-at

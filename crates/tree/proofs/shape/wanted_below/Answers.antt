@@ -1,11 +1,10 @@
 -- `tree::wanted_below` meets its contract: below a dependence its rows, elsewhere the same. Assumes nothing.
-use mathlib.Core.Path.{◌≡◌, sym, ◌∙◌}
+use mathlib.Core.Path.{◌∙◌}
 use native.Mathlib.Omega.{arith}
-use borrow.Author.Rules.{rules}
 use Rattle.tree.specs.declared.Class.TheVariants.{Dependence}
 use Rattle.tree.specs.Standing.{NodedAs}
 use Rattle.tree.proofs.Classes.{noded-as, dependence-fields, dependence-rows}
-use Rattle.tree.proofs.Fitting.{leaf-wants, operator-wants, case-wants, restriction-wants, dependence-wants}
+use Rattle.tree.proofs.Fitting.{dependence-wants}
 use Rattle.tree.proofs.shape.wanted_below.Goals.{In-Dependence}
 use Rattle.tree.proofs.shape.wanted_below.Goals as goal
 

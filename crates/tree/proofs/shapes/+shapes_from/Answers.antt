@@ -1,15 +1,12 @@
 -- `tree::shapes_from` meets its contract: this variable's place is stored, and then those of the others. Assumes nothing.
-use Prim.Native.Nat.{ℕ, ◌-◌, ◌<◌, ◌≤◌}
+use Prim.Native.Nat.{ℕ, ◌<◌, ◌≤◌}
 use mathlib.Core.Path.{◌≡◌, sym, ◌∙◌}
 use native.Mathlib.Omega.{arith}
-use borrow.Author.Rules.{rules}
 use Rattle.laws.specs.Sheets.{vars_of}
 use Rattle.tree.specs.Prepared.{Prepared}
 use Rattle.tree.proofs.Heading.{prepared-sections}
 use Rattle.tree.proofs.Placing.{stored-prepared}
 use Rattle.tree.proofs.Bodying.{ends-well, ends-left, ends-bad, goes_on}
-use borrow.Fn.PlainCycle.{Measures, is, falls, and}
-use Rattle.tree.proofs.shapes.+shapes_from.{statement}
 use Rattle.tree.proofs.shapes.+shapes_from.Goals.{After-keep_body, After-variable_count, Start}
 use Rattle.tree.proofs.shapes.+shapes_from.Goals as goal
 
@@ -34,22 +31,33 @@ keep_body-requires t c = few t (goal.at.keep_body-requires t c).Start
 
 pub returns-then-left-lt1 : goal.returns-then-left-lt1
 returns-then-left-lt1 t c =
-    let n = count-is t (goal.at.returns-then-left-lt1 t c).After-variable_count (still-prepared t (goal.at.returns-then-left-lt1 t c).After-keep_body (few t (goal.at.returns-then-left-lt1 t c).Start)) in
-    rw c.keep_body.ensures (ends-well _ _ _ _ _ c.requires.prepared.table.sized (few t (goal.at.returns-then-left-lt1 t c).Start) (omega (arith, c.if-variable_count-v.true)) c.if-left-lt1.true)
+    let n = count-is t (goal.at.returns-then-left-lt1 t c).After-variable_count
+    (still-prepared t (goal.at.returns-then-left-lt1 t c).After-keep_body (few t (goal.at.returns-then-left-lt1 t c).Start)) in
+    rw c.keep_body.ensures (ends-well _ _ _ _ _ c.requires.prepared.table.sized (few t (goal.at.returns-then-left-lt1 t c).Start)
+    (omega (arith, c.if-variable_count-v.true)) c.if-left-lt1.true)
 
 pub returns-then-variable_count-v : goal.returns-then-variable_count-v
 returns-then-variable_count-v t c =
-    let n = count-is t (goal.at.returns-then-variable_count-v t c).After-variable_count (still-prepared t (goal.at.returns-then-variable_count-v t c).After-keep_body (few t (goal.at.returns-then-variable_count-v t c).Start)) in
-    rw c.keep_body.ensures (ends-left _ _ _ _ _ c.requires.prepared.table.sized (few t (goal.at.returns-then-variable_count-v t c).Start) (omega (arith, c.if-variable_count-v.true)) c.if-left-lt1.false)
+    let n = count-is t (goal.at.returns-then-variable_count-v t c).After-variable_count
+    (still-prepared t (goal.at.returns-then-variable_count-v t c).After-keep_body (few t (goal.at.returns-then-variable_count-v t c).Start)) in
+    rw c.keep_body.ensures (ends-left _ _ _ _ _ c.requires.prepared.table.sized (few t (goal.at.returns-then-variable_count-v t c).Start)
+    (omega (arith, c.if-variable_count-v.true)) c.if-left-lt1.false)
 
 pub body-r-requires : goal.body-r-requires
 body-r-requires t c =
-    let n = count-is t (goal.at.body-r-requires t c).After-variable_count (still-prepared t (goal.at.body-r-requires t c).After-keep_body (few t (goal.at.body-r-requires t c).Start)) in
-    (record { prepared = still-prepared t (goal.at.body-r-requires t c).After-keep_body (few t (goal.at.body-r-requires t c).Start); known = omega (arith, c.if-variable_count-v.false) }, c.requires.flat)
+    let n = count-is t (goal.at.body-r-requires t c).After-variable_count
+    (still-prepared t (goal.at.body-r-requires t c).After-keep_body (few t (goal.at.body-r-requires t c).Start)) in (
+      record {
+        prepared = still-prepared t (goal.at.body-r-requires t c).After-keep_body (few t (goal.at.body-r-requires t c).Start);
+        known = omega (arith, c.if-variable_count-v.false);
+      },
+      c.requires.flat,
+    )
 
 pub returns-in_default : goal.returns-in_default
 returns-in_default t c =
-    let n = count-is t (goal.at.returns-in_default t c).After-variable_count (still-prepared t (goal.at.returns-in_default t c).After-keep_body (few t (goal.at.returns-in_default t c).Start)) in
+    let n = count-is t (goal.at.returns-in_default t c).After-variable_count
+    (still-prepared t (goal.at.returns-in_default t c).After-keep_body (few t (goal.at.returns-in_default t c).Start)) in
     let known : c.args.v < vars_of c.args.s.now = omega (arith, c.if-variable_count-v.false) in
     let r = c.body-r.ensures in
     rw c.keep_body.ensures (ends-bad _ _ _ _ _ c.requires.prepared.table.sized (few t (goal.at.returns-in_default t c).Start) known (sym c.in_default.is ∙ r.is))
@@ -58,10 +66,18 @@ pub shapes_from-requires : goal.shapes_from-requires
 shapes_from-requires t c =
     let is = c.decreases in
     let f = few t (goal.at.shapes_from-requires t c).Start in
-    let n = count-is t (goal.at.shapes_from-requires t c).After-variable_count (still-prepared t (goal.at.shapes_from-requires t c).After-keep_body (few t (goal.at.shapes_from-requires t c).Start)) in
+    let n = count-is t (goal.at.shapes_from-requires t c).After-variable_count
+    (still-prepared t (goal.at.shapes_from-requires t c).After-keep_body (few t (goal.at.shapes_from-requires t c).Start)) in
     let known : c.args.v < vars_of c.args.s.now = omega (arith, c.if-variable_count-v.false) in
-    let r = c.body-r.ensures in
-    (omega arith, record { prepared = still-prepared t (goal.at.shapes_from-requires t c).After-keep_body (few t (goal.at.shapes_from-requires t c).Start); known = omega arith; flat = r.flat _ _ c.in-Fits.is })
+    let r = c.body-r.ensures in (
+      omega arith,
+      record {
+        prepared = still-prepared t (goal.at.shapes_from-requires t c).After-keep_body
+            (few t (goal.at.shapes_from-requires t c).Start);
+        known = omega arith;
+        flat = r.flat _ _ c.in-Fits.is;
+      },
+    )
 
 pub returns : goal.returns
 returns t c =

@@ -1,9 +1,7 @@
 -- `tree::body` meets its contract: an input has no body, and any other variable the tree of its dimension. Assumes nothing.
 use mathlib.Core.Path.{ap, ◌∙◌}
-use native.Mathlib.Omega.{arith}
 use Rattle.tree.specs.Judged.{tree_judged}
-use Rattle.tree.proofs.Judging.{fits-judges}
-use Rattle.tree.proofs.Bodying.{body-input, body-tree}
+use Rattle.tree.proofs.Bodying.{body-tree}
 use Rattle.tree.proofs.shapes.body.Goals as goal
 
 pub returns : goal.returns

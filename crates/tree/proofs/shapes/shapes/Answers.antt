@@ -2,7 +2,6 @@
 use mathlib.Core.Path.{ap}
 use Prim.Native.Nat.{◌+◌}
 use native.Mathlib.Omega.{arith}
-use borrow.Author.Rules.{rules}
 use Rattle.tree.proofs.Heading.{prepared-sections}
 use Rattle.tree.proofs.Forming.{all-flat, all-shaped}
 use Rattle.tree.proofs.shapes.shapes.Goals as goal

@@ -1,5 +1,4 @@
 -- `tree::skip` meets its contract: a tree is one tree. Assumes nothing.
-use native.Mathlib.Omega.{arith}
 use Rattle.tree.proofs.Standings.{standing-one, one-ends}
 use Rattle.tree.proofs.skip.skip.Goals as goal
 

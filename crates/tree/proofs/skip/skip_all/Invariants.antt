@@ -1,13 +1,9 @@
 -- `tree::skip_all` meets its contract: the trees that are left from here on end where all of them end. Assumes nothing.
-use mathlib.Core.Path.{refl}
 use Prim.Native.Nat.{ℕ, ◌-◌}
-use native.Mathlib.Omega.{arith}
 use lib.ListN.{length}
 use Rattle.laws.specs.Sheets.{vars_of}
-use Rattle.tree.specs.Standing.{Standing, StandingAll}
+use Rattle.tree.specs.Standing.{StandingAll}
 use Rattle.tree.specs.Ends.{AllEnd}
-use Rattle.tree.proofs.Standings.{standing-noded, standing-there, standing-long, children-few, first-standing, trees-few, none_left}
-use Rattle.tree.proofs.Standings.{past-standing, past-ends}
 use Rattle.tree.proofs.skip.skip_all.Given as goal
 
 abbrev pub invariant-loop-need : goal.invariant-loop-need

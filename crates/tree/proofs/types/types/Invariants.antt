@@ -1,14 +1,10 @@
 -- `tree::types` meets its contract. The loop's invariant: the variables from v on decide. The measure is how many are left.
 -- Assumes nothing.
-use mathlib.Core.Path.{◌≡◌, sym, ◌∙◌}
 use Prim.Native.Nat.{◌-◌}
-use native.Mathlib.Omega.{arith}
-use borrow.Author.Rules.{rules}
-use borrow.Author.Tests.{not-true, not-false}
 use Rattle.alpha.specs.Answer.{TYPE}
 use Rattle.alpha.specs.Check.{typed}
-use Rattle.laws.specs.Sheets.{heads_of, vars_of, sheet_of}
-use Rattle.tree.proofs.Passing.{Reached, none-tested, all_pass, one-fails, one_passes}
+use Rattle.laws.specs.Sheets.{heads_of, sheet_of}
+use Rattle.tree.proofs.Passing.{Reached}
 use Rattle.tree.proofs.types.types.Given as goal
 
 abbrev pub invariant-loop-v : goal.invariant-loop-v

@@ -1,22 +1,14 @@
-use borrow.Fn.PlainCycle.{Measures, is, falls, and}
-use Rattle.tree.proofs.typing.+next_type_operator_type_type_all_type_if_type_of.{statement}
-use Prim.Native.Nat.{ℕ, ◌+◌, ◌*◌, ◌<◌}
+use Prim.Native.Nat.{ℕ}
 use mathlib.Core.Path.{◌≡◌, sym, ap, ◌∙◌}
 use native.Mathlib.Omega.{arith}
-use borrow.Author.Rules.{rules}
 use Rattle.laws.specs.At.{code_of, node_read}
 use Rattle.laws.specs.Sheets.{vars_of}
-use Rattle.tree.specs.declared.Typed.{Typed}
-use Rattle.tree.specs.declared.Class.TheVariants.{Case}
-use Rattle.tree.specs.Classes.{class_at, operator_code}
-use Rattle.tree.specs.Standing.{StandingAll}
-use Rattle.tree.specs.Sorted.{After, TreesTyped}
+use Rattle.tree.specs.Classes.{operator_code}
 use Rattle.tree.proofs.Classes.{noded-as, case-some, restriction-arity, dependence-arity}
 use Rattle.tree.proofs.Standings.{standing-noded, standing-some, standing-children, first-standing, rest-standing}
 use Rattle.tree.proofs.Sorting.{leaf-typed, case-typed, restriction-typed, dependence-typed, unary-typed, binary-typed, if-typed}
 use Rattle.tree.proofs.Sorting.{unary-there, unary-known, unary-arity, binary-there, binary-known, binary-arity, if-arity}
 use Rattle.tree.proofs.Sorting.{boolean-first, if-boolean, if-integer, if-mistyped}
-use Rattle.tree.proofs.Sorting.{RestTyped, integer-after, boolean-after, next-integer, next-boolean, next-none}
 use Rattle.tree.proofs.Sorting.{first-after, rest-after, next-after, types-begin, types-go, types-end}
 use Rattle.tree.proofs.typing.+next_type_operator_type_type_all_type_if_type_of.Goals.{operator_type-After-operator_of-kind}
 use Rattle.tree.proofs.typing.+next_type_operator_type_type_all_type_if_type_of.Goals as goal

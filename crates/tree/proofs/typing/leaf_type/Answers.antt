@@ -3,7 +3,6 @@ use mathlib.Core.Path.{ap, ◌∙◌}
 use native.Mathlib.Omega.{arith}
 use lib.ListN.{get_or}
 use mathlib.Core.Option.{some}
-use borrow.Author.Rules.{rules}
 use Rattle.alpha.specs.Read.{no_head}
 use Rattle.laws.specs.Sheets.{heads_of}
 use Rattle.tree.specs.Classes.{leaf_code}

@@ -1,9 +1,5 @@
 -- `tree::record_field` meets its contract: the variable's record stands where the table says. Assumes nothing.
-use mathlib.Core.Path.{ap, ◌∙◌}
-use Prim.Native.Nat.{◌+◌}
 use native.Mathlib.Omega.{arith}
-use lib.IntN.{nat_abs}
-use Rattle.alpha.specs.Field.{field}
 use Rattle.tree.proofs.Heading.{prepared-record, prepared-few}
 use Rattle.tree.proofs.variable.record_field.Goals as goal
 
