@@ -4,7 +4,8 @@
 usage: tools/respell_fields.py [FOLDER]    after tools/respell.py; FOLDER is the repository's top, by default the one that holds tools/
 
 It reads .rt, .antt and .edit files below crates/, tests/definitions/Compare.antt.in and docs/*.md. A name whose snake form is another's
-already keeps its dash (KEPT). Lemmas of proofs/ keep theirs: there a dash joins the names of what they speak of.
+already keeps its dash (KEPT). Lemmas of proofs/ keep theirs: there a dash joins the names of what they speak of. Lemmas on what is now
+called `get_or` are named after it.
 """
 
 import glob
@@ -39,6 +40,7 @@ def main():
         with open(path, encoding="utf-8") as f:
             old = f.read()
         new = word.sub(lambda m: m.group(0).replace("-", "_"), old)
+        new = new.replace("get_d_map", "get_or-map_below").replace("get_d-", "get_or-")
         if new != old:
             with open(path, "w", encoding="utf-8") as f:
                 f.write(new)

@@ -25,7 +25,7 @@ use Rattle.alpha.specs.declared.Refusal.{Refusal}
 use Rattle.alpha.specs.declared.Verdict.{Verdict}
 use Rattle.alpha.specs.declared.Verdict.TheVariants.{Refused}
 use Rattle.affine.specs.Value.{several, at, point_of}
-use Rattle.affine.proofs.Several.{length-several, get_d-several}
+use Rattle.affine.proofs.Several.{length-several, get_or-several}
 use Rattle.alpha.specs.Read.{dimension}
 use Rattle.laws.specs.Sheets.{heads_of, vars_of, sheet_of}
 use Rattle.laws.proofs.Boxes.{in_box-length, index-low}
@@ -54,7 +54,7 @@ pub copied_all : (point : List ℤ) (z : List Int) (i : ℕ) → length point �
 copied_all point z i l h =
     ext_get_or (pos 0) (several (length point) (at z)) point (length-several (length point) (at z)) (λ j k.
     let low : j < length point = omega (arith, length-several (length point) (at z)) in
-    get_d-several (length point) (at z) (pos 0) j low ∙ h.same j (omega arith))
+    get_or-several (length point) (at z) (pos 0) j low ∙ h.same j (omega arith))
 
 -- ---- the four ways
 

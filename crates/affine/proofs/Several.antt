@@ -23,10 +23,10 @@ pub length-several : {A : Type 0} (n : ℕ) (f : ℕ → A) → length (several 
 length-several zero f = refl
 length-several (suc n) f = ap suc (length-several n (λ i. f (suc i)))
 
-pub get_d-several : {A : Type 0} (n : ℕ) (f : ℕ → A) (d : A) (j : ℕ) → j < n → get_or (several n f) j d ≡ f j
-get_d-several zero f d j h = absurd (omega arith)
-get_d-several (suc n) f d zero h = refl
-get_d-several (suc n) f d (suc j) h = get_d-several n (λ i. f (suc i)) d j (omega arith)
+pub get_or-several : {A : Type 0} (n : ℕ) (f : ℕ → A) (d : A) (j : ℕ) → j < n → get_or (several n f) j d ≡ f j
+get_or-several zero f d j h = absurd (omega arith)
+get_or-several (suc n) f d zero h = refl
+get_or-several (suc n) f d (suc j) h = get_or-several n (λ i. f (suc i)) d j (omega arith)
 
 -- two lists whose entries are the same
 pub several-same : {A : Type 0} (n : ℕ) (f g : ℕ → A) → ((i : ℕ) → i < n → f i ≡ g i) → several n f ≡ several n g

@@ -28,7 +28,7 @@ use Rattle.alpha.specs.declared.Verdict.{Verdict}
 use Rattle.alpha.specs.declared.Verdict.TheVariants.{Accepted, Refused}
 use Rattle.alpha.proofs.Unique.{told-injective}
 use Rattle.laws.proofs.Tests.{&&-left, &&-right}
-use Rattle.laws.proofs.Elements.{get_d_map, length-elements, number-low, element-of-number}
+use Rattle.laws.proofs.Elements.{get_or-map_below, length-elements, number-low, element-of-number}
 use Rattle.laws.proofs.Checked.{check_accepts}
 use Rattle.demands.specs.Demands.{normal_bytes, KeepsLimits, Ran, Rewrote, HasNumber}
 use Rattle.demands.proofs.Steps.{next-accepted, next-refused, room-enough, room-there}
@@ -56,7 +56,7 @@ module _ {A : Type 0} (s : Sheet) (f : Element → A) (d : A) (old new : List A)
   by_number i e lt =
       ap (λ l. get_or l i d) is
       ∙ get_or-append (map f (elements s)) (drop (length (map f (elements s))) old) d i (omega (arith, table-length))
-      ∙ get_d_map f (elements s) i e d (omega (arith, length-elements s))
+      ∙ get_or-map_below f (elements s) i e d (omega (arith, length-elements s))
 
   by-element : (v : ℕ) (z : Point) → v < length s → in_box (variable s v).head.box z ≡ true → get_or new (Ask.number_of s v z) d ≡ f (record { who = v; at = z })
   by-element v z lt b =

@@ -150,10 +150,10 @@ value-in-small n = go (n / 8 % 4294967296) (omega arith)
 
 -- ---- the memo of a list of entries
 
-get_d-mapped : {A B : Type 0} (f : A → B) (l : List A) (i : ℕ) (d : A) → get_or (map f l) i (f d) ≡ f (get_or l i d)
-get_d-mapped f [] i d = refl
-get_d-mapped f (x ∷ l) zero d = refl
-get_d-mapped f (x ∷ l) (suc i) d = get_d-mapped f l i d
+get_or-mapped : {A B : Type 0} (f : A → B) (l : List A) (i : ℕ) (d : A) → get_or (map f l) i (f d) ≡ f (get_or l i d)
+get_or-mapped f [] i d = refl
+get_or-mapped f (x ∷ l) zero d = refl
+get_or-mapped f (x ∷ l) (suc i) d = get_or-mapped f l i d
 
 map-set : {A B : Type 0} (f : A → B) (l : List A) (i : ℕ) (x : A) → map f (set l i x) ≡ set (map f l) i (f x)
 map-set f [] i x = refl
@@ -171,11 +171,11 @@ module _ (l : List ℕ) where
 
   pub entry-code : (m : ℕ) → code_at (memo_of l) m ≡ code_in (get_or l m 0)
   unfolding memo_of
-  entry-code m = get_d-mapped code_in l m 0
+  entry-code m = get_or-mapped code_in l m 0
 
   pub entry_value : (m : ℕ) → value_at (memo_of l) m ≡ value_in (get_or l m 0)
   unfolding memo_of
-  entry_value m = get_d-mapped value_in l m 0
+  entry_value m = get_or-mapped value_in l m 0
 
   -- an entry with a code and a value was stored
   pub entry-noted : (e n c : ℕ) (x : ℤ) → code_in n ≡ c → value_in n ≡ x → memo_of (set l e n) ≡ noted (memo_of l) e c x

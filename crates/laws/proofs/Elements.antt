@@ -27,16 +27,16 @@ length-points_from box i (suc n) = ap suc (length-points_from box (suc i) n)
 pub length-points : (box : List Range) → length (points box) ≡ size box
 length-points box = length-points_from box 0 (size box)
 
-pub get_d-points_from : (box : List Range) (i n j : ℕ) (d : Point) → j < n → get_or (points_from box i n) j d ≡ point_at box (i + j)
+pub get_or-points_from : (box : List Range) (i n j : ℕ) (d : Point) → j < n → get_or (points_from box i n) j d ≡ point_at box (i + j)
 unfolding points_from
-get_d-points_from box i zero j d h = absurd (omega arith)
-get_d-points_from box i (suc n) zero d h = ap (point_at box) (sym (add-zero i))
-get_d-points_from box i (suc n) (suc j) d h =
+get_or-points_from box i zero j d h = absurd (omega arith)
+get_or-points_from box i (suc n) zero d h = ap (point_at box) (sym (add-zero i))
+get_or-points_from box i (suc n) (suc j) d h =
     let on : suc i + j ≡ i + suc j = omega arith in
-    get_d-points_from box (suc i) n j d (omega arith) ∙ ap (point_at box) on
+    get_or-points_from box (suc i) n j d (omega arith) ∙ ap (point_at box) on
 
-pub get_d-points : (box : List Range) (j : ℕ) (d : Point) → j < size box → get_or (points box) j d ≡ point_at box j
-get_d-points box j d h = get_d-points_from box 0 (size box) j d h ∙ ap (point_at box) (zero-add j)
+pub get_or-points : (box : List Range) (j : ℕ) (d : Point) → j < size box → get_or (points box) j d ≡ point_at box j
+get_or-points box j d h = get_or-points_from box 0 (size box) j d h ∙ ap (point_at box) (zero-add j)
 
 -- ---- the elements before a variable
 
@@ -59,10 +59,10 @@ before-fits (x ∷ s) (suc v) h = omega (arith, before-fits s v (omega arith))
 
 -- ---- the elements
 
-pub get_d_map : {A B : Type 0} (f : A → B) (l : List A) (i : ℕ) (a : A) (b : B) → i < length l → get_or (map f l) i b ≡ f (get_or l i a)
-get_d_map f [] i a b h = absurd (omega arith)
-get_d_map f (x ∷ l) zero a b h = refl
-get_d_map f (x ∷ l) (suc i) a b h = get_d_map f l i a b (omega arith)
+pub get_or-map_below : {A B : Type 0} (f : A → B) (l : List A) (i : ℕ) (a : A) (b : B) → i < length l → get_or (map f l) i b ≡ f (get_or l i a)
+get_or-map_below f [] i a b h = absurd (omega arith)
+get_or-map_below f (x ∷ l) zero a b h = refl
+get_or-map_below f (x ∷ l) (suc i) a b h = get_or-map_below f l i a b (omega arith)
 
 -- the elements of one variable, numbered w
 of_one : ℕ → List Range → List Element
@@ -72,11 +72,11 @@ length-of_one : (w : ℕ) (box : List Range) → length (of_one w box) ≡ size 
 unfolding of_one
 length-of_one w box = length-map (points box) (λ z. record { who = w; at = z }) ∙ length-points box
 
-get_d-of_one : (w : ℕ) (box : List Range) (i : ℕ) (d : Element) → i < size box → get_or (of_one w box) i d ≡ record { who = w; at = point_at box i }
+get_or-of_one : (w : ℕ) (box : List Range) (i : ℕ) (d : Element) → i < size box → get_or (of_one w box) i d ≡ record { who = w; at = point_at box i }
 unfolding of_one
-get_d-of_one w box i d h =
-    get_d_map (λ z. record { who = w; at = z }) (points box) i [] d (omega (arith, length-points box))
-    ∙ ap {B = Element} (λ z. record { who = w; at = z }) (get_d-points box i [] h)
+get_or-of_one w box i d h =
+    get_or-map_below (λ z. record { who = w; at = z }) (points box) i [] d (omega (arith, length-points box))
+    ∙ ap {B = Element} (λ z. record { who = w; at = z }) (get_or-points box i [] h)
 
 length-elements_from : (w : ℕ) (s : Sheet) → length (elements_from w s) ≡ total s
 unfolding elements_from of_one
@@ -94,7 +94,7 @@ element_from-at w [] v i d h l = absurd (omega arith)
 element_from-at w (x ∷ s) zero i d h l =
     let box = x.head.box in
     let first : i < length (of_one w box) = omega (arith, length-of_one w box) in
-    rw (zero-add i, get_or-append (of_one w box) (elements_from (suc w) s) d i first, get_d-of_one w box i d l, add-zero w)
+    rw (zero-add i, get_or-append (of_one w box) (elements_from (suc w) s) d i first, get_or-of_one w box i d l, add-zero w)
 element_from-at w (x ∷ s) (suc v) i d h l =
     let box = x.head.box in
     let on : size box + before s v + i ≡ length (of_one w box) + (before s v + i) = omega (arith, length-of_one w box) in

@@ -55,10 +55,10 @@ module _ (byte : ℕ) (input : Bool) (x : ℤ) (m : ℕ) where
 
 -- ---- tables of zeros
 
-get_d-zeros : {X : Type 0} (n m : ℕ) (x : X) → get_or (replicate n x) m x ≡ x
-get_d-zeros zero m x = refl
-get_d-zeros (suc n) zero x = refl
-get_d-zeros (suc n) (suc m) x = get_d-zeros n m x
+get_or-zeros : {X : Type 0} (n m : ℕ) (x : X) → get_or (replicate n x) m x ≡ x
+get_or-zeros zero m x = refl
+get_or-zeros (suc n) zero x = refl
+get_or-zeros (suc n) (suc m) x = get_or-zeros n m x
 
 pub started_none : (s : Sheet) (ins : List ℤ) → Started s ins (memo_of (replicate 4096 0)) 0
 started_none s ins = record {
@@ -71,14 +71,14 @@ started_none s ins = record {
 }
   where
     zeros : (m : ℕ) → code_at (memo_of (replicate 4096 0)) m ≡ 0
-    zeros m = entry-code (replicate 4096 0) m ∙ ap code_in (get_d-zeros {X = ℕ} 4096 m 0)
+    zeros m = entry-code (replicate 4096 0) m ∙ ap code_in (get_or-zeros {X = ℕ} 4096 m 0)
 
 -- a table that keeps no end
 pub no-end-kept : (bs : List ℕ) → EndsKept bs (replicate 8192 0)
 no-end-kept bs = record {
   sized = length-replicate {A = ℕ} 8192 0;
-  low = λ i. let z = get_d-zeros {X = ℕ} 8192 i 0 in omega (arith, z);
-  right = λ i some. let z = get_d-zeros {X = ℕ} 8192 i 0 in absurd (omega (arith, z, some));
+  low = λ i. let z = get_or-zeros {X = ℕ} 8192 i 0 in omega (arith, z);
+  right = λ i some. let z = get_or-zeros {X = ℕ} 8192 i 0 in absurd (omega (arith, z, some));
 }
 
 -- ---- one element more

@@ -19,7 +19,7 @@ use Rattle.alpha.specs.declared.Verdict.{Verdict}
 use Rattle.alpha.specs.declared.Verdict.TheVariants.{Accepted, Refused}
 use Rattle.alpha.specs.Promise.{total_of, lent_after, Runs}
 use Rattle.laws.proofs.Tests.{ifb-true, ifb-false}
-use Rattle.laws.proofs.Elements.{get_d_map, length-elements}
+use Rattle.laws.proofs.Elements.{get_or-map_below, length-elements}
 use Rattle.evaluate.specs.Memo.{Memo, Right}
 use Rattle.evaluate.specs.Working.{element_at, outcomes}
 use Rattle.run.specs.Filling.{FillsAll}
@@ -139,7 +139,7 @@ module _ (bs : List ℕ) (ins : List ℤ) (codes : List ℕ) (values : List ℤ)
                 go (yes low) =
                     shows m low
                     ∙ sym (get_or-append (map f (elements s)) (drop (length (map f (elements s))) old) d m (omega (arith, many-entries))
-                    ∙ get_d_map f (elements s) m (record { who = 0; at = [] }) d (omega (arith, length-elements s)))
+                    ∙ get_or-map_below f (elements s) m (record { who = 0; at = [] }) d (omega (arith, length-elements s)))
                 go (no high) =
                     let n = length (map f (elements s)) in
                     let at : n + (m - n) ≡ m = omega (arith, many-entries) in

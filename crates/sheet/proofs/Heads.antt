@@ -19,10 +19,10 @@ unfolding box_at
 box-length bs p zero = refl
 box-length bs p (suc n) = ap suc (box-length bs (p + 16) n)
 
-get_d-heads : (bs ps : List ℕ) (v : ℕ) → v < length ps → get_or (heads_at bs ps) v no_head ≡ head_at bs (get_or ps v 0)
-get_d-heads bs [] v h = absurd (omega arith)
-get_d-heads bs (p ∷ ps) zero h = refl
-get_d-heads bs (p ∷ ps) (suc v) h = get_d-heads bs ps v (omega arith)
+get_or-heads : (bs ps : List ℕ) (v : ℕ) → v < length ps → get_or (heads_at bs ps) v no_head ≡ head_at bs (get_or ps v 0)
+get_or-heads bs [] v h = absurd (omega arith)
+get_or-heads bs (p ∷ ps) zero h = refl
+get_or-heads bs (p ∷ ps) (suc v) h = get_or-heads bs ps v (omega arith)
 
 module _ {bs tab : List ℕ} {n : ℕ} (known : Known bs tab n) where
   fits : n ≤ length tab
@@ -32,7 +32,7 @@ module _ {bs tab : List ℕ} {n : ℕ} (known : Known bs tab n) where
   heads-length = length-map (take n tab) (head_at bs) ∙ length-take-le n tab fits
 
   pub heads-at : (v : ℕ) → v < n → get_or (heads_at bs (take n tab)) v no_head ≡ head_at bs (get_or tab v 0)
-  heads-at v h = get_d-heads bs (take n tab) v (let e = length-take-le n tab fits in omega arith) ∙ ap (head_at bs) (get_or-take n tab v 0 h)
+  heads-at v h = get_or-heads bs (take n tab) v (let e = length-take-le n tab fits in omega arith) ∙ ap (head_at bs) (get_or-take n tab v 0 h)
 
   pub heads-dimension : (v : ℕ) → v < n → dimension (heads_at bs (take n tab)) v ≡ dimension_at bs (get_or tab v 0)
   unfolding head_at

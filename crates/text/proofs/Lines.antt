@@ -18,7 +18,7 @@ use Rattle.alpha.specs.Run.{code_of, value_of, outcome_at}
 use Rattle.alpha.specs.Written.{flat}
 use Rattle.alpha.specs.Program.{accepted_word, nat_text, newline, line, report}
 use Rattle.laws.specs.Coded.{decoded}
-use Rattle.laws.proofs.Elements.{length-points, before-suc, get_d_map}
+use Rattle.laws.proofs.Elements.{length-points, before-suc, get_or-map_below}
 use Rattle.domain.specs.Element.{elements_at, elements_of}
 use Rattle.text.specs.Lines.{outcome_in, line_of, line_in, lines_from, report_in}
 
@@ -124,7 +124,7 @@ module _ (s : Sheet) (ins : List ℤ) where
         let code = get_or-append codes_of more_codes 0 j (omega (arith, length-map es (λ e. code_of (outcome_at s ins e)))) in
         let worth = get_or-append values_of more_values (pos 0) j (omega (arith, length-map es (λ e. value_of (outcome_at s ins e)))) in
         rw
-        (code, worth, get_d_map (λ e. code_of (outcome_at s ins e)) es j d 0 l, get_d_map (λ e. value_of (outcome_at s ins e)) es j d (pos 0) l)
+        (code, worth, get_or-map_below (λ e. code_of (outcome_at s ins e)) es j d 0 l, get_or-map_below (λ e. value_of (outcome_at s ins e)) es j d (pos 0) l)
         (outcome-told (outcome_at s ins (get_or es j d)))
 
     -- the report by the tables is the report of the run
