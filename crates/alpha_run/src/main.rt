@@ -1,8 +1,7 @@
 // Reads a sheet with its input values from standard input and writes the run's report, or the line of its refusal, to standard output:
 // document 01, 'The program'. What is written for what was read is proved, for every reader and writer whose bytes are known
 // (`answer_from`). Assumed is that standard input and output move the bytes that their calls say, which no contract can state: what an
-// operating system gives and takes is known to nobody beforehand. A read or a write that fails ends the
-// program with the error.
+// operating system gives and takes is known to nobody beforehand. A read or a write that fails ends the program with the error.
 #![tactic(auto)]
 
 ghost use Rattle.std.specs.Prelude.{◌≡◌, ◌≤◌, length, take, IfOk, OnOk, IfSome};
