@@ -5,21 +5,14 @@ use lib.IntN.{nat_abs}
 use Rattle.alpha.specs.Field.{field}
 use Rattle.affine.specs.Reading.{MapRead}
 use Rattle.affine.proofs.Fetched.{rows-map}
-use Rattle.affine.proofs.image_at.Goals.{After-rows_read-map, After-to_usize-k}
+use Rattle.affine.proofs.image_at.Goals.{After-rows_read-map}
 use Rattle.affine.proofs.image_at.Goals as goal
 
--- ---- where the columns and the number of rows are read
-module _ (c : After-to_usize-k) where
-  wide : c.to_usize-n.result ≡ nat_abs (field c.args.b.now c.args.p)
-  wide = c.to_usize-n.ensures ∙ ap nat_abs c.number_at.ensures
-
-  high : c.to_usize-k.result ≡ nat_abs (field c.args.b.now (c.args.p + 8))
-  high = c.to_usize-k.ensures ∙ ap nat_abs c.number_at-2.ensures
-
--- what is read is the map
+-- what is read is the map: its columns and the number of its rows were read before
 read : (c : After-rows_read-map) → MapRead c.args.b.now c.args.p c.rows_read-map.result
 read c =
-    let wide : c.to_usize-n.result ≡ nat_abs (field c.args.b.now c.args.p) = c.to_usize-n.ensures ∙ ap nat_abs c.number_at.ensures in let high : c.to_usize-k.result ≡ nat_abs (field c.args.b.now (c.args.p + 8)) = c.to_usize-k.ensures ∙ ap nat_abs c.number_at-2.ensures in
+    let wide : c.to_usize-n.result ≡ nat_abs (field c.args.b.now c.args.p) = c.to_usize-n.ensures ∙ ap nat_abs c.number_at.ensures in
+    let high : c.to_usize-k.result ≡ nat_abs (field c.args.b.now (c.args.p + 8)) = c.to_usize-k.ensures ∙ ap nat_abs c.number_at-2.ensures in
     rows-map _ _ _ _ wide high _ c.rows_read-map.ensures
 
 pub apply-requires : goal.apply-requires
