@@ -1,15 +1,15 @@
 -- The element number, by each way through: no such variable, another dimension, a point off the box, a point of it. Assumes nothing.
+use Rattle.std.specs.Prelude.{Result, Err, Option, Some, None}
+use Rattle.std.specs.Option.{ok_or}
 use mathlib.Core.Path.{◌≡◌, refl, sym, ap, ◌∙◌}
-use Prim.Native.Nat.{ℕ, ◌+◌, ◌≤◌, ◌<◌}
+use Prim.Native.Nat.{ℕ, ◌+◌, ◌<◌}
 use native.Mathlib.Omega.{arith}
-use native.Mathlib.Decide.{ℕ_discrete}
 use mathlib.Core.Bool.{Bool, true, false}
-use mathlib.Core.List.{List}
-use lib.ListN.{length, get_or, set, length-set}
-use lib.Seq.{ext_get_or, get_or-set_same, get_or-set_other}
-use lib.IntN.{ℤ, pos}
+use mathlib.Core.List.{List, [], ◌∷◌, ◌++◌}
+use lib.ListN.{length, get_or}
+use lib.IntN.{ℤ}
 use lib.Dec.{ltb}
-use borrow.Author.Tests.{lt-ltb, le-ltb}
+use borrow.Author.Tests.{lt-ltb}
 use Rattle.alpha.specs.Pick.{ifb}
 use Rattle.alpha.specs.Answer.{Answer, accepted, refused, next, ASK}
 use Rattle.alpha.specs.Sheet.{Sheet, Point, Range}
@@ -20,41 +20,25 @@ use Rattle.alpha.specs.Ask.{asks, before, element_number, numbered}
 use Rattle.alpha.specs.Promise.{total_of}
 use Rattle.alpha.specs.Verdict.{told, place_of}
 use Rattle.alpha.specs.Verdict as Verdicts
-use Rattle.alpha.specs.declared.Int.{Int}
 use Rattle.alpha.specs.declared.Refusal.{Refusal}
-use Rattle.alpha.specs.declared.Verdict.{Verdict}
-use Rattle.alpha.specs.declared.Verdict.TheVariants.{Refused}
-use Rattle.affine.specs.Value.{several, at, point_of}
-use Rattle.affine.proofs.Several.{length-several, get_or-several}
+use Rattle.alpha.specs.declared.Refusal.TheVariants.{Ask}
+use Rattle.accept.specs.Shown.{asked}
+use Rattle.affine.specs.Value.{point_of}
 use Rattle.alpha.specs.Read.{dimension}
 use Rattle.laws.specs.Sheets.{heads_of, vars_of, sheet_of}
 use Rattle.laws.proofs.Boxes.{in_box-length, index-low}
+use Rattle.sheet.specs.declared.table.Table.{Table}
 use Rattle.sheet.specs.Record.{dimension_at}
 use Rattle.tree.specs.Formed.{Formed}
 use Rattle.domain.proofs.Records.{VariableLaid, laid-variable}
 use Rattle.points.specs.Number.{box_of, number_in}
-use Rattle.points.specs.declared.Found.TheVariants.{At, Off}
 
 -- ---- the array of the coordinates
 
-pub record Copied (point : List ℤ) (z : List Int) (i : ℕ) : Type 0 where
-  pub sized : length z ≡ 4
-  pub same : (j : ℕ) → j < i → at z j ≡ get_or point j (pos 0)
-
-pub copied_more : (point : List ℤ) (z : List Int) (i : ℕ) (x : Int) → i < 4 → Copied point z i → x.v ≡ get_or point i (pos 0) →
-    Copied point (set z i x) (i + 1)
-copied_more point z i x l h e =
-    record { sized = simp length-set h.sized; same = λ j k. go j k (ℕ_discrete j i) }
-  where
-    go : (j : ℕ) → j < i + 1 → Dec (j ≡ i) → at (set z i x) j ≡ get_or point j (pos 0)
-    go j k (yes s) = rw s (ap (λ y. y.v) (get_or-set_same z i x (record { v = pos 0 }) (omega (arith, h.sized))) ∙ e)
-    go j k (no o) = ap (λ y. y.v) (get_or-set_other z i j x (record { v = pos 0 }) o) ∙ h.same j (omega arith)
-
-pub copied_all : (point : List ℤ) (z : List Int) (i : ℕ) → length point ≤ i → Copied point z i → point_of (length point) z ≡ point
-copied_all point z i l h =
-    ext_get_or (pos 0) (several (length point) (at z)) point (length-several (length point) (at z)) (λ j k.
-    let low : j < length point = omega (arith, length-several (length point) (at z)) in
-    get_or-several (length point) (at z) (pos 0) j low ∙ h.same j (omega arith))
+-- the coordinates with others after them
+pub front-coordinates : (point rest : List ℤ) → point_of (length point) (point ++ rest) ≡ point
+front-coordinates [] rest = refl
+front-coordinates (x ∷ xs) rest = ap (λ t. x ∷ t) (front-coordinates xs rest)
 
 -- ---- the four ways
 
@@ -65,9 +49,6 @@ no-box : (t : Bool) (s : Sheet) (v : ℕ) (z : Point) → in_box (variable s v).
 no-box true s v z e l = rw (l, e) refl
 no-box false s v z e l = rw l refl
 
-pub unknown-asked : (s : Sheet) (v : ℕ) (z : Point) → length s ≤ v → refused ASK 0 ≡ numbered s v z
-unknown-asked s v z h = refuses s v z (rw (le-ltb v (length s) h) refl)
-
 pub other-asked : (s : Sheet) (v : ℕ) (z : Point) → (length z ≡ length (variable s v).head.box → ⊥) → refused ASK 0 ≡ numbered s v z
 other-asked s v z n = refuses s v z (no-box (ltb v (length s)) s v z (go (in_box (variable s v).head.box z) refl) refl)
   where
@@ -75,28 +56,34 @@ other-asked s v z n = refuses s v z (no-box (ltb v (length s)) s v z (go (in_box
     go true e = absurd (n (in_box-length (variable s v).head.box z e))
     go false e = e
 
-pub off-asked : (s : Sheet) (v : ℕ) (z : Point) → Off ≡ number_in (variable s v).head.box z → refused ASK 0 ≡ numbered s v z
+pub off-asked : (s : Sheet) (v : ℕ) (z : Point) → None ≡ number_in (variable s v).head.box z → refused ASK 0 ≡ numbered s v z
 off-asked s v z o = refuses s v z (no-box (ltb v (length s)) s v z (go (in_box (variable s v).head.box z) refl o) refl)
   where
-    go : (b : Bool) → in_box (variable s v).head.box z ≡ b → Off ≡ ifb b (λ _. At (index (variable s v).head.box z)) (λ _. Off) →
+    go : (b : Bool) → in_box (variable s v).head.box z ≡ b → None ≡ ifb b (λ _. Some (index (variable s v).head.box z)) (λ _. None) →
         in_box (variable s v).head.box z ≡ false
     go true e q = absurd (let w : ◌≡◌ {A = ℕ} 0 1 = cc in omega arith)
     go false e q = e
 
-pub found-asked : (s : Sheet) (v : ℕ) (z : Point) (i n : ℕ) → v < length s → At i ≡ number_in (variable s v).head.box z → n ≡ before s v + i →
+pub found-asked : (s : Sheet) (v : ℕ) (z : Point) (i n : ℕ) → v < length s → Some i ≡ number_in (variable s v).head.box z → n ≡ before s v + i →
     accepted n ≡ numbered s v z
 found-asked s v z i n lt a e = go (in_box (variable s v).head.box z) refl a
   where
-    go : (b : Bool) → in_box (variable s v).head.box z ≡ b → At i ≡ ifb b (λ _. At (index (variable s v).head.box z)) (λ _. Off) →
+    go : (b : Bool) → in_box (variable s v).head.box z ≡ b → Some i ≡ ifb b (λ _. Some (index (variable s v).head.box z)) (λ _. None) →
         accepted n ≡ numbered s v z
     go true b q =
         let is : i ≡ index (variable s v).head.box z = cc in
         rw (lt-ltb v (length s) lt, b) (ap accepted (e ∙ ap (λ k. before s v + k) is))
     go false b q = absurd (let w : ◌≡◌ {A = ℕ} 0 1 = cc in omega arith)
 
+-- ---- a number of none is ASK
+
+pub asked-told : (r : Result ℕ Refusal) (o : Option ℕ) → r ≡ ok_or o Ask → told r ≡ asked o
+asked-told r (Some n) e = ap told e
+asked-told r None e = ap told e
+
 -- ---- the sheet is refused, or accepted
 
-pub refused-number : (bs : List ℕ) (v : ℕ) (z : Point) (r : Verdict) (k : Refusal) → r ≡ Refused k → told r ≡ total_of (check bs) →
+pub refused-number : (bs : List ℕ) (v : ℕ) (z : Point) (r : Result ℕ Refusal) (k : Refusal) → r ≡ Err k → told r ≡ total_of (check bs) →
     told r ≡ element_number bs v z
 unfolding element_number
 refused-number bs v z r k e a = ap told e ∙ go (check bs) (sym (ap told e) ∙ a)
@@ -111,26 +98,26 @@ unfolding element_number
 accepted-number bs s v z e = ap (λ (c : Answer Sheet). next c (λ t. numbered t v z)) e
 
 -- what the code's index of the coordinates says of the point
-module _ (bs tab : List ℕ) (f : Formed bs tab) (v : ℕ) (lt : v < vars_of bs) where
+module _ (bs : List ℕ) (tab : Table) (f : Formed bs tab) (v : ℕ) (lt : v < vars_of bs) where
   laid : VariableLaid bs tab v
   laid = laid-variable bs tab f.placed v lt
 
-  pub index_is : (place : ℕ) (z : List Int) (point : Point) → place ≡ get_or tab v 0 → length point ≡ dimension (heads_of bs) v →
+  pub index_is : (place : ℕ) (z : List ℤ) (point : Point) → place ≡ get_or tab.records v 0 → length point ≡ dimension (heads_of bs) v →
       point_of (length point) z ≡ point →
       number_in (box_of bs place) (point_of (dimension_at bs place) z) ≡ number_in (variable (sheet_of bs) v).head.box point
   index_is place z point p d e =
       ap (λ q. number_in (box_of bs q) (point_of (dimension_at bs q) z)) p
-      ∙ ap (λ b. number_in b (point_of (dimension_at bs (get_or tab v 0)) z)) laid.box-is
+      ∙ ap (λ b. number_in b (point_of (dimension_at bs (get_or tab.records v 0)) z)) laid.box-is
       ∙ ap (λ n. number_in (variable (sheet_of bs) v).head.box (point_of n z)) (laid.dims-are ∙ sym d)
       ∙ ap (number_in (variable (sheet_of bs) v).head.box) e
 
   -- a number in the box is below 4,096
-  pub found-low : (i : ℕ) (point : Point) → At i ≡ number_in (variable (sheet_of bs) v).head.box point → before (sheet_of bs) v + i < 4096
+  pub found-low : (i : ℕ) (point : Point) → Some i ≡ number_in (variable (sheet_of bs) v).head.box point → before (sheet_of bs) v + i < 4096
   found-low i point a = go (in_box (variable (sheet_of bs) v).head.box point) refl a
     where
       box : List Range
       box = (variable (sheet_of bs) v).head.box
 
-      go : (b : Bool) → in_box box point ≡ b → At i ≡ ifb b (λ _. At (index box point)) (λ _. Off) → before (sheet_of bs) v + i < 4096
+      go : (b : Bool) → in_box box point ≡ b → Some i ≡ ifb b (λ _. Some (index box point)) (λ _. None) → before (sheet_of bs) v + i < 4096
       go true e q = let is : i ≡ index box point = cc in omega (arith, is, index-low box point e, laid.few)
       go false e q = absurd (let w : ◌≡◌ {A = ℕ} 0 1 = cc in omega arith)

@@ -1,4 +1,5 @@
 -- The check step by step: what each step's answer makes of the whole. Assumes nothing.
+use Rattle.std.specs.Prelude.{Result, Ok, Err}
 use mathlib.Core.Path.{◌≡◌, refl, sym, ap, subst, ◌∙◌}
 use Prim.Native.Nat.{ℕ, ◌+◌}
 use native.Mathlib.Omega.{arith}
@@ -16,20 +17,17 @@ use Rattle.alpha.specs.Promise.{total_of}
 use Rattle.alpha.specs.Verdict.{number_of, place_of, told}
 use Rattle.alpha.specs.declared.Refusal.{Refusal}
 use Rattle.alpha.specs.declared.Refusal.TheVariants.{Long}
-use Rattle.alpha.specs.declared.Verdict.{Verdict}
-use Rattle.alpha.specs.declared.Verdict.TheVariants.{Accepted, Refused}
 use Rattle.laws.specs.Sheets.{raw_of, heads_of, sheet_of}
 use Rattle.laws.proofs.Bodies.{bodies-read}
+use Rattle.sheet.specs.declared.table.Table.{Table}
 use Rattle.sheet.specs.Record as Record
 use Rattle.sheet.specs.Table.{answer_of, read_answer, Reads}
 use Rattle.sheet.proofs.Sections.{read-long}
 use Rattle.tree.proofs.Preparing.{read-prepared}
 use Rattle.tree.specs.Formed.{Formed}
-use Rattle.tree.specs.Ruled.{ruled, forms_of}
-use Rattle.tree.specs.declared.Ruling.{Ruling}
-use Rattle.tree.specs.declared.Ruling.TheVariants.{Passes, Refused as Ruled}
+use Rattle.tree.specs.Ruled.{forms_of}
 use Rattle.domain.specs.Inside.{Inside}
-use Rattle.accept.specs.Admits.{Begins, Admits, Accepts}
+use Rattle.accept.specs.Admits.{Begins, Admits}
 use Rattle.tree.specs.Prepared.{Prepared}
 use Rattle.tree.proofs.Checking.{check-refused, check-formed}
 
@@ -43,14 +41,14 @@ read-refuses bs n p e = go (read bs) e
     go (bad m q) h = h
 
 -- the sheet is too long, which `sheet::too_long` says by its answer t: the check refuses it with LONG
-pub long-refuses : (bs : List ℕ) {t : Bool} → t ≡ ltb 65536 (length bs) → t ≡ true → told (Refused Long) ≡ total_of (check bs)
+pub long-refuses : (bs : List ℕ) {t : Bool} → t ≡ ltb 65536 (length bs) → t ≡ true → told (Err Long) ≡ total_of (check bs)
 long-refuses bs says is = read-refuses bs LONG 0 (sym (read-long bs (ltb-true 65536 (length bs) (sym says ∙ is))))
 
 -- SHAPE, TYPE or REACH refused
-pub forms-refuse : (bs tab : List ℕ) → Prepared bs tab → (n p : ℕ) → refused n p ≡ forms_of bs → refused n p ≡ total_of (check bs)
+pub forms-refuse : (bs : List ℕ) (tab : Table) → Prepared bs tab → (n p : ℕ) → refused n p ≡ forms_of bs → refused n p ≡ total_of (check bs)
 forms-refuse bs tab h n p e = sym (ap total_of (check-refused bs tab h n p (sym e)))
 
-module _ (bs tab : List ℕ) (f : Formed bs tab) where
+module _ (bs : List ℕ) (tab : Table) (f : Formed bs tab) where
   -- GAP or CLASH refused
   pub faults-refuse : (n p : ℕ) → refused n p ≡ faults (sheet_of bs) 0 (elements (sheet_of bs)) → refused n p ≡ total_of (check bs)
   faults-refuse n p e =
@@ -78,56 +76,46 @@ module _ (bs tab : List ℕ) (f : Formed bs tab) where
 
 -- ---- what a refusal and an acceptance leave
 
-pub refused-admits : (bs tab inside : List ℕ) (r : Verdict) (k : Refusal) → r ≡ Refused k → refused (number_of k) (place_of k) ≡ total_of (check bs) →
+pub refused-admits : (bs : List ℕ) (tab : Table) (inside : List Bool) (r : Result ℕ Refusal) (k : Refusal) → r ≡ Err k →
+    refused (number_of k) (place_of k) ≡ total_of (check bs) →
     Admits bs tab inside r
 refused-admits bs tab inside r k e a =
     record { answer = ap told e ∙ a; admitted = λ n q. absurd (let z : ◌≡◌ {A = ℕ} 0 1 = cc in omega arith) }
 
 -- a refusal before the elements are looked at
-refused-forms : (bs tab : List ℕ) (r : Verdict) (k : Refusal) → r ≡ Refused k → refused (number_of k) (place_of k) ≡ total_of (check bs) → Begins bs tab r
+refused-forms : (bs : List ℕ) (tab : Table) (r : Result ℕ Refusal) (k : Refusal) → r ≡ Err k → refused (number_of k) (place_of k) ≡ total_of (check bs) → Begins bs tab r
 refused-forms bs tab r k e a = record {
-  refuses = λ j q. subst (λ (v : Verdict). told v ≡ total_of (check bs)) (sym e ∙ q) a;
+  refuses = λ j q. subst (λ (v : Result ℕ Refusal). told v ≡ total_of (check bs)) (sym e ∙ q) a;
   formed = λ n q. absurd (let z : ◌≡◌ {A = ℕ} 0 1 = cc in omega arith);
   read = λ n q. absurd (let z : ◌≡◌ {A = ℕ} 0 1 = cc in omega arith);
 }
 
 -- reading refused
-pub read-forms : (bs tab : List ℕ) (r : Verdict) (k : Refusal) → r ≡ Refused k → told r ≡ read_answer bs → Begins bs tab r
+pub read-forms : (bs : List ℕ) (tab : Table) (r : Result ℕ Refusal) (k : Refusal) → r ≡ Err k → told r ≡ read_answer bs → Begins bs tab r
 read-forms bs tab r k e a = refused-forms bs tab r k e (read-refuses bs (number_of k) (place_of k) (sym (ap told e) ∙ a))
 
 -- SHAPE, TYPE or REACH refused
-pub rules-form : (bs tab₀ tab : List ℕ) (f : Ruling) (k : Refusal) → Prepared bs tab₀ → f ≡ Ruled k → ruled f ≡ forms_of bs → Begins bs tab (Refused k)
+pub rules-form : (bs : List ℕ) (tab₀ tab : Table) (f : Result (Unit {0}) Refusal) (k : Refusal) → Prepared bs tab₀ → f ≡ Err k → told f ≡ forms_of bs →
+    Begins bs tab (Err k)
 rules-form bs tab₀ tab f k h e a =
-    refused-forms bs tab (Refused k) k refl (forms-refuse bs tab₀ h (number_of k) (place_of k) (sym (ap ruled e) ∙ a))
-
--- none did
-pub all-form : (bs tab : List ℕ) (r : Verdict) (n : ℕ) → Formed bs tab → r ≡ Accepted n → told r ≡ read_answer bs → Begins bs tab (Accepted n)
-all-form bs tab r n f e a = record {
-  refuses = λ k q. absurd (let z : ◌≡◌ {A = ℕ} 0 1 = cc in omega arith);
-  formed = λ m q. f;
-  read = λ m q. subst (λ (v : Verdict). told v ≡ read_answer bs) (e ∙ q) a;
-}
+    refused-forms bs tab (Err k) k refl (forms-refuse bs tab₀ h (number_of k) (place_of k) (sym (ap told e) ∙ a))
 
 -- GAP or CLASH refused
-pub faults-admit : (bs tab inside : List ℕ) (g : Ruling) (k : Refusal) → Formed bs tab → g ≡ Ruled k →
-    ruled g ≡ faults (sheet_of bs) 0 (elements (sheet_of bs)) → Admits bs tab inside (Refused k)
+pub faults-admit : (bs : List ℕ) (tab : Table) (inside : List Bool) (g : Result (Unit {0}) Refusal) (k : Refusal) → Formed bs tab → g ≡ Err k →
+    told g ≡ faults (sheet_of bs) 0 (elements (sheet_of bs)) → Admits bs tab inside (Err k)
 faults-admit bs tab inside g k f e a =
-    refused-admits bs tab inside (Refused k) k refl (faults-refuse bs tab f (number_of k) (place_of k) (sym (ap ruled e) ∙ a))
+    refused-admits bs tab inside (Err k) k refl (faults-refuse bs tab f (number_of k) (place_of k) (sym (ap told e) ∙ a))
 
 -- nothing refused
-pub all-admit : (bs tab inside : List ℕ) (n : ℕ) (g : Ruling) → Formed bs tab → Inside (sheet_of bs) inside → accepted n ≡ read_answer bs →
-    g ≡ Passes → ruled g ≡ faults (sheet_of bs) 0 (elements (sheet_of bs)) → Admits bs tab inside (Accepted n)
+pub all-admit : (bs : List ℕ) (tab : Table) (inside : List Bool) (n : ℕ) (g : Result (Unit {0}) Refusal) → Formed bs tab → Inside (sheet_of bs) inside →
+    accepted n ≡ read_answer bs → g ≡ Ok tt → told g ≡ faults (sheet_of bs) 0 (elements (sheet_of bs)) → Admits bs tab inside (Ok n)
 all-admit bs tab inside n g f i a p q =
-    let pass : accepted tt ≡ faults (sheet_of bs) 0 (elements (sheet_of bs)) = sym (ap ruled p) ∙ q in
+    let pass : accepted tt ≡ faults (sheet_of bs) 0 (elements (sheet_of bs)) = sym (ap told p) ∙ q in
     record {
       answer = total-told bs tab f n a pass;
       admitted = λ m h. record { sheet_is = all_pass bs tab f pass; formed = f; filled = i };
     }
 
 -- after reading, the walkers may walk
-pub prepared-after : (bs tab : List ℕ) (r : Verdict) (n : ℕ) → r ≡ Accepted n → Reads bs tab r → Prepared bs tab
+pub prepared-after : (bs : List ℕ) (tab : Table) (r : Result ℕ Refusal) (n : ℕ) → r ≡ Ok n → Reads bs tab r → Prepared bs tab
 prepared-after bs tab r n e h = read-prepared bs tab n (subst (Reads bs tab) e h)
-
--- what was told before the elements were looked at is told of the whole
-pub forms-accept : (bs tab : List ℕ) (r : Verdict) (k : Refusal) → r ≡ Refused k → Begins bs tab r → Accepts bs tab r
-forms-accept bs tab r k e h = record { inside = []; admits = refused-admits bs tab [] r k e (h.refuses k e) }

@@ -1,6 +1,6 @@
 -- How far values reach, over the definitions of crate alpha: a row's value at a point within reach r is within the row's reach, and what
 -- reaches no further than 2^40 fits in an i64, a row or a map after another too. Assumes nothing.
-use Prim.Native.Nat.{ℕ, zero, suc, ◌*◌, ◌^◌, ◌≤◌, ◌<◌, max}
+use Prim.Native.Nat.{ℕ, zero, suc, ◌+◌, ◌*◌, ◌^◌, ◌≤◌, ◌<◌, max}
 use mathlib.Core.Path.{◌≡◌, refl, ap, subst}
 use mathlib.Core.Logic.{⊎_elim}
 use mathlib.Core.List.{List, [], ◌∷◌}
@@ -8,7 +8,6 @@ use native.Mathlib.Omega.{arith}
 use native.Mathlib.Nat.{le_trans, mul-le-mul_left, mul-one, add-mul}
 use lib.IntN.{ℤ, nat_abs, ◌*ℤ◌}
 use Rattle.laws.proofs.Sizes.{nat_abs-add, nat_abs_mul}
-use Rattle.alpha.specs.declared.Int.{Int}
 use Rattle.alpha.specs.Sheet as Sheet
 use Rattle.alpha.specs.Affine.{dot, row_at, image}
 use Rattle.alpha.specs.Reach.{limit, sizes, row_reach, map_reach}
@@ -16,7 +15,8 @@ use Rattle.affine.specs.declared.Row.{Row}
 use Rattle.affine.specs.declared.Map.{Map}
 use Rattle.affine.specs.Value.{several, at, line, point_of, row_of, map_of, Padded, NeatRow, Neat}
 use Rattle.affine.specs.Size.{dot_size, row_size, Near, Fit, FitAfter}
-use Rattle.affine.proofs.Several.{lt-or-le, dot_size-several, sizes-nothing, row_size-neat, row_size-zero}
+use lib.ListN.{drop}
+use Rattle.affine.proofs.Several.{below-four, lt-or-le, dot_size-several, sizes-nothing, row_size-neat, row_size-zero}
 use Rattle.affine.proofs.Meaning.{neat-line}
 
 -- ---- a row's value
@@ -76,14 +76,14 @@ near-several r (suc n) f h = (h 0 (omega arith), near-several r n (λ i. f (suc 
 
 -- a row at a point within reach
 pub row_fits :
-    (n reach : ℕ) (r : Row) (p : List Int) → NeatRow n r → Near reach (point_of n p) → row_reach reach (row_of n r) ≤ limit →
+    (n reach : ℕ) (r : Row) (p : List ℤ) → NeatRow n r → Near reach (point_of n p) → row_reach reach (row_of n r) ≤ limit →
     row_size (row_of 4 r) (point_of 4 p) < 2 ^ 63
 row_fits n reach r p h near k =
     omega (arith, row_size-neat n r h p, row_size-near reach (row_of n r) (point_of n p) near)
 
 -- a map at a point within reach
 pub map-fits :
-    (reach : ℕ) (m : Map) (p : List Int) → Neat m → Near reach (point_of m.width p) → map_reach reach (map_of m).rows ≤ limit → Fit m p
+    (reach : ℕ) (m : Map) (p : List ℤ) → Neat m → Near reach (point_of m.width p) → map_reach reach (map_of m).rows ≤ limit → Fit m p
 map-fits reach m p h near k i = ⊎_elim inside outside (lt-or-le i m.height)
   where
     inside : i < m.height → row_size (row_of 4 (line m i)) (point_of 4 p) < 2 ^ 63
@@ -112,7 +112,7 @@ module _ (reach : ℕ) (f : Map) (h : Neat f) (one : 1 ≤ reach) where
       zeros : f.width ≤ j → nat_abs (at (line f i).coef j) ≤ map_reach reach (map_of f).rows
       zeros q = let e = ap nat_abs (h.lines i j q) in omega arith
 
-  const-near : (i : ℕ) → i < f.height → nat_abs (line f i).constant.v ≤ map_reach reach (map_of f).rows
+  const-near : (i : ℕ) → i < f.height → nat_abs (line f i).constant ≤ map_reach reach (map_of f).rows
   const-near i l = omega (arith, row_reach-map_reach reach f.height (λ t. row_of f.width (line f t)) i l)
 
   -- a row after a map
@@ -132,8 +132,8 @@ module _ (reach : ℕ) (f : Map) (h : Neat f) (one : 1 ≤ reach) where
         const =
             omega (
               arith,
-              dot_size-several 4 n (at w.coef) (λ i. (line f i).constant.v) h.rows_few rest,
-              dot_size-near m ws (several n (λ i. (line f i).constant.v)) (near-several m n (λ i. (line f i).constant.v) const-near),
+              dot_size-several 4 n (at w.coef) (λ i. (line f i).constant) h.rows_few rest,
+              dot_size-near m ws (several n (λ i. (line f i).constant)) (near-several m n (λ i. (line f i).constant) const-near),
             );
       }
 
@@ -177,3 +177,13 @@ pub map_reach-neat :
 map_reach-neat r m h =
     map_reach-several r 4 m.height (λ i. row_of m.width (line m i)) h.rows_few (λ j l.
     let z = h.beyond j l in rw (sizes-nothing m.width (at (line m j).coef) z.coefs, z.const) (omega arith))
+
+-- the reach of the four rows from row i on, and of those after it
+pub map_reach-drop :
+    (r : ℕ) (m : Map) (i : ℕ) → i < 4 →
+    map_reach r (drop i (several 4 (λ j. row_of m.width (line m j))))
+    ≡ max (row_reach r (row_of m.width (line m i))) (map_reach r (drop (i + 1) (several 4 (λ j. row_of m.width (line m j)))))
+map_reach-drop r m =
+    below-four (λ i. map_reach r (drop i (several 4 (λ j. row_of m.width (line m j))))
+    ≡ max (row_reach r (row_of m.width (line m i))) (map_reach r (drop (i + 1) (several 4 (λ j. row_of m.width (line m j))))))
+    refl refl refl refl

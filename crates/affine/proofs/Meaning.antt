@@ -9,7 +9,6 @@ use mathlib.Core.Logic.{⊎_elim}
 use borrow.Author.Tests.{le-ltb}
 use lib.ListN.{length}
 use lib.IntN.{ℤ, pos, ◌+ℤ◌, ◌*ℤ◌}
-use Rattle.alpha.specs.declared.Int.{Int}
 use Rattle.alpha.specs.Sheet as Sheet
 use Rattle.alpha.specs.Affine.{dot, row_at, image, scale, add_all, zeroes, combine, row_after, map_after, identity}
 use Rattle.affine.specs.declared.Row.{Row}
@@ -20,7 +19,7 @@ use Rattle.affine.proofs.Several.{lt-or-le, length-several, several-same, map-se
 
 -- ---- padding
 
-pub padded-more : (xs : List Int) {n m : ℕ} → n ≤ m → Padded n xs → Padded m xs
+pub padded-more : (xs : List ℤ) {n m : ℕ} → n ≤ m → Padded n xs → Padded m xs
 padded-more xs h e j k = e j (le_trans h k)
 
 -- a row of n coefficients is one of four
@@ -48,13 +47,13 @@ image-several zero f z = refl
 image-several (suc n) f z = ap (λ l. row_at (f 0) z ∷ l) (image-several n (λ i. f (suc i)) z)
 
 -- x is row i at p, and 0 past the rows
-abbrev pub Valued : Map → List Int → ℕ → ℤ → Type 0
+abbrev pub Valued : Map → List ℤ → ℕ → ℤ → Type 0
 Valued m p i x =
     (i < m.height → (n : ℕ) → NeatRow n (line m i) → x ≡ row_at (row_of n (line m i)) (point_of n p)) × (m.height ≤ i → x ≡ pos 0)
 
-module _ (m : Map) (p : List Int) (a b c d : Int) (h : Neat m) where
+module _ (m : Map) (p : List ℤ) (a b c d : ℤ) (h : Neat m) where
   pub image-is :
-      Valued m p 0 a.v → Valued m p 1 b.v → Valued m p 2 c.v → Valued m p 3 d.v →
+      Valued m p 0 a → Valued m p 1 b → Valued m p 2 c → Valued m p 3 d →
       (point_of m.height (a ∷ b ∷ c ∷ d ∷ []) ≡ image (map_of m).rows (point_of m.width p)) × Padded m.height (a ∷ b ∷ c ∷ d ∷ [])
   image-is va vb vc vd =
       let y = a ∷ b ∷ c ∷ d ∷ [] in
@@ -62,7 +61,7 @@ module _ (m : Map) (p : List Int) (a b c d : Int) (h : Neat m) where
       let same : point_of m.height y ≡ several m.height (λ i. row_at (row_of m.width (line m i)) (point_of m.width p)) =
       several-same m.height (at y) _ (λ i k. (each i (let f = h.rows_few in omega arith)).0 k m.width (neat-line m h i)) in (
         same ∙ sym (image-several m.height (λ i. row_of m.width (line m i)) (point_of m.width p)),
-        λ j l. ⊎_elim (λ k. (each j k).1 l) (λ k. ap (λ (x : Int). x.v) (past-four a b c d (record { v = pos 0 }) j k)) (lt-or-le j 4),
+        λ j l. ⊎_elim (λ k. (each j k).1 l) (λ k. past-four a b c d (pos 0) j k) (lt-or-le j 4),
       )
 
 -- ---- a row after a map
@@ -102,33 +101,33 @@ module _ (f : Map) (w : Row) (n : Neat f) (rest : Padded f.height w.coef) where
   fewer : (z : ℕ → ℤ) → dot (several 4 (at w.coef)) (several 4 z) ≡ dot (several f.height (at w.coef)) (several f.height z)
   fewer z = dot-several 4 f.height (at w.coef) z n.rows_few rest
 
-  module _ (a b c d k : Int) where
+  module _ (a b c d k : ℤ) where
     pub after_is :
-        a.v ≡ dot (several 4 (at w.coef)) (column f 0) → b.v ≡ dot (several 4 (at w.coef)) (column f 1) →
-        c.v ≡ dot (several 4 (at w.coef)) (column f 2) → d.v ≡ dot (several 4 (at w.coef)) (column f 3) →
-        k.v ≡ row_at (row_of 4 w) (constants f) → After f w (record { coef = a ∷ b ∷ c ∷ d ∷ []; constant = k })
+        a ≡ dot (several 4 (at w.coef)) (column f 0) → b ≡ dot (several 4 (at w.coef)) (column f 1) →
+        c ≡ dot (several 4 (at w.coef)) (column f 2) → d ≡ dot (several 4 (at w.coef)) (column f 3) →
+        k ≡ row_at (row_of 4 w) (constants f) → After f w (record { coef = a ∷ b ∷ c ∷ d ∷ []; constant = k })
     after_is ea eb ec ed ek =
         let y = a ∷ b ∷ c ∷ d ∷ [] in
         let ws = several f.height (at w.coef) in
         let each : (j : ℕ) → j < 4 → at y j ≡ dot (several 4 (at w.coef)) (column f j) =
         below-four (λ j. at y j ≡ dot (several 4 (at w.coef)) (column f j)) ea eb ec ed in
-        let past : (j : ℕ) → 4 ≤ j → at y j ≡ pos 0 = λ j l. ap (λ (x : Int). x.v) (past-four a b c d (record { v = pos 0 }) j l) in
+        let past : (j : ℕ) → 4 ≤ j → at y j ≡ pos 0 = λ j l. past-four a b c d (pos 0) j l in
         let coefs : several f.width (at y) ≡ several f.width (λ j. dot ws (several f.height (λ i. at (line f i).coef j))) =
         several-same f.width (at y) _
         (λ j l. each j (let q = n.cols_few in omega arith) ∙ fewer (λ i. at (line f i).coef j)) in
         record {
           is =
               row_same
-              (coefs ∙ sym (combine-coefs f.width f.height (at w.coef) (λ i. at (line f i).coef) (λ i. (line f i).constant.v)))
-              (ek ∙ ap (λ t. t +ℤ w.constant.v)
-              (fewer (λ i. (line f i).constant.v) ∙ sym (combine-const f.width f.height (at w.coef) (λ i. row_of f.width (line f i)))));
+              (coefs ∙ sym (combine-coefs f.width f.height (at w.coef) (λ i. at (line f i).coef) (λ i. (line f i).constant)))
+              (ek ∙ ap (λ t. t +ℤ w.constant)
+              (fewer (λ i. (line f i).constant) ∙ sym (combine-const f.width f.height (at w.coef) (λ i. row_of f.width (line f i)))));
           rest = λ j l.
               ⊎_elim (λ q. each j q ∙ dot-origin 4 (at w.coef) (λ i. at (line f i).coef j) (λ i. n.lines i j l)) (past j) (lt-or-le j 4);
           zeros = λ z.
               record {
                 coefs = λ j l.
                     ⊎_elim (λ q. each j q ∙ dot-nothing 4 (at w.coef) (λ i. at (line f i).coef j) z.coefs) (past j) (lt-or-le j 4);
-                const = ek ∙ rw (dot-nothing 4 (at w.coef) (λ i. (line f i).constant.v) z.coefs, z.const);
+                const = ek ∙ rw (dot-nothing 4 (at w.coef) (λ i. (line f i).constant) z.coefs, z.const);
               };
         }
 
@@ -140,7 +139,7 @@ map_same e = rw e
 -- a row past the four is 0
 pub past-line : (a b c d : Row) (h k i : ℕ) → 4 ≤ i → ZeroRow (line (record { rows = a ∷ b ∷ c ∷ d ∷ []; height = h; width = k }) i)
 past-line a b c d h k i l =
-    rw (past-four a b c d (record { coef = []; constant = record { v = pos 0 } }) i l) (record { coefs = λ j q. refl; const = refl })
+    rw (past-four a b c d (record { coef = []; constant = pos 0 }) i l) (record { coefs = λ j q. refl; const = refl })
 
 module _ (g f : Map) (ng : Neat g) (nf : Neat f) (e : g.width ≡ f.height) (a b c d : Row) where
   pub compose-is :
@@ -169,36 +168,36 @@ mark-off : (i n : ℕ) → n ≤ i → mark_of i n ≡ pos 0
 mark-off i n h = rw (le-ltb i n h)
 
 -- zeros but at one place, where they are 0 from that place on
-module _ (x z : Int) (e : z.v ≡ pos 0) (n : ℕ) where
-  at_first : (n ≤ 0 → x.v ≡ pos 0) → Padded n (x ∷ z ∷ z ∷ z ∷ [])
+module _ (x z : ℤ) (e : z ≡ pos 0) (n : ℕ) where
+  at_first : (n ≤ 0 → x ≡ pos 0) → Padded n (x ∷ z ∷ z ∷ z ∷ [])
   at_first f zero h = f h
   at_first f (suc zero) h = e
   at_first f (suc (suc zero)) h = e
   at_first f (suc (suc (suc zero))) h = e
   at_first f (suc (suc (suc (suc j)))) h = refl
 
-  at_second : (n ≤ 1 → x.v ≡ pos 0) → Padded n (z ∷ x ∷ z ∷ z ∷ [])
+  at_second : (n ≤ 1 → x ≡ pos 0) → Padded n (z ∷ x ∷ z ∷ z ∷ [])
   at_second f zero h = e
   at_second f (suc zero) h = f h
   at_second f (suc (suc zero)) h = e
   at_second f (suc (suc (suc zero))) h = e
   at_second f (suc (suc (suc (suc j)))) h = refl
 
-  at-third : (n ≤ 2 → x.v ≡ pos 0) → Padded n (z ∷ z ∷ x ∷ z ∷ [])
+  at-third : (n ≤ 2 → x ≡ pos 0) → Padded n (z ∷ z ∷ x ∷ z ∷ [])
   at-third f zero h = e
   at-third f (suc zero) h = e
   at-third f (suc (suc zero)) h = f h
   at-third f (suc (suc (suc zero))) h = e
   at-third f (suc (suc (suc (suc j)))) h = refl
 
-  at-fourth : (n ≤ 3 → x.v ≡ pos 0) → Padded n (z ∷ z ∷ z ∷ x ∷ [])
+  at-fourth : (n ≤ 3 → x ≡ pos 0) → Padded n (z ∷ z ∷ z ∷ x ∷ [])
   at-fourth f zero h = e
   at-fourth f (suc zero) h = e
   at-fourth f (suc (suc zero)) h = e
   at-fourth f (suc (suc (suc zero))) h = f h
   at-fourth f (suc (suc (suc (suc j)))) h = refl
 
-module _ (a b c d z : Int) where
+module _ (a b c d z : ℤ) where
   -- four rows with a number on the diagonal and z elsewhere
   abbrev diagonal : ℕ → Map
   diagonal n = record {
@@ -209,9 +208,9 @@ module _ (a b c d z : Int) where
     width = n;
   }
 
-  module _ (ez : z.v ≡ pos 0) where
+  module _ (ez : z ≡ pos 0) where
     diagonal-is :
-        (n : ℕ) → n ≤ 4 → a.v ≡ mark_of 0 n → b.v ≡ mark_of 1 n → c.v ≡ mark_of 2 n → d.v ≡ mark_of 3 n → map_of (diagonal n) ≡ identity n
+        (n : ℕ) → n ≤ 4 → a ≡ mark_of 0 n → b ≡ mark_of 1 n → c ≡ mark_of 2 n → d ≡ mark_of 3 n → map_of (diagonal n) ≡ identity n
     diagonal-is zero h ea eb ec ed = refl
     diagonal-is (suc zero) h ea eb ec ed = rw (ea, ez)
     diagonal-is (suc (suc zero)) h ea eb ec ed = rw (ea, eb, ez)
@@ -220,14 +219,14 @@ module _ (a b c d z : Int) where
     diagonal-is (suc (suc (suc (suc (suc n))))) h ea eb ec ed = absurd (omega arith)
 
     pub identity-is :
-        (n : ℕ) → n ≤ 4 → a.v ≡ mark_of 0 n → b.v ≡ mark_of 1 n → c.v ≡ mark_of 2 n → d.v ≡ mark_of 3 n →
+        (n : ℕ) → n ≤ 4 → a ≡ mark_of 0 n → b ≡ mark_of 1 n → c ≡ mark_of 2 n → d ≡ mark_of 3 n →
         (map_of (diagonal n) ≡ identity n) × Neat (diagonal n)
     identity-is n h ea eb ec ed =
         let m = diagonal n in
-        let oa : n ≤ 0 → a.v ≡ pos 0 = λ q. ea ∙ mark-off 0 n q in
-        let ob : n ≤ 1 → b.v ≡ pos 0 = λ q. eb ∙ mark-off 1 n q in
-        let oc : n ≤ 2 → c.v ≡ pos 0 = λ q. ec ∙ mark-off 2 n q in
-        let od : n ≤ 3 → d.v ≡ pos 0 = λ q. ed ∙ mark-off 3 n q in (
+        let oa : n ≤ 0 → a ≡ pos 0 = λ q. ea ∙ mark-off 0 n q in
+        let ob : n ≤ 1 → b ≡ pos 0 = λ q. eb ∙ mark-off 1 n q in
+        let oc : n ≤ 2 → c ≡ pos 0 = λ q. ec ∙ mark-off 2 n q in
+        let od : n ≤ 3 → d ≡ pos 0 = λ q. ed ∙ mark-off 3 n q in (
           diagonal-is n h ea eb ec ed,
           record {
             rows_few = h;

@@ -10,7 +10,6 @@ use lib.Dec.{ltb}
 use borrow.Author.Tests.{ltb-true, ltb-false}
 use lib.ListN.{length, get_or, get_or-eq_default}
 use lib.IntN.{ℤ, pos, nat_abs, ◌+ℤ◌, ◌*ℤ◌, +ℤ_idl, zero-*ℤ, *ℤ-zero}
-use Rattle.alpha.specs.declared.Int.{Int}
 use Rattle.alpha.specs.Affine.{dot, row_at}
 use Rattle.alpha.specs.Reach.{sizes, row_reach}
 use Rattle.affine.specs.declared.Row.{Row}
@@ -58,7 +57,7 @@ pub past-four : {A : Type 0} (a b c d e : A) (j : ℕ) → 4 ≤ j → get_or (a
 past-four a b c d e j h = get_or-eq_default (a ∷ b ∷ c ∷ d ∷ []) e h
 
 -- four zeros are zeros everywhere
-pub zeros-at : (j : ℕ) → at (record { v = pos 0 } ∷ record { v = pos 0 } ∷ record { v = pos 0 } ∷ record { v = pos 0 } ∷ []) j ≡ pos 0
+pub zeros-at : (j : ℕ) → at (pos 0 ∷ pos 0 ∷ pos 0 ∷ pos 0 ∷ []) j ≡ pos 0
 zeros-at zero = refl
 zeros-at (suc zero) = refl
 zeros-at (suc (suc zero)) = refl
@@ -119,14 +118,14 @@ sizes-several (suc k) (suc n) f h e = ap (λ t. nat_abs (f 0) + t) (sizes-severa
 -- ---- a row of n coefficients has the value, the size and the reach of its four
 
 module _ (n : ℕ) (r : Row) (h : NeatRow n r) where
-  pub row_at-neat : (p : List Int) → row_at (row_of 4 r) (point_of 4 p) ≡ row_at (row_of n r) (point_of n p)
-  row_at-neat p = ap (λ t. t +ℤ r.constant.v) (dot-several 4 n (at r.coef) (at p) h.few h.rest)
+  pub row_at-neat : (p : List ℤ) → row_at (row_of 4 r) (point_of 4 p) ≡ row_at (row_of n r) (point_of n p)
+  row_at-neat p = ap (λ t. t +ℤ r.constant) (dot-several 4 n (at r.coef) (at p) h.few h.rest)
 
-  pub row_size-neat : (p : List Int) → row_size (row_of 4 r) (point_of 4 p) ≡ row_size (row_of n r) (point_of n p)
-  row_size-neat p = ap (λ t. t + nat_abs r.constant.v) (dot_size-several 4 n (at r.coef) (at p) h.few h.rest)
+  pub row_size-neat : (p : List ℤ) → row_size (row_of 4 r) (point_of 4 p) ≡ row_size (row_of n r) (point_of n p)
+  row_size-neat p = ap (λ t. t + nat_abs r.constant) (dot_size-several 4 n (at r.coef) (at p) h.few h.rest)
 
   pub row_reach-neat : (reach : ℕ) → row_reach reach (row_of 4 r) ≡ row_reach reach (row_of n r)
-  row_reach-neat reach = ap (λ t. t * reach + nat_abs r.constant.v) (sizes-several 4 n (at r.coef) h.few h.rest)
+  row_reach-neat reach = ap (λ t. t * reach + nat_abs r.constant) (sizes-several 4 n (at r.coef) h.few h.rest)
 
 -- a row of zeros is 0 everywhere
 pub row_size-zero : (r : Row) → ZeroRow r → (z : ℕ → ℤ) → row_size (row_of 4 r) (several 4 z) ≡ 0

@@ -1,6 +1,5 @@
 -- The fields of a row and of a map at a place of a sheet. Assumes nothing.
-use Rattle.std.specs.Prelude.{ℕ, ◌+◌, ◌*◌, ◌≤◌, ◌<◌, ◌≡◌, List, length, nat_abs}
-use Rattle.alpha.specs.declared.Int.{Int}
+use Rattle.std.specs.Prelude.{ℕ, ◌+◌, ◌*◌, ◌≤◌, ◌<◌, ◌≡◌, List, length, nat_abs, ℤ}
 use Rattle.alpha.specs.Field.{field}
 use Rattle.alpha.specs.Sheet as Sheet
 use Rattle.alpha.specs.Affine.{image}
@@ -40,7 +39,7 @@ pub record MapThere (bs : List ℕ) (p : ℕ) : Type 0 where
   pub inside : p + 16 + nat_abs (field bs (p + 8)) * (8 * nat_abs (field bs p) + 8) ≤ length bs
 
 -- y is the image of z by the map of the dependence whose fields stand at p
-pub record ImageAt (bs : List ℕ) (p : ℕ) (z y : List Int) : Type 0 where
+pub record ImageAt (bs : List ℕ) (p : ℕ) (z y : List ℤ) : Type 0 where
   pub map : Map
   pub read : MapRead bs p map
   pub is : point_of map.height y ≡ image (map_of map).rows (point_of map.width z)

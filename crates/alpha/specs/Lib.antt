@@ -19,5 +19,6 @@ pub mod Normalise
 pub mod Ask
 pub mod Program
 pub mod Verdict
+pub mod Kinds
 pub mod Promise
 pub mod Examples

@@ -1,13 +1,11 @@
 -- Document 01's number and place for each refusal, its code and value for each outcome, and its answer for each verdict: what the
 -- cases of the enums of src/ mean. Assumes nothing.
-use Rattle.std.specs.Prelude.{ℕ, ℤ}
+use Rattle.std.specs.Prelude.{ℕ, ℤ, Result, Ok, Err}
 use Rattle.alpha.specs.Answer.{Answer, accepted, refused, LONG, CUT, COUNT, NAME, NUMBER, TAIL, SHAPE, TYPE, REACH, GAP, CLASH, INPUT, WIDE, ROOM, ASK}
 use Rattle.alpha.specs.Outcome as Outcomes
 use Rattle.alpha.specs.Run.{code_of, value_of}
 use Rattle.alpha.specs.declared.Refusal.{Refusal}
 use Rattle.alpha.specs.declared.Refusal.TheVariants.{Long, Cut, Count, Name, Number, Tail, Shape, Typing, Reach, Gap, Clash, Input, Wide, Room, Ask}
-use Rattle.alpha.specs.declared.Verdict.{Verdict}
-use Rattle.alpha.specs.declared.Verdict.TheVariants.{Accepted, Refused}
 use Rattle.alpha.specs.declared.Outcome.{Outcome}
 use Rattle.alpha.specs.declared.Outcome.TheVariants.{Outside, Value, DivZero, Overflow, Loop}
 
@@ -45,15 +43,15 @@ place_of (Wide v) = v
 place_of (Room n) = n
 place_of Ask = 0
 
--- what a verdict says
-abbrev pub told : Verdict → Answer ℕ
-told (Accepted n) = accepted n
-told (Refused r) = refused (number_of r) (place_of r)
+-- what a result says, whatever is answered where nothing is refused
+abbrev pub told : {A : Type 0} → Result A Refusal → Answer A
+told (Ok a) = accepted a
+told (Err r) = refused (number_of r) (place_of r)
 
 -- what an outcome says
 abbrev pub outcome_of : Outcome → Outcomes.Outcome
 outcome_of Outside = Outcomes.outside
-outcome_of (Value x) = Outcomes.value x.v
+outcome_of (Value x) = Outcomes.value x
 outcome_of DivZero = Outcomes.divzero
 outcome_of Overflow = Outcomes.overflow
 outcome_of Loop = Outcomes.loop

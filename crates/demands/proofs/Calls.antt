@@ -1,5 +1,6 @@
 -- Demand 3 of the calls: what the normaliser has written is checked as the sheet is, runs as the sheet runs, and is written again. Assumes
 -- nothing.
+use Rattle.std.specs.Prelude.{Ok}
 use mathlib.Core.Path.{◌≡◌, sym, ap, ◌∙◌, subst}
 use Prim.Native.Nat.{ℕ}
 use native.Mathlib.Omega.{arith}
@@ -10,7 +11,6 @@ use Rattle.alpha.specs.Sheet.{Sheet}
 use Rattle.alpha.specs.Check.{check}
 use Rattle.alpha.specs.Run.{run}
 use Rattle.alpha.specs.Promise.{total_of, lent_after, Normalises}
-use Rattle.alpha.specs.declared.Verdict.TheVariants.{Accepted}
 use Rattle.alpha.proofs.Unique.{told-injective}
 use Rattle.demands.specs.Demands.{NormalFormOf, RewrittenCalls}
 use Rattle.demands.proofs.Records.{total-same}
@@ -32,7 +32,7 @@ module _ (bs : List ℕ) (s : Sheet) (o : List ℕ) (c : check bs ≡ accepted s
         );
     again = λ out out' r l h.
         let e = f.again (length out) (omega (arith, long)) in
-        let is : r ≡ Accepted n = told-injective r (Accepted n) (h.answer ∙ ap (λ m. next m (λ b. accepted (length b))) e ∙ ap accepted long) in
+        let is : r ≡ Ok n = told-injective r (Ok n) (h.answer ∙ ap (λ m. next m (λ b. accepted (length b))) e ∙ ap accepted long) in
         let w = normalise-wrote o out out' n (subst (Normalises o out out') is h) in
         (is, let k = sym w.0 ∙ e in cc);
   }

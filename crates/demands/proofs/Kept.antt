@@ -1,5 +1,6 @@
 -- What a result that keeps its promise is: a refusal is the definition's, with every lent entry as it was; an acceptance comes exactly where
 -- the definition accepts, and what is lent then begins with the definition's entries and goes on as it was. Assumes nothing.
+use Rattle.std.specs.Prelude.{Result, Ok, Err}
 use mathlib.Core.Path.{◌≡◌, refl, sym, ap, ◌∙◌, subst}
 use Prim.Native.Nat.{ℕ, ◌-◌, ◌≤◌, ◌<◌}
 use native.Mathlib.Omega.{arith}
@@ -24,8 +25,6 @@ use Rattle.alpha.specs.Ask as Ask
 use Rattle.alpha.specs.Verdict.{number_of, place_of}
 use Rattle.alpha.specs.Promise.{total_of, lent_after, Checks, Runs, Normalises, Numbers, Finds}
 use Rattle.alpha.specs.declared.Refusal.{Refusal}
-use Rattle.alpha.specs.declared.Verdict.{Verdict}
-use Rattle.alpha.specs.declared.Verdict.TheVariants.{Accepted, Refused}
 use Rattle.alpha.proofs.Unique.{told-injective}
 use Rattle.laws.proofs.Tests.{&&-left, &&-right}
 use Rattle.laws.proofs.Elements.{get_or-map_below, length-elements, number-low, element-of-number}
@@ -71,14 +70,14 @@ module _ {A : Type 0} (s : Sheet) (f : Element → A) (d : A) (old new : List A)
 
 -- ---- check
 
-pub check_refuses : (sheet : List ℕ) (k : Refusal) → Checks sheet (Refused k) → check sheet ≡ refused (number_of k) (place_of k)
+pub check_refuses : (sheet : List ℕ) (k : Refusal) → Checks sheet (Err k) → check sheet ≡ refused (number_of k) (place_of k)
 check_refuses sheet k h = next-refused (check sheet) _ (number_of k) (place_of k) (λ s e. (total s, refl)) (sym h.answer)
 
-pub check-accepts-only : (sheet : List ℕ) (n : ℕ) → Checks sheet (Accepted n) → (s : Sheet) × (check sheet ≡ accepted s) × (n ≡ total s)
+pub check-accepts-only : (sheet : List ℕ) (n : ℕ) → Checks sheet (Ok n) → (s : Sheet) × (check sheet ≡ accepted s) × (n ≡ total s)
 check-accepts-only sheet n h = let a = next-accepted (check sheet) _ n (sym h.answer) in let e = a.2 in (a.0, a.1, cc)
 
-pub check_accepted : (sheet : List ℕ) (s : Sheet) (r : Verdict) → check sheet ≡ accepted s → Checks sheet r → r ≡ Accepted (total s)
-check_accepted sheet s r c h = told-injective r (Accepted (total s)) (h.answer ∙ ap total_of c)
+pub check_accepted : (sheet : List ℕ) (s : Sheet) (r : Result ℕ Refusal) → check sheet ≡ accepted s → Checks sheet r → r ≡ Ok (total s)
+check_accepted sheet s r c h = told-injective r (Ok (total s)) (h.answer ∙ ap total_of c)
 
 -- ---- run
 
@@ -118,7 +117,7 @@ module _ (sheet : List ℕ) (ins : List ℤ) (codes values : ℕ) where
   run-made s c i k l = rw (c, i, room-enough (total s) codes k, room-enough (total s) values l)
 
 module _ (sheet : List ℕ) (ins : List ℤ) (codes codes' : List ℕ) (values values' : List ℤ) where
-  pub run_refuses : (k : Refusal) → Runs sheet ins codes codes' values values' (Refused k) →
+  pub run_refuses : (k : Refusal) → Runs sheet ins codes codes' values values' (Err k) →
       (run sheet ins (length codes) (length values) ≡ refused (number_of k) (place_of k)) × (codes' ≡ codes) × (values' ≡ values)
   run_refuses k h =
       let e = next-refused (run sheet ins (length codes) (length values)) (λ _. total_of (check sheet)) (number_of k) (place_of k) (λ t a.
@@ -126,7 +125,7 @@ module _ (sheet : List ℕ) (ins : List ℤ) (codes codes' : List ℕ) (values v
       (e, h.codes_after ∙ ap (λ a. lent_after a (λ t. t.codes) codes) e, h.values_after ∙ ap (λ a. lent_after a (λ t. t.values) values) e)
 
   ran : (s : Sheet) (n : ℕ) → check sheet ≡ accepted s → inputs s ins ≡ accepted tt → total s ≤ length codes → total s ≤ length values → total s ≡ n →
-      run sheet ins (length codes) (length values) ≡ accepted (tables s ins) → Runs sheet ins codes codes' values values' (Accepted n) →
+      run sheet ins (length codes) (length values) ≡ accepted (tables s ins) → Runs sheet ins codes codes' values values' (Ok n) →
       Ran sheet ins codes codes' values values' n
   ran s n c i k l n-is made h =
       let cs = h.codes_after ∙ ap (λ m. lent_after m (λ t. t.codes) codes) made in
@@ -148,18 +147,18 @@ module _ (sheet : List ℕ) (ins : List ℤ) (codes codes' : List ℕ) (values v
         values_length = table_same s val (pos 0) values values' vs l;
       }
 
-  pub run_accepts : (n : ℕ) → Runs sheet ins codes codes' values values' (Accepted n) → Ran sheet ins codes codes' values values' n
+  pub run_accepts : (n : ℕ) → Runs sheet ins codes codes' values values' (Ok n) → Ran sheet ins codes codes' values values' n
   run_accepts n h =
       let a = next-accepted (run sheet ins (length codes) (length values)) (λ _. total_of (check sheet)) n (sym h.answer) in
       let r = run-accepts-parts sheet ins (length codes) (length values) a.0 a.1 in
       let n-is : total r.of ≡ n = let e = sym (ap total_of r.checked) ∙ a.2 in cc in
       ran r.of n r.checked r.taken r.codes-fit r.values-fit n-is (a.1 ∙ ap accepted (sym r.tables-are)) h
 
-  pub run_accepted : (s : Sheet) (r : Verdict) →
+  pub run_accepted : (s : Sheet) (r : Result ℕ Refusal) →
       check sheet ≡ accepted s → inputs s ins ≡ accepted tt → total s ≤ length codes → total s ≤ length values →
-      Runs sheet ins codes codes' values values' r → r ≡ Accepted (total s)
+      Runs sheet ins codes codes' values values' r → r ≡ Ok (total s)
   run_accepted s r c i k l h =
-      told-injective r (Accepted (total s))
+      told-injective r (Ok (total s))
       (h.answer ∙ ap (λ m. next m (λ _. total_of (check sheet))) (run-made sheet ins (length codes) (length values) s c i k l) ∙ ap total_of c)
 
 -- ---- normalise
@@ -193,7 +192,7 @@ normalise-accepts-parts sheet lent o h =
         go (bad n p) out e = unfold normal_after in let z : ◌≡◌ {A = ℕ} 0 1 = cc in absurd (omega arith)
 
 module _ (sheet out out' : List ℕ) where
-  pub normalise_refuses : (k : Refusal) → Normalises sheet out out' (Refused k) →
+  pub normalise_refuses : (k : Refusal) → Normalises sheet out out' (Err k) →
       (normalise sheet (length out) ≡ refused (number_of k) (place_of k)) × (out' ≡ out)
   normalise_refuses k h =
       let e = next-refused (normalise sheet (length out)) (λ o. accepted (length o)) (number_of k) (place_of k) (λ o a. (length o, refl)) (sym h.answer) in
@@ -211,7 +210,7 @@ module _ (sheet out out' : List ℕ) where
   }
 
   -- what was written
-  pub normalise-wrote : (n : ℕ) → Normalises sheet out out' (Accepted n) → (normalise sheet (length out) ≡ accepted (take n out')) × (length (take n out') ≡ n)
+  pub normalise-wrote : (n : ℕ) → Normalises sheet out out' (Ok n) → (normalise sheet (length out) ≡ accepted (take n out')) × (length (take n out') ≡ n)
   normalise-wrote n h =
       let a = next-accepted (normalise sheet (length out)) (λ o. accepted (length o)) n (sym h.answer) in
       let n-is : length a.0 ≡ n = let e = a.2 in cc in
@@ -219,24 +218,24 @@ module _ (sheet out out' : List ℕ) where
       let is : take n out' ≡ a.0 = ap (λ m. take m out') (sym n-is) ∙ front-written a.0 out out' os in
       (a.1 ∙ ap accepted (sym is), ap length is ∙ n-is)
 
-  pub normalise_accepts : (n : ℕ) → Normalises sheet out out' (Accepted n) → Rewrote sheet out out' n
+  pub normalise_accepts : (n : ℕ) → Normalises sheet out out' (Ok n) → Rewrote sheet out out' n
   normalise_accepts n h =
       let w = normalise-wrote n h in
       let o = take n out' in
       rewrote n o w.1 (h.out_after ∙ ap (λ m. lent_after m (λ o. o) out) w.0) (normalise-accepts-parts sheet (length out) o w.0)
 
-  pub normalise_accepted : (s : Sheet) (r : Verdict) → check sheet ≡ accepted s → KeepsLimits sheet s → length (normal_bytes sheet s) ≤ length out →
-      Normalises sheet out out' r → r ≡ Accepted (length (normal_bytes sheet s))
+  pub normalise_accepted : (s : Sheet) (r : Result ℕ Refusal) → check sheet ≡ accepted s → KeepsLimits sheet s → length (normal_bytes sheet s) ≤ length out →
+      Normalises sheet out out' r → r ≡ Ok (length (normal_bytes sheet s))
   normalise_accepted s r c k l h =
-      told-injective r (Accepted (length (normal_bytes sheet s))) (h.answer ∙ ap (λ m. next m (λ o. accepted (length o))) (kept-written sheet s (length out) c k l))
+      told-injective r (Ok (length (normal_bytes sheet s))) (h.answer ∙ ap (λ m. next m (λ o. accepted (length o))) (kept-written sheet s (length out) c k l))
 
 -- ---- the element number
 
 module _ (sheet : List ℕ) (v : ℕ) (z : Point) where
-  pub number_refuses : (k : Refusal) → Numbers sheet v z (Refused k) → element_number sheet v z ≡ refused (number_of k) (place_of k)
+  pub number_refuses : (k : Refusal) → Numbers sheet v z (Err k) → element_number sheet v z ≡ refused (number_of k) (place_of k)
   number_refuses k h = sym h.answer
 
-  pub number_accepts : (n : ℕ) → Numbers sheet v z (Accepted n) → HasNumber sheet v z n
+  pub number_accepts : (n : ℕ) → Numbers sheet v z (Ok n) → HasNumber sheet v z n
   unfolding element_number
   number_accepts n h =
       let a = next-accepted (check sheet) (λ s. ifb (asks s v z) (λ _. accepted (Ask.number_of s v z)) (λ _. refused ASK 0)) n (sym h.answer) in
@@ -253,9 +252,9 @@ module _ (sheet : List ℕ) (v : ℕ) (z : Point) where
       }
       go s c false e h = let w : ◌≡◌ {A = ℕ} 0 1 = cc in absurd (omega arith)
 
-  pub number_accepted : (s : Sheet) (r : Verdict) → check sheet ≡ accepted s → v < length s → in_box (variable s v).head.box z ≡ true →
-      Numbers sheet v z r → r ≡ Accepted (Ask.number_of s v z)
-  number_accepted s r c lt b h = told-injective r (Accepted (Ask.number_of s v z)) (h.answer ∙ unfold element_number in rw (c, lt-ltb v (length s) lt, b))
+  pub number_accepted : (s : Sheet) (r : Result ℕ Refusal) → check sheet ≡ accepted s → v < length s → in_box (variable s v).head.box z ≡ true →
+      Numbers sheet v z r → r ≡ Ok (Ask.number_of s v z)
+  number_accepted s r c lt b h = told-injective r (Ok (Ask.number_of s v z)) (h.answer ∙ unfold element_number in rw (c, lt-ltb v (length s) lt, b))
 
 -- ---- the body of a variable
 

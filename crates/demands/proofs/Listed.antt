@@ -1,5 +1,6 @@
 -- Every refusal that the definitions give is one of document 01's fifteen with its place, so there is an answer to every call, whatever it is
 -- given. Assumes nothing.
+use Rattle.std.specs.Prelude.{Result, Ok, Err}
 use mathlib.Core.Path.{◌≡◌, refl, ap, ◌∙◌}
 use Prim.Native.Nat.{ℕ, zero, suc, ◌+◌, ◌-◌, ◌^◌}
 use mathlib.Core.Bool.{Bool, true, false, not, ◌&&◌}
@@ -26,8 +27,6 @@ use Rattle.alpha.specs.Verdict.{number_of, place_of, told}
 use Rattle.alpha.specs.Promise.{total_of, lent_after, Checks, Runs, Normalises, Numbers, Finds}
 use Rattle.alpha.specs.declared.Refusal.{Refusal}
 use Rattle.alpha.specs.declared.Refusal.TheVariants.{Long, Cut, Count, Name, Number, Tail, Shape, Typing, Reach, Gap, Clash, Input, Wide, Room, Ask}
-use Rattle.alpha.specs.declared.Verdict.{Verdict}
-use Rattle.alpha.specs.declared.Verdict.TheVariants.{Accepted, Refused}
 use Rattle.laws.specs.Writable.{All}
 
 -- number n and place p are those of a refusal
@@ -350,31 +349,31 @@ told-number bs v z = told-next (check bs) _ (told-check bs) (λ s. told-if (asks
 
 -- ---- a verdict for each answer
 
-verdict-for : (a : Answer ℕ) → Told a → (r : Verdict) × (told r ≡ a)
-verdict-for (accepted n) h = (Accepted n, refl)
+verdict-for : (a : Answer ℕ) → Told a → (r : Result ℕ Refusal) × (told r ≡ a)
+verdict-for (accepted n) h = (Ok n, refl)
 verdict-for (refused n p) h =
-    (Refused h.refusal, ap (λ m. refused m (place_of h.refusal)) h.number_is ∙ ap (λ q. refused n q) h.place_is)
+    (Err h.refusal, ap (λ m. refused m (place_of h.refusal)) h.number_is ∙ ap (λ q. refused n q) h.place_is)
 
 told-total : (bs : List ℕ) → Told (total_of (check bs))
 told-total bs = told-next (check bs) _ (told-check bs) (λ s. tt)
 
-pub check_answers : (sheet : List ℕ) → (r : Verdict) × Checks sheet r
+pub check_answers : (sheet : List ℕ) → (r : Result ℕ Refusal) × Checks sheet r
 check_answers sheet = let v = verdict-for (total_of (check sheet)) (told-total sheet) in (v.0, record { answer = v.1 })
 
 pub run_answers : (sheet : List ℕ) (ins : List ℤ) (codes : List ℕ) (values : List ℤ) →
-    (r : Verdict) × (codes' : List ℕ) × (values' : List ℤ) × Runs sheet ins codes codes' values values' r
+    (r : Result ℕ Refusal) × (codes' : List ℕ) × (values' : List ℤ) × Runs sheet ins codes codes' values values' r
 run_answers sheet ins codes values =
     let a = run sheet ins (length codes) (length values) in
     let v = verdict-for (next a (λ _. total_of (check sheet))) (told-next a _ (told-run sheet ins (length codes) (length values)) (λ _. told-total sheet)) in
     (v.0, lent_after a (λ t. t.codes) codes, lent_after a (λ t. t.values) values, record { answer = v.1; codes_after = refl; values_after = refl })
 
-pub normalise_answers : (sheet out : List ℕ) → (r : Verdict) × (out' : List ℕ) × Normalises sheet out out' r
+pub normalise_answers : (sheet out : List ℕ) → (r : Result ℕ Refusal) × (out' : List ℕ) × Normalises sheet out out' r
 normalise_answers sheet out =
     let a = normalise sheet (length out) in
     let v = verdict-for (next a (λ o. accepted (length o))) (told-next a _ (told-normalise sheet (length out)) (λ o. tt)) in
     (v.0, lent_after a (λ o. o) out, record { answer = v.1; out_after = refl })
 
-pub number_answers : (sheet : List ℕ) (v : ℕ) (z : Point) → (r : Verdict) × Numbers sheet v z r
+pub number_answers : (sheet : List ℕ) (v : ℕ) (z : Point) → (r : Result ℕ Refusal) × Numbers sheet v z r
 number_answers sheet v z = let w = verdict-for (element_number sheet v z) (told-number sheet v z) in (w.0, record { answer = w.1 })
 
 pub body_answers : (sheet : List ℕ) (v : ℕ) → (part : List ℕ) × Finds sheet v part

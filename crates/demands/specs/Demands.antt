@@ -1,6 +1,6 @@
 -- The three demands of the minutes, each as one statement. The promises of the public calls are equations with the definitions of
 -- document 01; demands 1 and 2 say what a result that keeps its promise is, and demand 3 says what the normal form is. Assumes nothing.
-use Rattle.std.specs.Prelude.{◌≡◌, ◌↔◌, ℕ, ◌-◌, ◌≤◌, ◌<◌, true, false, List, [], ◌++◌, map, length, get_or, take, drop, ℤ, pos}
+use Rattle.std.specs.Prelude.{◌≡◌, ◌↔◌, ℕ, ◌-◌, ◌≤◌, ◌<◌, true, false, List, [], ◌++◌, map, length, get_or, take, drop, ℤ, pos, Result, Ok, Err}
 use Rattle.alpha.specs.Answer.{accepted, refused}
 use Rattle.alpha.specs.Field.{nat}
 use Rattle.alpha.specs.Sheet.{Raw, Variable, Sheet, Point}
@@ -18,8 +18,6 @@ use Rattle.alpha.specs.Program.{framed}
 use Rattle.alpha.specs.Verdict.{number_of, place_of}
 use Rattle.alpha.specs.Promise.{Checks, Runs, Normalises, Numbers, Finds}
 use Rattle.alpha.specs.declared.Refusal.{Refusal}
-use Rattle.alpha.specs.declared.Verdict.{Verdict}
-use Rattle.alpha.specs.declared.Verdict.TheVariants.{Accepted, Refused}
 use Rattle.laws.specs.Accepted as Checked
 use Rattle.laws.specs.Normal.{body_form, body_bytes, body_nodes}
 use Rattle.laws.specs.Sheets.{raw_of}
@@ -50,20 +48,20 @@ pub record KeepsLimits (bs : List ℕ) (s : Sheet) : Type 0 where
 
 pub record Demand1 : Type 0 where
   -- every call has an answer for all that it is given
-  pub check_answers : (sheet : List ℕ) → (r : Verdict) × Checks sheet r
+  pub check_answers : (sheet : List ℕ) → (r : Result ℕ Refusal) × Checks sheet r
   pub run_answers : (sheet : List ℕ) (ins : List ℤ) (codes : List ℕ) (values : List ℤ) →
-      (r : Verdict) × (codes' : List ℕ) × (values' : List ℤ) × Runs sheet ins codes codes' values values' r
-  pub normalise_answers : (sheet out : List ℕ) → (r : Verdict) × (out' : List ℕ) × Normalises sheet out out' r
-  pub number_answers : (sheet : List ℕ) (v : ℕ) (z : Point) → (r : Verdict) × Numbers sheet v z r
+      (r : Result ℕ Refusal) × (codes' : List ℕ) × (values' : List ℤ) × Runs sheet ins codes codes' values values' r
+  pub normalise_answers : (sheet out : List ℕ) → (r : Result ℕ Refusal) × (out' : List ℕ) × Normalises sheet out out' r
+  pub number_answers : (sheet : List ℕ) (v : ℕ) (z : Point) → (r : Result ℕ Refusal) × Numbers sheet v z r
   pub body_answers : (sheet : List ℕ) (v : ℕ) → (part : List ℕ) × Finds sheet v part
   -- the refusals
-  pub check_refuses : (sheet : List ℕ) (k : Refusal) → Checks sheet (Refused k) → check sheet ≡ refused (number_of k) (place_of k)
+  pub check_refuses : (sheet : List ℕ) (k : Refusal) → Checks sheet (Err k) → check sheet ≡ refused (number_of k) (place_of k)
   pub run_refuses : (sheet : List ℕ) (ins : List ℤ) (codes codes' : List ℕ) (values values' : List ℤ) (k : Refusal) →
-      Runs sheet ins codes codes' values values' (Refused k) →
+      Runs sheet ins codes codes' values values' (Err k) →
       (run sheet ins (length codes) (length values) ≡ refused (number_of k) (place_of k)) × (codes' ≡ codes) × (values' ≡ values)
-  pub normalise_refuses : (sheet out out' : List ℕ) (k : Refusal) → Normalises sheet out out' (Refused k) →
+  pub normalise_refuses : (sheet out out' : List ℕ) (k : Refusal) → Normalises sheet out out' (Err k) →
       (normalise sheet (length out) ≡ refused (number_of k) (place_of k)) × (out' ≡ out)
-  pub number_refuses : (sheet : List ℕ) (v : ℕ) (z : Point) (k : Refusal) → Numbers sheet v z (Refused k) →
+  pub number_refuses : (sheet : List ℕ) (v : ℕ) (z : Point) (k : Refusal) → Numbers sheet v z (Err k) →
       element_number sheet v z ≡ refused (number_of k) (place_of k)
   pub body_refuses : (sheet part : List ℕ) (v n p : ℕ) → check sheet ≡ refused n p → Finds sheet v part → part ≡ []
 
@@ -108,22 +106,22 @@ pub record Demand2 : Type 0 where
   -- the check accepts exactly the sheets that stand in their bytes as document 01 says and pass its tests
   pub passes : (bs : List ℕ) (s : Sheet) → (check bs ≡ accepted s) ↔ ((r : Raw) × Checked.Accepted bs r s)
   -- check
-  pub check_accepts : (sheet : List ℕ) (n : ℕ) → Checks sheet (Accepted n) → (s : Sheet) × (check sheet ≡ accepted s) × (n ≡ total s)
-  pub check_accepted : (sheet : List ℕ) (s : Sheet) (r : Verdict) → check sheet ≡ accepted s → Checks sheet r → r ≡ Accepted (total s)
+  pub check_accepts : (sheet : List ℕ) (n : ℕ) → Checks sheet (Ok n) → (s : Sheet) × (check sheet ≡ accepted s) × (n ≡ total s)
+  pub check_accepted : (sheet : List ℕ) (s : Sheet) (r : Result ℕ Refusal) → check sheet ≡ accepted s → Checks sheet r → r ≡ Ok (total s)
   -- run
   pub run_accepts : (sheet : List ℕ) (ins : List ℤ) (codes codes' : List ℕ) (values values' : List ℤ) (n : ℕ) →
-      Runs sheet ins codes codes' values values' (Accepted n) → Ran sheet ins codes codes' values values' n
-  pub run_accepted : (sheet : List ℕ) (ins : List ℤ) (codes codes' : List ℕ) (values values' : List ℤ) (s : Sheet) (r : Verdict) →
+      Runs sheet ins codes codes' values values' (Ok n) → Ran sheet ins codes codes' values values' n
+  pub run_accepted : (sheet : List ℕ) (ins : List ℤ) (codes codes' : List ℕ) (values values' : List ℤ) (s : Sheet) (r : Result ℕ Refusal) →
       check sheet ≡ accepted s → inputs s ins ≡ accepted tt → total s ≤ length codes → total s ≤ length values →
-      Runs sheet ins codes codes' values values' r → r ≡ Accepted (total s)
+      Runs sheet ins codes codes' values values' r → r ≡ Ok (total s)
   -- normalise
-  pub normalise_accepts : (sheet out out' : List ℕ) (n : ℕ) → Normalises sheet out out' (Accepted n) → Rewrote sheet out out' n
-  pub normalise_accepted : (sheet out out' : List ℕ) (s : Sheet) (r : Verdict) → check sheet ≡ accepted s → KeepsLimits sheet s →
-      length (normal_bytes sheet s) ≤ length out → Normalises sheet out out' r → r ≡ Accepted (length (normal_bytes sheet s))
+  pub normalise_accepts : (sheet out out' : List ℕ) (n : ℕ) → Normalises sheet out out' (Ok n) → Rewrote sheet out out' n
+  pub normalise_accepted : (sheet out out' : List ℕ) (s : Sheet) (r : Result ℕ Refusal) → check sheet ≡ accepted s → KeepsLimits sheet s →
+      length (normal_bytes sheet s) ≤ length out → Normalises sheet out out' r → r ≡ Ok (length (normal_bytes sheet s))
   -- the element number
-  pub number_accepts : (sheet : List ℕ) (v : ℕ) (z : Point) (n : ℕ) → Numbers sheet v z (Accepted n) → HasNumber sheet v z n
-  pub number_accepted : (sheet : List ℕ) (v : ℕ) (z : Point) (s : Sheet) (r : Verdict) → check sheet ≡ accepted s → v < length s →
-      in_box (variable s v).head.box z ≡ true → Numbers sheet v z r → r ≡ Accepted (Ask.number_of s v z)
+  pub number_accepts : (sheet : List ℕ) (v : ℕ) (z : Point) (n : ℕ) → Numbers sheet v z (Ok n) → HasNumber sheet v z n
+  pub number_accepted : (sheet : List ℕ) (v : ℕ) (z : Point) (s : Sheet) (r : Result ℕ Refusal) → check sheet ≡ accepted s → v < length s →
+      in_box (variable s v).head.box z ≡ true → Numbers sheet v z r → r ≡ Ok (Ask.number_of s v z)
   -- the body of a variable: its bytes; and nothing for an input or an unknown number
   pub body_found : (sheet part : List ℕ) (v : ℕ) (s : Sheet) → check sheet ≡ accepted s → is_input (variable s v) ≡ false → Finds sheet v part →
       part ≡ take ((variable s v).end - (variable s v).start) (drop (variable s v).start sheet)
@@ -154,10 +152,10 @@ pub record NormalFormOf (bs : List ℕ) (s : Sheet) (o : List ℕ) : Type 0 wher
 
 -- the same of the calls: o is what the normaliser has written of the sheet in n bytes
 pub record RewrittenCalls (sheet o : List ℕ) (n : ℕ) : Type 0 where
-  pub same_check : (r r' : Verdict) → Checks sheet r → Checks o r' → r' ≡ r
-  pub same_run : (ins : List ℤ) (codes codes₁ codes₂ : List ℕ) (values values₁ values₂ : List ℤ) (r r' : Verdict) →
+  pub same_check : (r r' : Result ℕ Refusal) → Checks sheet r → Checks o r' → r' ≡ r
+  pub same_run : (ins : List ℤ) (codes codes₁ codes₂ : List ℕ) (values values₁ values₂ : List ℤ) (r r' : Result ℕ Refusal) →
       Runs sheet ins codes codes₁ values values₁ r → Runs o ins codes codes₂ values values₂ r' → (r' ≡ r) × (codes₂ ≡ codes₁) × (values₂ ≡ values₁)
-  pub again : (out out' : List ℕ) (r : Verdict) → n ≤ length out → Normalises o out out' r → (r ≡ Accepted n) × (take n out' ≡ o)
+  pub again : (out out' : List ℕ) (r : Result ℕ Refusal) → n ≤ length out → Normalises o out out' r → (r ≡ Ok n) × (take n out' ≡ o)
 
 pub record Demand3 : Type 0 where
   -- every accepted sheet whose normal form keeps the limits and fits the room lent is rewritten
@@ -166,4 +164,4 @@ pub record Demand3 : Type 0 where
   -- what is written is as demanded
   pub holds : (bs : List ℕ) (s : Sheet) (lent : ℕ) (o : List ℕ) → check bs ≡ accepted s → normalise bs lent ≡ accepted o → NormalFormOf bs s o
   -- and so are the calls
-  pub calls : (sheet out out' : List ℕ) (n : ℕ) → Normalises sheet out out' (Accepted n) → RewrittenCalls sheet (take n out') n
+  pub calls : (sheet out out' : List ℕ) (n : ℕ) → Normalises sheet out out' (Ok n) → RewrittenCalls sheet (take n out') n

@@ -1,13 +1,13 @@
--- The body of a variable at an element: its byte in the table of the elements that are inside, and that it may be walked there.
+-- The body of a variable at an element: what the table says of it, and that it may be walked there.
 -- Assumes nothing.
-use mathlib.Core.Path.{◌≡◌, refl, sym, ap, ◌∙◌}
+use mathlib.Core.Path.{◌≡◌, sym, ap, ◌∙◌}
 use Prim.Native.Nat.{ℕ, suc, ◌+◌, ◌≤◌, ◌<◌}
 use native.Mathlib.Omega.{arith}
 use mathlib.Core.Bool.{Bool, true, false, ◌&&◌}
 use mathlib.Core.List.{List, [], ◌∷◌}
 use lib.ListN.{length, get_or}
 use lib.IntN.{pos, nat_abs}
-use Rattle.alpha.specs.declared.Int.{Int}
+use lib.IntN.{ℤ}
 use Rattle.alpha.specs.Pick.{ifb}
 use Rattle.alpha.specs.Sheet.{Range, Point}
 use Rattle.alpha.specs.Affine.{meets_all}
@@ -20,6 +20,7 @@ use Rattle.laws.specs.Sheets.{heads_of, sheet_of}
 use Rattle.laws.proofs.Boxes.{index-point_at, point_at-in_box, read_box-ordered, in_box-small}
 use Rattle.affine.specs.Value.{point_of}
 use Rattle.affine.specs.Size.{Near}
+use Rattle.sheet.specs.declared.table.Table.{Table}
 use Rattle.sheet.specs.Record.{dimension_at}
 use Rattle.points.specs.Number.{PointAt}
 use Rattle.tree.specs.Formed.{Formed}
@@ -27,7 +28,7 @@ use Rattle.domain.specs.declared.Standing.TheVariants.{Holds}
 use Rattle.domain.specs.declared.Stood.{Stood}
 use Rattle.domain.specs.Walk.{Walk}
 use Rattle.domain.specs.Standing.{standing, StandsAt}
-use Rattle.domain.specs.Inside.{Inside, bit}
+use Rattle.domain.specs.Inside.{Inside}
 use Rattle.domain.specs.Element.{body_standing, HasBody}
 use Rattle.domain.proofs.Records.{VariableLaid}
 
@@ -35,7 +36,7 @@ pub near-each : (r : ℕ) (z : Point) → ((i : ℕ) → nat_abs (get_or z i (po
 near-each r [] h = tt
 near-each r (x ∷ z) h = (h 0, near-each r z (λ i. h (suc i)))
 
-module _ (bs tab : List ℕ) (v i : ℕ) (h : VariableLaid bs tab v) (low : i < size (variable (sheet_of bs) v).head.box) where
+module _ (bs : List ℕ) (tab : Table) (v i : ℕ) (h : VariableLaid bs tab v) (low : i < size (variable (sheet_of bs) v).head.box) where
   abbrev box : List Range
   box = (variable (sheet_of bs) v).head.box
 
@@ -46,50 +47,40 @@ module _ (bs tab : List ℕ) (v i : ℕ) (h : VariableLaid bs tab v) (low : i < 
   in-box = point_at-in_box box i (read_box-ordered box h.box_read) low
 
   -- the code's point is the i-th of the box
-  pub point_at_lem : (z : List Int) → PointAt bs (get_or tab v 0) i z → point_of (dimension (heads_of bs) v) z ≡ point
+  pub point_at_lem : (z : List ℤ) → PointAt bs (get_or tab.records v 0) i z → point_of (dimension (heads_of bs) v) z ≡ point
   point_at_lem z at = ap (λ n. point_of n z) (sym h.dims-are) ∙ at.is ∙ ap (λ b. point_at b i) h.box-is
 
-  pub point-inside : (z : List Int) → PointAt bs (get_or tab v 0) i z → in_box box (point_of (dimension (heads_of bs) v) z) ≡ true
+  pub point-inside : (z : List ℤ) → PointAt bs (get_or tab.records v 0) i z → in_box box (point_of (dimension (heads_of bs) v) z) ≡ true
   point-inside z at = ap (in_box box) (point_at_lem z at) ∙ in-box
 
-  pub number-low : get_or tab (32 + v) 0 + i < 4096
+  pub number-low : get_or tab.firsts v 0 + i < 4096
   number-low = omega (arith, h.first_is, h.few)
 
-  -- ---- its byte
+  -- ---- whether it is inside
 
-  module _ (inside : List ℕ) (t : Inside (sheet_of bs) inside) where
-    byte_is : get_or inside (get_or tab (32 + v) 0 + i) 0 ≡ bit (meets_all (variable (sheet_of bs) v).declared point)
-    byte_is =
-        let n : number_of (sheet_of bs) v point ≡ get_or tab (32 + v) 0 + i = omega (arith, index-point_at box i low, h.first_is) in
-        rw n at (t.says v point h.known in-box)
+  module _ (inside : List Bool) (t : Inside (sheet_of bs) inside) where
+    in-domain : in_domain (variable (sheet_of bs) v) point ≡ get_or inside (get_or tab.firsts v 0 + i) false
+    in-domain =
+        let n : number_of (sheet_of bs) v point ≡ get_or tab.firsts v 0 + i = omega (arith, index-point_at box i low, h.first_is) in
+        ap (λ b. b && meets_all (variable (sheet_of bs) v).declared point) in-box ∙ sym (rw n at (t.says v point h.known in-box))
 
-    in-domain : in_domain (variable (sheet_of bs) v) point ≡ meets_all (variable (sheet_of bs) v).declared point
-    in-domain = ap (λ b. b && meets_all (variable (sheet_of bs) v).declared point) in-box
+    told-asks : (b : Bool) → get_or inside (get_or tab.firsts v 0 + i) false ≡ b →
+        ifb b (λ _. standing (variable (sheet_of bs) v).body (sheet_of bs) point) (λ _. Holds) ≡ body_standing (sheet_of bs) v point
+    told-asks b e =
+        ap (λ b. ifb b (λ _. standing (variable (sheet_of bs) v).body (sheet_of bs) point) (λ _. Holds)) (sym (in-domain ∙ e))
 
-    pub byte-asks : get_or inside (get_or tab (32 + v) 0 + i) 0 ≡ 1 →
+    pub within-asks : get_or inside (get_or tab.firsts v 0 + i) false ≡ true →
         standing (variable (sheet_of bs) v).body (sheet_of bs) point ≡ body_standing (sheet_of bs) v point
-    byte-asks one =
-        sym (ap (λ b. ifb b (λ _. standing (variable (sheet_of bs) v).body (sheet_of bs) point) (λ _. Holds))
-        (go (in_domain (variable (sheet_of bs) v) point) in-domain))
-      where
-        go : (b : Bool) → b ≡ meets_all (variable (sheet_of bs) v).declared point → b ≡ true
-        go true e = refl
-        go false e = let f : bit false ≡ 1 = rw (← e) at (sym byte_is ∙ one) in absurd (omega arith)
+    within-asks = told-asks true
 
-    pub byte-skips : (get_or inside (get_or tab (32 + v) 0 + i) 0 ≡ 1 → ⊥) → Holds ≡ body_standing (sheet_of bs) v point
-    byte-skips other =
-        sym (ap (λ b. ifb b (λ _. standing (variable (sheet_of bs) v).body (sheet_of bs) point) (λ _. Holds))
-        (go (in_domain (variable (sheet_of bs) v) point) in-domain))
-      where
-        go : (b : Bool) → b ≡ meets_all (variable (sheet_of bs) v).declared point → b ≡ false
-        go true e = let f : get_or inside (get_or tab (32 + v) 0 + i) 0 ≡ 1 = byte_is ∙ ap bit (sym e) in absurd (other f)
-        go false e = refl
+    pub without-skips : get_or inside (get_or tab.firsts v 0 + i) false ≡ false → Holds ≡ body_standing (sheet_of bs) v point
+    without-skips = told-asks false
 
   -- ---- its walk
 
-  module _ (f : Formed bs tab) (body : HasBody bs v) (z : List Int)
-      (at : PointAt bs (get_or tab v 0) i z) (place : ℕ) (place_is : place ≡ get_or tab (69 + v) 0) where
-    dims : dimension_at bs (get_or tab v 0) ≡ length box
+  module _ (f : Formed bs tab) (body : HasBody bs v) (z : List ℤ)
+      (at : PointAt bs (get_or tab.records v 0) i z) (place : ℕ) (place_is : place ≡ get_or tab.bodies v 0) where
+    dims : dimension_at bs (get_or tab.records v 0) ≡ length box
     dims = h.dims-are ∙ ap (λ x. length x.box) (sym h.head_is)
 
     point-is : point_of (length box) z ≡ point

@@ -9,7 +9,7 @@ use mathlib.Core.List.{List}
 use lib.ListN.{length}
 use lib.Dec.{eqb}
 use borrow.Author.Tests.{eqb-true}
-use Rattle.alpha.specs.declared.Int.{Int}
+use lib.IntN.{ℤ}
 use Rattle.alpha.specs.Sheet.{Head, Expr, Exprs, Constraint, Sheet, Point}
 use Rattle.alpha.specs.Sheet.{Expr.var, Expr.int, Expr.boo, Expr.un, Expr.bin, Expr.ite, Expr.kase, Expr.restr, Expr.dep, Exprs.none, Exprs.more}
 use Rattle.alpha.specs.Affine.{meets_all, image}
@@ -30,6 +30,7 @@ use Rattle.tree.specs.Classes.{class_at}
 use Rattle.tree.proofs.Classes.{operator-at, restriction-at, dependence-at}
 use Rattle.domain.specs.declared.Standing.{Standing}
 use Rattle.domain.specs.declared.Standing.TheVariants.{Not, Holds, Clash}
+use Rattle.domain.specs.declared.Together.TheVariants.{Operands}
 use Rattle.domain.specs.Walk.{Ends, Walk, WalkAll}
 use Rattle.domain.specs.Standing.{standing, both, together}
 use Rattle.domain.specs.Held.{Held, HeldAll}
@@ -101,7 +102,7 @@ restricted-holds d cs a s z h = go (meets_all cs z) refl
 
 module _ (bs : List ℕ) where
   -- a tree that may be walked, by any tree there
-  module _ (p left : ℕ) (z : List Int) (e : Expr) (q n : ℕ) (a : At e (vars_of bs) bs p q) (f : fits e (heads_of bs) n ≡ true) where
+  module _ (p left : ℕ) (z : List ℤ) (e : Expr) (q n : ℕ) (a : At e (vars_of bs) bs p q) (f : fits e (heads_of bs) n ≡ true) where
     pub held_by : Walk bs p left z → standing e (sheet_of bs) (point_of n z) ≡ Holds → Held bs p left z
     held_by w g =
         let same = (at-unique (vars_of bs) bs p e w.tree q w.end a w.at).tree_is in
@@ -116,7 +117,7 @@ module _ (bs : List ℕ) where
         let wide = fits-once (vars_of bs) bs (heads_of bs) w.dims n e p q a (rw same at w.fitting) f in
         rw (same, wide) at h.clear
 
-  module _ (p left : ℕ) (z : List Int) (h : Held bs p left z) where
+  module _ (p left : ℕ) (z : List ℤ) (h : Held bs p left z) where
     abbrev w : Walk bs p left z
     w = h.walk
 
@@ -145,7 +146,7 @@ module _ (bs : List ℕ) where
           (restricted-holds x.dim x.given x.child (sheet_of bs) (point_of w.dims z) (sym (ap here x.is) ∙ h.clear))
 
       -- a dependence's child at the image, where its map is m
-      pub held-image : class_at bs p ≡ Dependence → (m : Map) → MapRead bs (p + 8) m → (y : List Int) →
+      pub held-image : class_at bs p ≡ Dependence → (m : Map) → MapRead bs (p + 8) m → (y : List ℤ) →
           point_of m.height y ≡ image (map_of m).rows (point_of m.width z) → Padded m.height y → Held bs k (left - 1) y
       held-image class_is m r y is rest =
           let x = dependence-at bs w.tree p w.end w.at class_is in
@@ -157,12 +158,12 @@ module _ (bs : List ℕ) where
 
   -- ---- so many operands
 
-  module _ (p left n : ℕ) (z : List Int) (some : 1 ≤ n) (h : HeldAll bs p left n z) where
+  module _ (p left n : ℕ) (z : List ℤ) (some : 1 ≤ n) (h : HeldAll bs p left n z) where
     abbrev all : WalkAll bs p left n z
     all = h.walk
 
     abbrev stands : Exprs → Standing
-    stands es = together false es (sheet_of bs) (point_of all.dims z)
+    stands es = together Operands es (sheet_of bs) (point_of all.dims z)
 
     abbrev first : Standing
     first = standing (walks-split bs p left n z some all).first (sheet_of bs) (point_of all.dims z)

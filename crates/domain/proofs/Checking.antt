@@ -16,9 +16,9 @@ use Rattle.alpha.specs.Check.{Element, points_from, points, elements_from, eleme
 use Rattle.alpha.specs.Ask.{before}
 use Rattle.laws.proofs.Elements.{length-points, before-suc}
 use Rattle.domain.specs.declared.Standing.{Standing}
-use Rattle.domain.specs.declared.Standing.TheVariants.{Not, Holds, Clash}
+use Rattle.domain.specs.declared.Standing.TheVariants.{Holds}
 use Rattle.domain.specs.Standing.{rated}
-use Rattle.domain.specs.Element.{elements_at, elements_of, is_clear, fault_of, body_standing}
+use Rattle.domain.specs.Element.{elements_at, elements_of, fault_of, body_standing}
 
 -- ---- one element
 
@@ -45,17 +45,6 @@ module _ (s : Sheet) (v n : ℕ) (z : Point) where
       fault-inside =
           ifb (holds (variable s v).body s z) (λ _. ifb (clashes (variable s v).body s z) (λ _. refused CLASH n) (λ _. accepted tt)) (λ _. refused GAP n)
 
-clear-accepted : (how : Standing) (n : ℕ) → is_clear how ≡ true → fault_of how n ≡ accepted tt
-clear-accepted Not n e = let x : ◌≡◌ {A = ℕ} 0 1 = cc in absurd (omega arith)
-clear-accepted Holds n e = refl
-clear-accepted Clash n e = let x : ◌≡◌ {A = ℕ} 0 1 = cc in absurd (omega arith)
-
--- a fault ends the search
-faulty-stops : (how : Standing) (n : ℕ) (k : Unit {0} → Answer (Unit {0})) → is_clear how ≡ false → next (fault_of how n) k ≡ fault_of how n
-faulty-stops Not n k e = refl
-faulty-stops Holds n k e = let x : ◌≡◌ {A = ℕ} 0 1 = cc in absurd (omega arith)
-faulty-stops Clash n k e = refl
-
 -- ---- the elements of one variable
 
 inputs-clear : (s : Sheet) (v : ℕ) → is_input (variable s v) ≡ true → (zs : List Point) (n : ℕ) → faults s n (elements_at v zs) ≡ accepted tt
@@ -74,12 +63,6 @@ module _ (s : Sheet) (v : ℕ) where
   -- what is answered from the i-th point on is the answer
   pub record BodyReached (i : ℕ) : Type 0 where
     pub decides : faults s (before s v + i) (elements_at v (points_from box i (size box - i))) ≡ faults s (before s v) (elements_of s v)
-
-  pub body-start : BodyReached 0
-  body-start =
-      let e : before s v + 0 ≡ before s v = omega arith in
-      let f : size box - 0 ≡ size box = omega arith in
-      record { decides = rw (e, f) refl }
 
   module _ (i : ℕ) (h : BodyReached i) where
     pub body_end : size box ≤ i → accepted tt ≡ faults s (before s v) (elements_of s v)
@@ -101,19 +84,17 @@ module _ (s : Sheet) (v : ℕ) where
           ap (λ k. faults s (before s v + i) (elements_at v (points_from box i k))) e
           ∙ ap (λ a. next a (λ _. faults s (suc (before s v + i)) (elements_at v (points_from box (suc i) (size box - suc i))))) fault-is
 
-      pub body-fails : is_clear how ≡ false → fault_of how (before s v + i) ≡ faults s (before s v) (elements_of s v)
-      body-fails f =
-          sym (faulty-stops how (before s v + i) (λ _. faults s (suc (before s v + i)) (elements_at v (points_from box (suc i) (size box - suc i)))) f)
-          ∙ sym one ∙ h.decides
+      -- a fault ends the search
+      pub body-fails : (code place : ℕ) → refused code place ≡ fault_of how (before s v + i) → refused code place ≡ faults s (before s v) (elements_of s v)
+      body-fails code place e =
+          ap (λ a. next a (λ _. faults s (suc (before s v + i)) (elements_at v (points_from box (suc i) (size box - suc i))))) e ∙ sym one ∙ h.decides
 
-      pub body-passes : is_clear how ≡ true → BodyReached (i + 1)
-      body-passes t =
+      pub body-passes : accepted tt ≡ fault_of how (before s v + i) → BodyReached (i + 1)
+      body-passes clear =
           let e : suc i ≡ i + 1 = omega arith in
           let f : suc (before s v + i) ≡ before s v + suc i = omega arith in
-          let on =
-          ap (λ a. next a (λ _. faults s (suc (before s v + i)) (elements_at v (points_from box (suc i) (size box - suc i)))))
-          (clear-accepted how (before s v + i) t) in
-          let all = rw f at (sym (one ∙ on) ∙ h.decides) in
+          let on = ap (λ a. next a (λ _. faults s (suc (before s v + i)) (elements_at v (points_from box (suc i) (size box - suc i))))) clear in
+          let all = rw f at (on ∙ sym one ∙ h.decides) in
           record {
             decides =
                 subst (λ j. faults s (before s v + j) (elements_at v (points_from box j (size box - j))) ≡ faults s (before s v) (elements_of s v)) e all;
@@ -135,9 +116,6 @@ module _ (s : Sheet) where
   -- what is answered from variable v on is the answer
   pub record AllReached (v : ℕ) : Type 0 where
     pub decides : faults s (before s v) (elements_from v (drop v s)) ≡ faults s 0 (elements s)
-
-  pub all_start : AllReached 0
-  all_start = record { decides = refl }
 
   module _ (v : ℕ) (h : AllReached v) where
     pub all_end : length s ≤ v → accepted tt ≡ faults s 0 (elements s)

@@ -1,12 +1,13 @@
 -- The branch that a case takes: one holds and no other does, so it is the spared one where none of the others is found to hold; and its
 -- outcome is the case's. Assumes nothing.
 use mathlib.Core.Path.{◌≡◌, refl, sym, ap, ◌∙◌, subst}
+use mathlib.Core.Logic.{◌⊎◌, ⊎_elim}
 use Prim.Native.Nat.{ℕ, ◌-◌, ◌≤◌, ◌<◌}
 use native.Mathlib.Omega.{arith}
 use mathlib.Core.Bool.{Bool, true, false, ◌&&◌}
 use mathlib.Core.List.{List}
 use mathlib.Core.Option.{Option, some}
-use Rattle.alpha.specs.declared.Int.{Int}
+use lib.IntN.{ℤ}
 use Rattle.alpha.specs.Pick.{ifb}
 use Rattle.alpha.specs.Sheet.{Expr, Expr.kase, Exprs, Exprs.none, Exprs.more, Sheet, Point}
 use Rattle.alpha.specs.Shape.{fits, all_fit}
@@ -26,11 +27,12 @@ use Rattle.tree.proofs.Classes.{case_at}
 use Rattle.tree.proofs.Standings.{children-at, children-counted, one_more}
 use Rattle.domain.specs.declared.Standing.{Standing}
 use Rattle.domain.specs.declared.Standing.TheVariants.{Not, Holds, Clash}
+use Rattle.domain.specs.declared.Together.TheVariants.{Branches}
 use Rattle.domain.specs.declared.Stood.{Stood}
 use Rattle.domain.specs.Walk.{Walk, WalkAll}
 use Rattle.domain.specs.Held.{Held}
 use Rattle.domain.specs.Standing.{rated, standing, either, together, StandsAt}
-use Rattle.domain.specs.Holding.{is_held, first_holding, HoldsAt, StandsSo, Picked, Taken, Sought, Chooses}
+use Rattle.domain.specs.Holding.{is_held, first_holding, HoldsAt, StandsSo, Taken, Sought, Chooses}
 use Rattle.domain.proofs.Standings.{branches-stand}
 use Rattle.domain.proofs.Walks.{SamePoint, walk-children, walk_first, children-fit}
 use Rattle.domain.proofs.Carried.{not-held, held_by, held-tree}
@@ -84,22 +86,26 @@ neither-holds Holds Clash e = clash-not e
 neither-holds Clash b e = clash-not e
 
 -- a tree holds as it stands
-pub held_at : (bs : List ℕ) (p : ℕ) (z : List Int) (t : Stood) (r : Bool) → StandsAt bs p z t → r ≡ is_held t.how → HoldsAt bs p z r
+pub held_at : (bs : List ℕ) (p : ℕ) (z : List ℤ) (t : Stood) (r : Bool) → StandsAt bs p z t → r ≡ is_held t.how → HoldsAt bs p z r
 held_at bs p z t r stands is e q n h f = is ∙ ap is_held (stands e q n h f).1 ∙ held-is e (sheet_of bs) (point_of n z)
 
 -- what is found at a place is so of any tree there
-found-so : (bs : List ℕ) (p : ℕ) (z : List Int) (r : Bool) (how : Standing) → HoldsAt bs p z r → StandsSo bs p z how → r ≡ is_held how
+found-so : (bs : List ℕ) (p : ℕ) (z : List ℤ) (r : Bool) (how : Standing) → HoldsAt bs p z r → StandsSo bs p z how → r ≡ is_held how
 found-so bs p z r how found x =
     found x.tree x.end x.dims x.at x.fitting ∙ sym (held-is x.tree (sheet_of bs) (point_of x.dims z)) ∙ ap is_held x.so
 
 -- ---- the ways through the search
 
-module _ (bs : List ℕ) (left : ℕ) (z : List Int) where
+-- of the branch at p and the one that is spared one is tried, and the other is spared from then on
+abbrev pub OneTried : ℕ → ℕ → ℕ → ℕ → Type 0
+OneTried p spared tried kept = ((tried ≡ p) × (kept ≡ spared)) ⊎ ((tried ≡ spared) × (kept ≡ p))
+
+module _ (bs : List ℕ) (left : ℕ) (z : List ℤ) where
   abbrev stands : Expr → ℕ → Standing
   stands e n = standing e (sheet_of bs) (point_of n z)
 
   abbrev branches : Exprs → ℕ → Standing
-  branches es n = together true es (sheet_of bs) (point_of n z)
+  branches es n = together Branches es (sheet_of bs) (point_of n z)
 
   -- no branch is left
   pub none-sought : (p count : ℕ) → count < 1 → (spared : ℕ) → Walk bs spared left z → Sought bs p left count z spared spared
@@ -231,41 +237,26 @@ module _ (bs : List ℕ) (left : ℕ) (z : List Int) where
               (y.another x (rest es q n h m f) q n (rest_at es q n h m f next ends) (split es q n h m f).many (fit-rest es q n h m f) held));
         }
 
-    -- the smaller of the spared one and the first of the others is tried, t, and the larger is kept, k
-    module _ (spared : ℕ) (walk : Walk bs spared left z) (small : Bool) where
-      pub tried-walk : (t : ℕ) → Picked small p spared t → Walk bs t left z
-      tried-walk t e = go small refl
-        where
-          go : (b : Bool) → small ≡ b → Walk bs t left z
-          go true s = rw (e.one s) (walk_first bs p left count z some w)
-          go false s = rw (e.two s) walk
+    module _ (spared : ℕ) (walk : Walk bs spared left z) (tried kept : ℕ) (which : OneTried p spared tried kept) where
+      pub tried-walk : Walk bs tried left z
+      tried-walk = ⊎_elim (λ a. rw a.0 (walk_first bs p left count z some w)) (λ a. rw a.0 walk) which
 
-      pub kept-walk : (k : ℕ) → Picked small spared p k → Walk bs k left z
-      kept-walk k e = go small refl
-        where
-          go : (b : Bool) → small ≡ b → Walk bs k left z
-          go true s = rw (e.one s) walk
-          go false s = rw (e.two s) (walk_first bs p left count z some w)
+      pub kept-walk : Walk bs kept left z
+      kept-walk = ⊎_elim (λ a. rw a.1 walk) (λ a. rw a.1 (walk_first bs p left count z some w)) which
 
-      module _ (t : ℕ) (e : Picked small p spared t) where
-        pub tried-held : HoldsAt bs t z true → Sought bs p left count z spared t
-        tried-held found = go small refl
-          where
-            go : (b : Bool) → small ≡ b → Sought bs p left count z spared t
-            go true s = rw (e.one s) (this-held spared (rw (e.one s) at found))
-            go false s = rw (e.two s) (spared-held spared walk (rw (e.two s) at found))
+      pub tried-held : HoldsAt bs tried z true → Sought bs p left count z spared tried
+      tried-held found =
+          ⊎_elim (λ a. rw a.0 (this-held spared (rw a.0 at found))) (λ a. rw a.0 (spared-held spared walk (rw a.0 at found))) which
 
-        pub tried-lacks : HoldsAt bs t z false → (k : ℕ) → Picked small spared p k → (next : ℕ) → EndsAt (vars_of bs) bs p next →
-            (r : ℕ) → Sought bs next left (count - 1) z k r → Sought bs p left count z spared r
-        tried-lacks found k g next ends r x = go small refl
-          where
-            go : (b : Bool) → small ≡ b → Sought bs p left count z spared r
-            go true s = this-lacks spared next ends r (rw (e.one s) at found) (rw (g.one s) at x)
-            go false s = spared-lacks spared next ends r (rw (e.two s) at found) (rw (g.two s) at x)
+      pub tried-lacks : HoldsAt bs tried z false → (next : ℕ) → EndsAt (vars_of bs) bs p next →
+          (r : ℕ) → Sought bs next left (count - 1) z kept r → Sought bs p left count z spared r
+      tried-lacks found next ends r x =
+          ⊎_elim (λ a. this-lacks spared next ends r (rw a.0 at found) (rw a.1 at x)) (λ a. spared-lacks spared next ends r (rw a.0 at found) (rw a.1 at x))
+          which
 
 -- ---- a case
 
-module _ (bs : List ℕ) (p left k count : ℕ) (z : List Int) (held : Held bs p left z) (class_is : class_at bs p ≡ Case)
+module _ (bs : List ℕ) (p left k count : ℕ) (z : List ℤ) (held : Held bs p left z) (class_is : class_at bs p ≡ Case)
     (next : k ≡ node_end (vars_of bs) bs p) (many : count ≡ arity (node_read (vars_of bs) bs p)) where
   abbrev w : Walk bs p left z
   w = held.walk

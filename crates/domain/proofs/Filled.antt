@@ -1,4 +1,4 @@
--- The declared constraints tested at a point, one after another; and the bytes of the elements, one after another. Assumes nothing.
+-- The declared constraints tested at a point, one after another; and the table of the elements that are inside, filled one after another. Assumes nothing.
 use mathlib.Core.Path.{◌≡◌, refl, sym, ap, ◌∙◌, subst}
 use mathlib.Core.Logic.{⊎_elim}
 use Prim.Native.Nat.{ℕ, zero, suc, ◌+◌, ◌-◌, ◌≤◌, ◌<◌}
@@ -11,7 +11,7 @@ use lib.IntN.{nat_abs}
 use lib.Dec.{eqb, leb}
 use borrow.Author.Tests.{eq-eqb, ne_eqb, leb-true}
 use Rattle.alpha.specs.Pick.{ifb}
-use Rattle.alpha.specs.declared.Int.{Int}
+use lib.IntN.{ℤ}
 use Rattle.alpha.specs.Field.{field}
 use Rattle.alpha.specs.Sheet.{Range, Declared, Sheet, Point}
 use Rattle.alpha.specs.Affine.{meets, meets_all}
@@ -34,11 +34,11 @@ use Rattle.affine.proofs.Several.{lt-or-le}
 use Rattle.tree.specs.Formed.{DeclaredRead, Formed}
 use Rattle.tree.proofs.Heading.{prepared-sections}
 use Rattle.domain.specs.Constraints.{constraint_fields}
-use Rattle.domain.specs.Inside.{Inside, bit}
 use Rattle.domain.specs.Filling.{declared_meets, DeclaredTestable, FilledBelow}
 use Rattle.domain.proofs.Restrictions.{constraint-is, constraint-testable}
 use Rattle.domain.proofs.Records.{VariableLaid}
 use Rattle.domain.proofs.Bodying.{near-each}
+use Rattle.sheet.specs.declared.table.Table.{Table}
 
 -- ---- one declared constraint
 
@@ -58,7 +58,8 @@ module _ (bs : List ℕ) (p v : ℕ) (z : Point) (d : Declared) (q : ℕ) (e : d
 
 -- ---- so many of them
 
-meets-more : (v : ℕ) (z : Point) (d : Declared) (ds : List Declared) → meets_all (of_variable v (d ∷ ds)) z ≡ declared_meets v d z && meets_all (of_variable v ds) z
+meets-more : (v : ℕ) (z : Point) (d : Declared) (ds : List Declared) →
+    meets_all (of_variable v (d ∷ ds)) z ≡ declared_meets v d z && meets_all (of_variable v ds) z
 meets-more v z d ds = go (eqb d.who v)
   where
     go : (b : Bool) → meets_all (ifb b (λ _. d.what ∷ of_variable v ds) (λ _. of_variable v ds)) z
@@ -76,11 +77,12 @@ reach-first v d ds h w =
 reach-rest : (v : ℕ) (d : Declared) (ds : List Declared) → all_reach top_reach (of_variable v (d ∷ ds)) ≡ true → all_reach top_reach (of_variable v ds) ≡ true
 reach-rest v d ds h = go (eqb d.who v) h
   where
-    go : (b : Bool) → all_reach top_reach (ifb b (λ _. d.what ∷ of_variable v ds) (λ _. of_variable v ds)) ≡ true → all_reach top_reach (of_variable v ds) ≡ true
+    go : (b : Bool) → all_reach top_reach (ifb b (λ _. d.what ∷ of_variable v ds) (λ _. of_variable v ds)) ≡ true →
+        all_reach top_reach (of_variable v ds) ≡ true
     go true k = &&-right (leb (row_reach top_reach d.what.row) limit) (all_reach top_reach (of_variable v ds)) k
     go false k = k
 
-module _ (bs : List ℕ) (v : ℕ) (z : List Int) where
+module _ (bs : List ℕ) (v : ℕ) (z : List ℤ) where
   abbrev point : Point
   point = point_of (dimension (heads_of bs) v) z
 
@@ -92,7 +94,7 @@ module _ (bs : List ℕ) (v : ℕ) (z : List Int) where
     pub reaches : all_reach top_reach (of_variable v rest) ≡ true
     pub decides : meets_all (of_variable v rest) point ≡ meets_all (variable (sheet_of bs) v).declared point
 
-  pub meets-left : (tab : List ℕ) → Formed bs tab → v < vars_of bs → (left p : ℕ) → left ≡ nat_abs (field bs (raw_of bs).second) →
+  pub meets-left : (tab : Table) → Formed bs tab → v < vars_of bs → (left p : ℕ) → left ≡ nat_abs (field bs (raw_of bs).second) →
       p ≡ (raw_of bs).second + 8 → MeetsLeft left p
   meets-left tab f lt left p l e =
       let s = prepared-sections bs tab f.placed.prepared in
@@ -128,7 +130,8 @@ module _ (bs : List ℕ) (v : ℕ) (z : List Int) where
     unfolding InRow
     first-met l = go h.rest h.many h.stand h.reaches h.decides
       where
-        go : (ds : List Declared) → length ds ≡ left → InRow ds (declared (heads_of bs)) bs p (raw_of bs).third → all_reach top_reach (of_variable v ds) ≡ true →
+        go : (ds : List Declared) → length ds ≡ left → InRow ds (declared (heads_of bs)) bs p (raw_of bs).third →
+            all_reach top_reach (of_variable v ds) ≡ true →
             meets_all (of_variable v ds) point ≡ meets_all (variable (sheet_of bs) v).declared point → FirstMet
         go [] m r a e = absurd (omega arith)
         go (d ∷ ds) m r a e = record {
@@ -142,7 +145,7 @@ module _ (bs : List ℕ) (v : ℕ) (z : List Int) where
         }
 
     -- the first can be tested at a point of v's box
-    pub first-testable : (tab : List ℕ) → VariableLaid bs tab v → in_box (variable (sheet_of bs) v).head.box point ≡ true → 0 < left → DeclaredTestable bs p v z
+    pub first-testable : (tab : Table) → VariableLaid bs tab v → in_box (variable (sheet_of bs) v).head.box point ≡ true → 0 < left → DeclaredTestable bs p v z
     first-testable tab x inside l =
         let f = first-met l in
         let r = f.read in
@@ -177,7 +180,7 @@ module _ (bs : List ℕ) (v : ℕ) (z : List Int) where
           }
 
 -- where the sheet declares nothing, every point is inside
-pub none-declared : (bs tab : List ℕ) → Formed bs tab → (v : ℕ) → v < vars_of bs → nat_abs (field bs (raw_of bs).second) < 1 → (z : Point) →
+pub none-declared : (bs : List ℕ) (tab : Table) → Formed bs tab → (v : ℕ) → v < vars_of bs → nat_abs (field bs (raw_of bs).second) < 1 → (z : Point) →
     true ≡ meets_all (variable (sheet_of bs) v).declared z
 none-declared bs tab f v lt none z =
     let s = prepared-sections bs tab f.placed.prepared in
@@ -187,7 +190,7 @@ none-declared bs tab f v lt none z =
     go [] m = refl
     go (d ∷ ds) m = absurd (omega arith)
 
--- ---- the bytes
+-- ---- the table
 
 -- a later variable's first element comes no earlier
 before_more : (s : Sheet) (w v : ℕ) → w ≤ v → v ≤ length s → before s w ≤ before s v
@@ -198,57 +201,48 @@ before_more s w (suc v) l k = ⊎_elim (λ h. omega (arith, before_more s w v (o
     same : suc v ≤ w → before s w ≤ before s (suc v)
     same h = let e : w ≡ suc v = omega arith in rw e (omega arith)
 
--- the bytes below v, and those of the first i elements of v
-pub record FilledTo (s : Sheet) (v i : ℕ) (inside : List ℕ) : Type 0 where
+-- the table says it of the elements below v, and of the first i elements of v
+pub record FilledTo (s : Sheet) (v i : ℕ) (inside : List Bool) : Type 0 where
   pub below : FilledBelow s v inside
-  pub here : (j : ℕ) → j < i → get_or inside (before s v + j) 0 ≡ bit (meets_all (variable s v).declared (point_at (variable s v).head.box j))
-
-pub fill_start : (s : Sheet) (inside : List ℕ) → length inside ≡ 4096 → FilledBelow s 0 inside
-fill_start s inside l = record { sized = l; says = λ w z lt k b. absurd (omega arith) }
-
-pub fill_end : (s : Sheet) (v : ℕ) (inside : List ℕ) → length s ≤ v → FilledBelow s v inside → Inside s inside
-fill_end s v inside l h = record { sized = h.sized; says = λ w z lt b. h.says w z (omega arith) lt b }
+  pub here : (j : ℕ) → j < i → get_or inside (before s v + j) false ≡ meets_all (variable s v).declared (point_at (variable s v).head.box j)
 
 module _ (s : Sheet) (v : ℕ) where
   abbrev box : List Range
   box = (variable s v).head.box
 
-  pub fill_none : (inside : List ℕ) → FilledBelow s v inside → FilledTo s v 0 inside
-  fill_none inside h = record { below = h; here = λ j lt. absurd (omega arith) }
-
   -- the elements of earlier variables have lower numbers
   earlier-low : (w : ℕ) (z : Point) → w < v → v ≤ length s → in_box (variable s w).head.box z ≡ true → number_of s w z < before s v
   earlier-low w z lt le b = omega (arith, before-suc s w (omega arith), index-low (variable s w).head.box z b, before_more s (suc w) v (omega arith) le)
 
-  pub fill_one : (inside inside' : List ℕ) (i n : ℕ) (met : Bool) → v < length s → FilledTo s v i inside → n ≡ before s v + i → n < 4096 →
-      met ≡ meets_all (variable s v).declared (point_at box i) → inside' ≡ set inside n (bit met) → FilledTo s v (i + 1) inside'
+  pub fill_one : (inside inside' : List Bool) (i n : ℕ) (met : Bool) → v < length s → FilledTo s v i inside → n ≡ before s v + i → n < 4096 →
+      met ≡ meets_all (variable s v).declared (point_at box i) → inside' ≡ set inside n met → FilledTo s v (i + 1) inside'
   fill_one inside inside' i n met low h is fits m e = rw e (record {
     below = record {
-      sized = simp length-set h.below.sized;
+      sized = simp (length-set {A = Bool}) h.below.sized;
       says = λ w z lt k b.
           let less = earlier-low w z lt (omega arith) b in
-          get_or-set_other inside n (number_of s w z) (bit met) 0 (λ x. omega arith) ∙ h.below.says w z lt k b;
+          get_or-set_other inside n (number_of s w z) met false (λ x. omega arith) ∙ h.below.says w z lt k b;
     };
     here = λ j lt. ⊎_elim (earlier j) (last j lt) (lt-or-le j i);
   })
     where
-      earlier : (j : ℕ) → j < i → get_or (set inside n (bit met)) (before s v + j) 0 ≡ bit (meets_all (variable s v).declared (point_at box j))
-      earlier j lt = get_or-set_other inside n (before s v + j) (bit met) 0 (λ x. omega arith) ∙ h.here j lt
+      earlier : (j : ℕ) → j < i → get_or (set inside n met) (before s v + j) false ≡ meets_all (variable s v).declared (point_at box j)
+      earlier j lt = get_or-set_other inside n (before s v + j) met false (λ x. omega arith) ∙ h.here j lt
 
-      last : (j : ℕ) → j < i + 1 → i ≤ j → get_or (set inside n (bit met)) (before s v + j) 0 ≡ bit (meets_all (variable s v).declared (point_at box j))
+      last : (j : ℕ) → j < i + 1 → i ≤ j → get_or (set inside n met) (before s v + j) false ≡ meets_all (variable s v).declared (point_at box j)
       last j lt le =
           let j-is : j ≡ i = omega arith in
-          let same : get_or (set inside n (bit met)) n 0 ≡ bit met = get_or-set_same inside n (bit met) 0 (omega (arith, h.below.sized)) in
-          rw (j-is, ← is) (same ∙ ap bit m)
+          let same : get_or (set inside n met) n false ≡ met = get_or-set_same inside n met false (omega (arith, h.below.sized)) in
+          rw (j-is, ← is) (same ∙ m)
 
-  pub fill-all : (inside : List ℕ) (i : ℕ) → size box ≤ i → FilledTo s v i inside → FilledBelow s (v + 1) inside
+  pub fill-all : (inside : List Bool) (i : ℕ) → size box ≤ i → FilledTo s v i inside → FilledBelow s (v + 1) inside
   fill-all inside i le h = record { sized = h.below.sized; says = λ w z lt k b. ⊎_elim (λ l. h.below.says w z l k b) (λ l. own w z lt l b) (lt-or-le w v) }
     where
-      mine : (z : Point) → in_box box z ≡ true → get_or inside (number_of s v z) 0 ≡ bit (meets_all (variable s v).declared z)
-      mine z b = h.here (index box z) (omega (arith, index-low box z b)) ∙ ap (λ y. bit (meets_all (variable s v).declared y)) (point_at-index box z b)
+      mine : (z : Point) → in_box box z ≡ true → get_or inside (number_of s v z) false ≡ meets_all (variable s v).declared z
+      mine z b = h.here (index box z) (omega (arith, index-low box z b)) ∙ ap (meets_all (variable s v).declared) (point_at-index box z b)
 
       own : (w : ℕ) (z : Point) → w < v + 1 → v ≤ w → in_box (variable s w).head.box z ≡ true →
-          get_or inside (number_of s w z) 0 ≡ bit (meets_all (variable s w).declared z)
+          get_or inside (number_of s w z) false ≡ meets_all (variable s w).declared z
       own w z lt l b =
           let e : v ≡ w = omega arith in
-          subst (λ u. in_box (variable s u).head.box z ≡ true → get_or inside (number_of s u z) 0 ≡ bit (meets_all (variable s u).declared z)) e (mine z) b
+          subst (λ u. in_box (variable s u).head.box z ≡ true → get_or inside (number_of s u z) false ≡ meets_all (variable s u).declared z) e (mine z) b

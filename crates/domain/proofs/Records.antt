@@ -1,8 +1,8 @@
--- What the table and the bytes say of a variable of a sheet that is laid out: its record, its box, its first element. Assumes nothing.
+-- What the table says of a variable of a sheet that is laid out: its record, its box, its first element. Assumes nothing.
 use mathlib.Core.Path.{◌≡◌, refl, sym, ap, ◌∙◌}
 use Prim.Native.Nat.{ℕ, zero, suc, ◌+◌, ◌*◌, ◌≤◌, ◌<◌}
 use native.Mathlib.Omega.{arith}
-use mathlib.Core.Bool.{true, ◌&&◌}
+use mathlib.Core.Bool.{Bool, true, ◌&&◌}
 use mathlib.Core.List.{List, [], ◌∷◌, ◌++◌, map}
 use lib.ListN.{length, get_or, length-map, get_or-map}
 use lib.IntN.{ℤ, pos, neg_ℤ}
@@ -23,11 +23,14 @@ use Rattle.laws.proofs.Order.{le_z-trans}
 use Rattle.laws.proofs.Heads.{RangeAt, HeadAt, head_at, head-range, head-box}
 use Rattle.laws.proofs.Bodies.{BodiesRead, bodies-read}
 use Rattle.laws.proofs.Elements.{before-suc, before-fits}
+use Rattle.sheet.specs.declared.table.Table.{Table}
 use Rattle.sheet.specs.Record.{box_at, dimension_at, Recorded}
 use Rattle.sheet.specs.Record as Record
 use Rattle.points.specs.Number.{box_of}
 use Rattle.tree.proofs.Heading.{prepared-sections, prepared-few}
 use Rattle.tree.specs.Formed.{BodiesPlaced}
+use Rattle.domain.specs.Ground.{Laid, Grounds}
+use Rattle.domain.specs.Inside.{Inside}
 
 -- ---- a record by its place
 
@@ -111,20 +114,31 @@ before-points (x ∷ s) (suc v) = ap (λ n. size x.head.box + n) (before-points 
 
 -- ---- a variable of a sheet that is laid out
 
-pub record VariableLaid (bs tab : List ℕ) (v : ℕ) : Type 0 where
+pub record VariableLaid (bs : List ℕ) (tab : Table) (v : ℕ) : Type 0 where
   pub low : v < 32
   pub known : v < length (sheet_of bs)
   pub head_is : (variable (sheet_of bs) v).head ≡ get_or (heads_of bs) v no_head
-  pub recorded : Recorded bs (get_or tab v 0)
-  pub box-is : box_of bs (get_or tab v 0) ≡ (variable (sheet_of bs) v).head.box
+  pub recorded : Recorded bs (get_or tab.records v 0)
+  pub box-is : box_of bs (get_or tab.records v 0) ≡ (variable (sheet_of bs) v).head.box
   pub box_read : read_box (variable (sheet_of bs) v).head.box ≡ true
-  pub dims-are : dimension_at bs (get_or tab v 0) ≡ dimension (heads_of bs) v
-  pub first_is : get_or tab (32 + v) 0 ≡ before (sheet_of bs) v
-  pub last-is : get_or tab (32 + (v + 1)) 0 ≡ before (sheet_of bs) v + size (variable (sheet_of bs) v).head.box
+  pub dims-are : dimension_at bs (get_or tab.records v 0) ≡ dimension (heads_of bs) v
+  pub first_is : get_or tab.firsts v 0 ≡ before (sheet_of bs) v
+  pub last-is : get_or tab.firsts (v + 1) 0 ≡ before (sheet_of bs) v + size (variable (sheet_of bs) v).head.box
   -- its elements are numbered below 4,096
   pub few : before (sheet_of bs) v + size (variable (sheet_of bs) v).head.box ≤ 4096
 
-module _ (bs tab : List ℕ) (h : BodiesPlaced bs tab) where
+pub laid-of : {bs : List ℕ} {tab : Table} {v : ℕ} → VariableLaid bs tab v → Laid bs tab v
+laid-of h = record {
+  low = h.low;
+  known = h.known;
+  recorded = h.recorded;
+  box-is = h.box-is;
+  dims-are = h.dims-are;
+  first_is = h.first_is;
+  few = h.few;
+}
+
+module _ (bs : List ℕ) (tab : Table) (h : BodiesPlaced bs tab) where
   laid-bodies : BodiesRead (raw_of bs) bs (heads_of bs) 0 (raw_of bs).first (raw_of bs).nodes (sheet_of bs)
   laid-bodies = bodies-read (raw_of bs) bs h.shaped
 
@@ -138,7 +152,7 @@ module _ (bs tab : List ℕ) (h : BodiesPlaced bs tab) where
   laid-head v = sym (get_or-map (λ x. x.head) (sheet_of bs) v no_variable) ∙ ap (λ l. get_or l v no_head) laid-bodies.heads_are
 
   -- the first element of a variable, and the total after the last
-  first : (v : ℕ) → v ≤ vars_of bs → get_or tab (32 + v) 0 ≡ before (sheet_of bs) v
+  first : (v : ℕ) → v ≤ vars_of bs → get_or tab.firsts v 0 ≡ before (sheet_of bs) v
   first v le = h.prepared.table.first-element v le ∙ ap (λ l. Record.before l v) (sym laid-bodies.heads_are) ∙ before-points (sheet_of bs) v
 
   pub laid-variable : (v : ℕ) → v < vars_of bs → VariableLaid bs tab v
@@ -160,3 +174,8 @@ module _ (bs tab : List ℕ) (h : BodiesPlaced bs tab) where
             first (v + 1) (omega arith) ∙ ap (before (sheet_of bs)) e ∙ before-suc (sheet_of bs) v known;
         few = omega (arith, before-fits (sheet_of bs) v known, laid-total);
       }
+
+-- what a walk needs of the tables
+pub placed-grounds : (bs : List ℕ) (tab : Table) (inside : List Bool) → BodiesPlaced bs tab → Inside (sheet_of bs) inside → Grounds bs tab inside
+placed-grounds bs tab inside h i =
+    record { some = (prepared-sections bs tab h.prepared).some; laid = λ v lt. laid-of (laid-variable bs tab h v lt); inside_is = i }

@@ -1,15 +1,16 @@
 -- A restriction's constraints are what its fields say, and may be tested at any point that the walk may be at. Assumes nothing.
 use mathlib.Core.Path.{◌≡◌, refl, sym, ap, ◌∙◌, subst}
-use Prim.Native.Nat.{ℕ, suc, ◌+◌, ◌-◌, ◌*◌, ◌^◌, ◌≤◌, ◌<◌}
+use Prim.Native.Nat.{ℕ, zero, suc, ◌+◌, ◌-◌, ◌*◌, ◌^◌, ◌≤◌, ◌<◌}
 use native.Mathlib.Omega.{arith}
 use native.Mathlib.Nat.{suc-mul}
-use mathlib.Core.Bool.{true, false, ◌&&◌}
+use mathlib.Core.Bool.{Bool, true, ◌&&◌}
 use mathlib.Core.List.{List, [], ◌∷◌}
 use lib.ListN.{length, get_or}
 use lib.IntN.{nat_abs}
 use lib.Dec.{leb}
 use borrow.Author.Tests.{leb-true}
-use Rattle.alpha.specs.declared.Int.{Int}
+use Rattle.std.specs.List.{list_all, range_with_len}
+use lib.IntN.{ℤ}
 use Rattle.alpha.specs.Field.{field}
 use Rattle.alpha.specs.Sheet.{Relation, Row, Constraint, Point}
 use Rattle.alpha.specs.Affine.{meets, meets_all}
@@ -22,10 +23,8 @@ use Rattle.laws.proofs.Readers.{counted_is}
 use Rattle.laws.proofs.Rows.{ConstraintAt}
 use Rattle.laws.proofs.Nodes.{Restricts, restr-constraint}
 use Rattle.laws.proofs.Shapes.{RestrAt}
-use Rattle.affine.specs.declared.Row.{Row as Coded}
-use Rattle.affine.specs.Value.{point_of, row_of, NeatRow}
+use Rattle.affine.specs.Value.{point_of}
 use Rattle.affine.specs.Size.{Near, row_size}
-use Rattle.affine.proofs.Several.{row_size-neat}
 use Rattle.affine.proofs.Bounds.{row_size-near}
 use Rattle.tree.specs.declared.Class.TheVariants.{Restriction}
 use Rattle.tree.specs.Classes.{class_at}
@@ -55,13 +54,6 @@ constraint-testable n bs p c h few bound z near k = record {
   small = subst (λ w. row_size w z < 2 ^ 63) (row-fields n bs (p + 8) c.row h.stands) (omega (arith, row_size-near bound c.row z near));
 }
 
--- a row of n coefficients that is w, with zeros beyond
-pub neat-small : (n : ℕ) (r : Coded) (z : List Int) → NeatRow n r → (w : Row) → row_of n r ≡ w → row_size w (point_of n z) < 2 ^ 63 →
-    row_size (row_of 4 r) (point_of 4 z) < 2 ^ 63
-neat-small n r z h w e k =
-    let l : row_size (row_of n r) (point_of n z) < 2 ^ 63 = subst (λ x. row_size x (point_of n z) < 2 ^ 63) (sym e) k in
-    omega (arith, row_size-neat n r h z)
-
 -- ---- one after another
 
 module _ (n : ℕ) (bs : List ℕ) where
@@ -84,44 +76,32 @@ module _ (n : ℕ) (bs : List ℕ) where
       ap (λ x. x ∷ cs) (constraint-is n bs p c (each_first c cs p h))
       ∙ ap (λ l. constraint_fields n bs p ∷ l) (constraints-are cs (p + (16 + 8 * n)) (each-rest c cs p h))
 
-  module _ (few : n ≤ 4) (bound : ℕ) (z : Point) (near : Near bound z) where
-    constraints-testable : (cs : List Constraint) (p : ℕ) → Each cs p → all_reach bound cs ≡ true → AllTestable (length cs) bs p n z
-    unfolding AllTestable
-    constraints-testable [] p h r = tt
-    constraints-testable (c ∷ cs) p h r = (
-      constraint-testable n bs p c (each_first c cs p h) few bound z near
-          (leb-true (row_reach bound c.row) limit (&&-left (leb (row_reach bound c.row) limit) (all_reach bound cs) r)),
-      constraints-testable cs (p + (16 + 8 * n)) (each-rest c cs p h) (&&-right (leb (row_reach bound c.row) limit) (all_reach bound cs) r),
-    )
+  -- the i-th of constraints that are within reach is
+  reach-each : (bound : ℕ) (cs : List Constraint) (i : ℕ) → i < length cs → (c : Constraint) → all_reach bound cs ≡ true →
+      row_reach bound (get_or cs i c).row ≤ limit
+  reach-each bound [] i lt d r = absurd (omega arith)
+  reach-each bound (c ∷ cs) zero lt d r = leb-true (row_reach bound c.row) limit (&&-left (leb (row_reach bound c.row) limit) (all_reach bound cs) r)
+  reach-each bound (c ∷ cs) (suc i) lt d r = reach-each bound cs i (omega arith) d (&&-right (leb (row_reach bound c.row) limit) (all_reach bound cs) r)
 
--- ---- the ways through a test of so many
+  constraints-testable : n ≤ 4 → (bound : ℕ) (z : Point) → Near bound z → (cs : List Constraint) (p : ℕ) → Each cs p → all_reach bound cs ≡ true →
+      AllTestable (length cs) bs p n z
+  constraints-testable few bound z near cs p h r i lt =
+      let d = constraint_fields n bs p in
+      constraint-testable n bs (p + i * (16 + 8 * n)) (get_or cs i d) (h i lt d) few bound z near (reach-each bound cs i lt d r)
 
-module _ (bs : List ℕ) (p n k : ℕ) (z : Point) (some : 0 < k) where
-  split : (j : ℕ) → k ≡ suc j → AllTestable k bs p n z → Testable bs p n z × AllTestable (k - 1) bs (p + (16 + 8 * n)) n z
-  unfolding AllTestable
-  split j e h = let f : k - 1 ≡ j = omega arith in rw f (rw e at h)
+-- ---- a test of so many, by their number
 
-  pub testable-first : AllTestable k bs p n z → Testable bs p n z
-  testable-first h = (split (k - 1) (omega arith) h).0
+module _ (n : ℕ) (bs : List ℕ) (z : Point) (p : ℕ) where
+  abbrev pub meets_at : ℕ → Bool
+  meets_at i = meets (constraint_fields n bs (p + i * (16 + 8 * n))) z
 
-  pub testable-rest : AllTestable k bs p n z → AllTestable (k - 1) bs (p + (16 + 8 * n)) n z
-  testable-rest h = (split (k - 1) (omega arith) h).1
-
-  first_rest : (j : ℕ) → k ≡ suc j → meets_all (constraints_fields k n bs p) z
-      ≡ meets (constraint_fields n bs p) z && meets_all (constraints_fields j n bs (p + (16 + 8 * n))) z
+  pub all-meet : (k a q : ℕ) → q ≡ p + a * (16 + 8 * n) → list_all meets_at (range_with_len a k) ≡ meets_all (constraints_fields k n bs q) z
   unfolding constraints_fields
-  first_rest j e = ap (λ i. meets_all (constraints_fields i n bs p) z) e
-
-  pub first-fails : meets (constraint_fields n bs p) z ≡ false → meets_all (constraints_fields k n bs p) z ≡ false
-  first-fails f = first_rest (k - 1) (omega arith) ∙ ap (λ b. b && meets_all (constraints_fields (k - 1) n bs (p + (16 + 8 * n))) z) f
-
-  pub first_holds : meets (constraint_fields n bs p) z ≡ true →
-      meets_all (constraints_fields (k - 1) n bs (p + (16 + 8 * n))) z ≡ meets_all (constraints_fields k n bs p) z
-  first_holds t = sym (first_rest (k - 1) (omega arith) ∙ ap (λ b. b && meets_all (constraints_fields (k - 1) n bs (p + (16 + 8 * n))) z) t)
-
-pub none-fail : (bs : List ℕ) (p n k : ℕ) (z : Point) → k ≤ 0 → meets_all (constraints_fields k n bs p) z ≡ true
-unfolding constraints_fields
-none-fail bs p n k z h = let e : k ≡ 0 = omega arith in rw e refl
+  all-meet zero a q e = refl
+  all-meet (suc k) a q e =
+      let next : q + (16 + 8 * n) ≡ p + (a + 1) * (16 + 8 * n) = omega (arith, suc-mul a (16 + 8 * n)) in
+      ap (λ x. meets (constraint_fields n bs x) z && list_all meets_at (range_with_len (a + 1) k)) (sym e)
+      ∙ ap (λ b. meets (constraint_fields n bs q) z && b) (all-meet k (a + 1) (q + (16 + 8 * n)) next)
 
 -- ---- a restriction
 
@@ -131,7 +111,7 @@ module _ (bs : List ℕ) (p : ℕ) where
       cs ≡ constraints_fields (nat_abs (field bs (p + 16))) (nat_abs (field bs (p + 8))) bs (p + 24)
   restriction-says d cs h = rw (← counted_is h.many, ← counted_is h.dim) (constraints-are d bs cs (p + 24) (λ i lt c. restr-constraint h i lt c))
 
-  module _ (left : ℕ) (z : List Int) (h : Walk bs p left z) (class_is : class_at bs p ≡ Restriction) where
+  module _ (left : ℕ) (z : List ℤ) (h : Walk bs p left z) (class_is : class_at bs p ≡ Restriction) where
     here : RestrAt h.tree (vars_of bs) bs p h.end
     here = restriction-at bs h.tree p h.end h.at class_is
 

@@ -15,6 +15,8 @@ use Rattle.tree.specs.declared.Class.TheVariants.{Operator}
 use Rattle.tree.specs.Classes.{class_of}
 use Rattle.tree.proofs.Classes.{operator-tree}
 use Rattle.domain.specs.declared.Standing.{Standing}
+use Rattle.domain.specs.declared.Together.{Together}
+use Rattle.domain.specs.declared.Together.TheVariants.{Branches, Operands}
 use Rattle.domain.specs.declared.Standing.TheVariants.{Not, Holds, Clash}
 use Rattle.domain.specs.Standing.{rated, standing, both, either, joined, alone, together}
 
@@ -48,17 +50,17 @@ either-assoc Holds Holds Clash = refl
 either-assoc Holds Clash c = refl
 either-assoc Clash b c = refl
 
-pub joined-alone : (branches : Bool) (a : Standing) → joined branches a (alone branches) ≡ a
-joined-alone true a = either-alone a
-joined-alone false a = both-alone a
+pub joined-alone : (which : Together) (a : Standing) → joined which a (alone which) ≡ a
+joined-alone Branches a = either-alone a
+joined-alone Operands a = both-alone a
 
-pub joined-assoc : (branches : Bool) (a b c : Standing) → joined branches (joined branches a b) c ≡ joined branches a (joined branches b c)
-joined-assoc true a b c = either-assoc a b c
-joined-assoc false a b c = both-assoc a b c
+pub joined-assoc : (which : Together) (a b c : Standing) → joined which (joined which a b) c ≡ joined which a (joined which b c)
+joined-assoc Branches a b c = either-assoc a b c
+joined-assoc Operands a b c = both-assoc a b c
 
-pub alone-joined : (branches : Bool) (a : Standing) → joined branches (alone branches) a ≡ a
-alone-joined true a = refl
-alone-joined false a = refl
+pub alone-joined : (which : Together) (a : Standing) → joined which (alone which) a ≡ a
+alone-joined Branches a = refl
+alone-joined Operands a = refl
 
 -- ---- operands
 
@@ -71,9 +73,9 @@ rated-both true true true true = refl
 
 module _ (s : Sheet) (z : Point) where
   -- an operator stands as its operands together
-  pub operands-stand : (e : Expr) → class_of (node_of e) ≡ Operator → standing e s z ≡ together false (children_of e) s z
+  pub operands-stand : (e : Expr) → class_of (node_of e) ≡ Operator → standing e s z ≡ together Operands (children_of e) s z
   unfolding holds clashes together
-  operands-stand = operator-tree (λ e. standing e s z ≡ together false (children_of e) s z) (λ o a. sym (both-alone (standing a s z))) (λ o a b.
+  operands-stand = operator-tree (λ e. standing e s z ≡ together Operands (children_of e) s z) (λ o a. sym (both-alone (standing a s z))) (λ o a b.
       rated-both (holds a s z) (clashes a s z) (holds b s z) (clashes b s z) ∙ ap (both (standing a s z)) (sym (both-alone (standing b s z)))) (λ a b c.
       rated-both (holds a s z && holds b s z) (clashes a s z || clashes b s z) (holds c s z) (clashes c s z)
       ∙ ap (λ x. both x (standing c s z)) (rated-both (holds a s z) (clashes a s z) (holds b s z) (clashes b s z))
@@ -118,7 +120,7 @@ module _ (s : Sheet) (z : Point) where
       true-clash false deep n = refl
 
   -- a case stands as its branches together
-  pub branches-stand : (es : Exprs) → standing (kase es) s z ≡ together true es s z
+  pub branches-stand : (es : Exprs) → standing (kase es) s z ≡ together Branches es s z
   unfolding holds two_hold clashes together
   branches-stand none = refl
   branches-stand (more e es) =

@@ -8,7 +8,7 @@ use mathlib.Core.List.{List}
 use lib.ListN.{length}
 use lib.Dec.{leb, eqb}
 use borrow.Author.Tests.{leb-true, eqb-true}
-use Rattle.alpha.specs.declared.Int.{Int}
+use lib.IntN.{ℤ}
 use Rattle.alpha.specs.Sheet.{Expr}
 use Rattle.alpha.specs.Sheet.{Expr.var, Expr.int, Expr.boo, Expr.un, Expr.bin, Expr.ite, Expr.kase, Expr.restr, Expr.dep}
 use Rattle.alpha.specs.Affine.{image}
@@ -32,9 +32,9 @@ use Rattle.affine.proofs.Bounds.{image-near, map-fits}
 use Rattle.tree.specs.declared.Class.{Class}
 use Rattle.tree.specs.declared.Class.TheVariants.{Leaf, Operator, Case, Restriction, Dependence}
 use Rattle.tree.specs.Classes.{class_of, class_at}
-use Rattle.tree.specs.Standing.{Standing}
+use Rattle.tree.specs.Standing.{Standing, Noded}
 use Rattle.tree.proofs.Classes.{class_same, dependence-at}
-use Rattle.tree.proofs.Standings.{children-at, children-counted, one_more}
+use Rattle.tree.proofs.Standings.{standing-noded, standing-some, children-at, children-counted, one_more}
 use Rattle.domain.specs.Walk.{Ends, Walk, WalkAll}
 
 -- the children of a node of this class stand at its own point
@@ -94,7 +94,7 @@ module _ (bs : List ℕ) (e : Expr) (p q n : ℕ) (f : fits e (heads_of bs) n �
       width_is = width-cols m map_is ∙ dependence-dims
 
       -- y is the image of z
-      pub image-is : (z y : List Int) → point_of m.height y ≡ image (map_of m).rows (point_of m.width z) →
+      pub image-is : (z y : List ℤ) → point_of m.height y ≡ image (map_of m).rows (point_of m.width z) →
           point_of (length x.by.rows) y ≡ image x.by.rows (point_of n z)
       image-is z y is = rw (height-length m map_is, width_is) at (is ∙ ap (λ w. image w.rows (point_of m.width z)) map_is)
 
@@ -107,7 +107,8 @@ module _ (bs : List ℕ) where
     pub children-fit : (n : ℕ) → fits e (heads_of bs) n ≡ true → all_fit (children_of e) (heads_of bs) n ≡ true
     children-fit n f =
         rw (same-below e n 0 same_here).0 at
-        (&&-right (fits_here (node_of e) (heads_of bs) n) (all_fit (children_of e) (heads_of bs) (wanted (node_of e) n)) (sym (fits-children (heads_of bs) n e) ∙ f))
+        (&&-right (fits_here (node_of e) (heads_of bs) n) (all_fit (children_of e) (heads_of bs) (wanted (node_of e) n))
+        (sym (fits-children (heads_of bs) n e) ∙ f))
 
     -- and its reach
     pub children-reach : (r : ℕ) → reach e r ≡ true → reach_all (children_of e) r ≡ true
@@ -115,9 +116,16 @@ module _ (bs : List ℕ) where
         rw (same-below e 0 r same_here).1 at
         (&&-right (reach_here (node_of e) r) (reach_all (children_of e) (reach_below (node_of e) r)) (sym (reach-children e r) ∙ f))
 
-  module _ (p left : ℕ) (z : List Int) (h : Walk bs p left z) where
+  module _ (p left : ℕ) (z : List ℤ) (h : Walk bs p left z) where
     pub walk-standing : Standing (vars_of bs) bs p left
     walk-standing = record { tree = h.tree; end = h.end; at = h.at; few = h.few; most = h.most }
+
+    pub walk-noded : Noded (vars_of bs) bs p
+    walk-noded = standing-noded (vars_of bs) bs p left walk-standing
+
+    -- there is a node left
+    pub walk-some : 1 ≤ left
+    walk-some = standing-some (vars_of bs) bs p left walk-standing
 
     -- ---- the children at the same point, where the code has n of them and the next place is k
 
@@ -177,7 +185,7 @@ module _ (bs : List ℕ) where
         image-fits = map-fits h.bound m z r.neat (rw dims-are h.point.near) (rw rows_are within-limit)
 
         -- and the child, at the next place, may be walked there
-        pub walk-image : (k : ℕ) → k ≡ node_end (vars_of bs) bs p → (y : List Int) →
+        pub walk-image : (k : ℕ) → k ≡ node_end (vars_of bs) bs p → (y : List ℤ) →
             point_of m.height y ≡ image (map_of m).rows (point_of m.width z) → Padded m.height y → Walk bs k (left - 1) y
         walk-image k next y is rest = record {
           tree = below.child;
@@ -199,7 +207,7 @@ module _ (bs : List ℕ) where
 
   -- ---- so many trees
 
-  module _ (p left n : ℕ) (z : List Int) (some : 1 ≤ n) (h : WalkAll bs p left n z) where
+  module _ (p left n : ℕ) (z : List ℤ) (some : 1 ≤ n) (h : WalkAll bs p left n z) where
     pub walks-split : MoreAt h.trees (vars_of bs) bs p h.end (n - 1)
     walks-split = one_more (vars_of bs) bs h.trees p h.end n some h.at h.many
 

@@ -7,7 +7,6 @@ use mathlib.Core.List.{List}
 use lib.ListN.{length}
 use lib.IntN.{ℤ, nat_abs}
 use borrow.Author.Tests.{eqb-true}
-use Rattle.alpha.specs.declared.Int.{Int}
 use Rattle.alpha.specs.Field.{field}
 use Rattle.alpha.specs.Sheet.{Expr, Expr.var, Expr.int, Expr.boo, Expr.restr, Sheet, Point, Head}
 use Rattle.alpha.specs.Affine.{meets_all, image}
@@ -29,6 +28,8 @@ use Rattle.tree.specs.Ends.{EndsAt}
 use Rattle.tree.proofs.Classes.{operator-at, case_at, restriction-at, dependence-at, coded-field}
 use Rattle.tree.proofs.Standings.{children-at, children-counted, one_more}
 use Rattle.domain.specs.declared.Standing.{Standing}
+use Rattle.domain.specs.declared.Together.{Together}
+use Rattle.domain.specs.declared.Together.TheVariants.{Branches, Operands}
 use Rattle.domain.specs.declared.Standing.TheVariants.{Not, Holds}
 use Rattle.domain.specs.declared.Stood.{Stood}
 use Rattle.domain.specs.Standing.{standing, joined, alone, together, StandsAt, StandTogether}
@@ -41,15 +42,15 @@ use Rattle.domain.proofs.Restrictions.{restriction-says}
 -- ---- leaves
 
 -- a constant holds at the one point of dimension 0
-integer-stands : (s : Sheet) (hs : List Head) (z : List Int) (c : ℤ) (n : ℕ) → fits (int c) hs n ≡ true → Holds ≡ standing (int c) s (point_of n z)
+integer-stands : (s : Sheet) (hs : List Head) (z : List ℤ) (c : ℤ) (n : ℕ) → fits (int c) hs n ≡ true → Holds ≡ standing (int c) s (point_of n z)
 unfolding fits holds clashes
 integer-stands s hs z c n f = rw (← eqb-true 0 n f) refl
 
-boolean-stands : (s : Sheet) (hs : List Head) (z : List Int) (b : ℕ) (n : ℕ) → fits (boo b) hs n ≡ true → Holds ≡ standing (boo b) s (point_of n z)
+boolean-stands : (s : Sheet) (hs : List Head) (z : List ℤ) (b : ℕ) (n : ℕ) → fits (boo b) hs n ≡ true → Holds ≡ standing (boo b) s (point_of n z)
 unfolding fits holds clashes
 boolean-stands s hs z b n f = rw (← eqb-true 0 n f) refl
 
-module _ (bs : List ℕ) (p : ℕ) (z : List Int) where
+module _ (bs : List ℕ) (p : ℕ) (z : List ℤ) where
   -- a leaf that stands so ends with its node
   abbrev LeafStands : Standing → Type 0
   LeafStands how = StandsAt bs p z (record { how = how; next = node_end (vars_of bs) bs p })
@@ -83,28 +84,28 @@ module _ (bs : List ℕ) (p : ℕ) (z : List Int) where
 
 -- ---- the ways to a node's children, where the next place is k
 
-module _ (bs : List ℕ) (p k : ℕ) (z : List Int) (next : k ≡ node_end (vars_of bs) bs p) where
+module _ (bs : List ℕ) (p k : ℕ) (z : List ℤ) (next : k ≡ node_end (vars_of bs) bs p) where
   -- all together, where the code has n of them
   module _ (n : ℕ) (many : n ≡ arity (node_read (vars_of bs) bs p)) where
-    children-way : (branches : Bool) → SamePoint (class_at bs p) →
-        ((e : Expr) (q : ℕ) → At e (vars_of bs) bs p q → (y : Point) → standing e (sheet_of bs) y ≡ together branches (children_of e) (sheet_of bs) y) →
-        (r : Stood) → StandTogether bs k n z branches r → StandsAt bs p z r
-    children-way branches same stands r t e q d h f =
+    children-way : (which : Together) → SamePoint (class_at bs p) →
+        ((e : Expr) (q : ℕ) → At e (vars_of bs) bs p q → (y : Point) → standing e (sheet_of bs) y ≡ together which (children_of e) (sheet_of bs) y) →
+        (r : Stood) → StandTogether bs k n z which r → StandsAt bs p z r
+    children-way which same stands r t e q d h f =
         let below = children-at (vars_of bs) bs p k n next many e q h in
         let counted = children-counted (vars_of bs) bs p k n next many e q h in
         let a = t (children_of e) q d below counted (children-fit bs p e q h same d f) in
         (a.0, a.1 ∙ sym (stands e q h (point_of d z)))
 
-    pub operands-way : class_at bs p ≡ Operator → (r : Stood) → StandTogether bs k n z false r → StandsAt bs p z r
-    operands-way class_is = children-way false (rw class_is tt) (λ e q h y. operands-stand (sheet_of bs) y e (operator-at bs e p q h class_is).class_is)
+    pub operands-way : class_at bs p ≡ Operator → (r : Stood) → StandTogether bs k n z Operands r → StandsAt bs p z r
+    operands-way class_is = children-way Operands (rw class_is tt) (λ e q h y. operands-stand (sheet_of bs) y e (operator-at bs e p q h class_is).class_is)
 
-    pub branches-way : class_at bs p ≡ Case → (r : Stood) → StandTogether bs k n z true r → StandsAt bs p z r
-    branches-way class_is = children-way true (rw class_is tt) (λ e q h y.
+    pub branches-way : class_at bs p ≡ Case → (r : Stood) → StandTogether bs k n z Branches r → StandsAt bs p z r
+    branches-way class_is = children-way Branches (rw class_is tt) (λ e q h y.
         let x = case_at bs e p q h class_is in
-        subst (λ t. standing t (sheet_of bs) y ≡ together true (children_of t) (sheet_of bs) y) (sym x.is) (branches-stand (sheet_of bs) y x.branches))
+        subst (λ t. standing t (sheet_of bs) y ≡ together Branches (children_of t) (sheet_of bs) y) (sym x.is) (branches-stand (sheet_of bs) y x.branches))
 
   -- a dependence, whose map is m and whose image is y
-  pub image-way : (m : Map) (y : List Int) (r : Stood) → class_at bs p ≡ Dependence → MapRead bs (p + 8) m →
+  pub image-way : (m : Map) (y : List ℤ) (r : Stood) → class_at bs p ≡ Dependence → MapRead bs (p + 8) m →
       point_of m.height y ≡ image (map_of m).rows (point_of m.width z) →
       StandsAt bs k y r → StandsAt bs p z r
   image-way m y r class_is read is t e q n h f =
@@ -151,16 +152,16 @@ module _ (bs : List ℕ) (p k : ℕ) (z : List Int) (next : k ≡ node_end (vars
 
 -- ---- so many trees
 
-module _ (bs : List ℕ) (z : List Int) (branches : Bool) where
-  none-together : (p count : ℕ) → count < 1 → StandTogether bs p count z branches (record { how = alone branches; next = p })
+module _ (bs : List ℕ) (z : List ℤ) (which : Together) where
+  none-together : (p count : ℕ) → count < 1 → StandTogether bs p count z which (record { how = alone which; next = p })
   unfolding together
   none-together p count l es q n h m f =
       let x = all_at-none (vars_of bs) bs es p q h (omega arith) in
-      (x.end, ap (λ t. together branches t (sheet_of bs) (point_of n z)) (sym x.is))
+      (x.end, ap (λ t. together which t (sheet_of bs) (point_of n z)) (sym x.is))
 
   -- the first, and then the others
-  more-together : (p count : ℕ) → 1 ≤ count → (one t : Stood) → StandsAt bs p z one → StandTogether bs one.next (count - 1) z branches t →
-      StandTogether bs p count z branches (record { how = joined branches one.how t.how; next = t.next })
+  more-together : (p count : ℕ) → 1 ≤ count → (one t : Stood) → StandsAt bs p z one → StandTogether bs one.next (count - 1) z which t →
+      StandTogether bs p count z which (record { how = joined which one.how t.how; next = t.next })
   unfolding together
   more-together p count some one t first others es q n h m f =
       let x = one_more (vars_of bs) bs es p q count some h m in
@@ -168,9 +169,9 @@ module _ (bs : List ℕ) (z : List Int) (branches : Bool) where
       let a = first x.first x.middle n x.before (&&-left (fits x.first (heads_of bs) n) (all_fit x.rest (heads_of bs) n) fit) in
       let b = others x.rest q n (rw a.0 x.after) x.many (&&-right (fits x.first (heads_of bs) n) (all_fit x.rest (heads_of bs) n) fit) in (
         b.0,
-        ap (λ w. joined branches w t.how) a.1
-            ∙ ap (joined branches (standing x.first (sheet_of bs) (point_of n z))) b.1
-            ∙ ap (λ l. together branches l (sheet_of bs) (point_of n z)) (sym x.is),
+        ap (λ w. joined which w t.how) a.1
+            ∙ ap (joined which (standing x.first (sheet_of bs) (point_of n z))) b.1
+            ∙ ap (λ l. together which l (sheet_of bs) (point_of n z)) (sym x.is),
       )
     where
       parts : (x : MoreAt es (vars_of bs) bs p q (count - 1)) → fits x.first (heads_of bs) n && all_fit x.rest (heads_of bs) n ≡ true
@@ -182,21 +183,21 @@ module _ (bs : List ℕ) (z : List Int) (branches : Bool) where
     -- of `count` trees from p on the first, which end at next, come to `how`, and `more` others are left
     abbrev pub SoFar : Standing → ℕ → ℕ → Type 0
     SoFar how next more =
-        (t : Stood) → StandTogether bs next more z branches t →
-        StandTogether bs p count z branches (record { how = joined branches how t.how; next = t.next })
+        (t : Stood) → StandTogether bs next more z which t →
+        StandTogether bs p count z which (record { how = joined which how t.how; next = t.next })
 
     -- the answer, where it is the same
-    together-is : (next : ℕ) {how how2 : Standing} → how ≡ how2 → StandTogether bs p count z branches (record { how = how; next = next }) →
-        StandTogether bs p count z branches (record { how = how2; next = next })
-    together-is next e h = subst (λ x. StandTogether bs p count z branches (record { how = x; next = next })) e h
+    together-is : (next : ℕ) {how how2 : Standing} → how ≡ how2 → StandTogether bs p count z which (record { how = how; next = next }) →
+        StandTogether bs p count z which (record { how = how2; next = next })
+    together-is next e h = subst (λ x. StandTogether bs p count z which (record { how = x; next = next })) e h
 
-    pub sofar-none : SoFar (alone branches) p count
-    sofar-none t h = together-is t.next (sym (alone-joined branches t.how)) h
+    pub sofar-none : SoFar (alone which) p count
+    sofar-none t h = together-is t.next (sym (alone-joined which t.how)) h
 
     module _ (how : Standing) (next more : ℕ) (sofar : SoFar how next more) where
-      pub sofar-more : 1 ≤ more → (one : Stood) → StandsAt bs next z one → SoFar (joined branches how one.how) one.next (more - 1)
+      pub sofar-more : 1 ≤ more → (one : Stood) → StandsAt bs next z one → SoFar (joined which how one.how) one.next (more - 1)
       sofar-more some one stands t h =
-          together-is t.next (sym (joined-assoc branches how one.how t.how)) (sofar _ (more-together next more some one t stands h))
+          together-is t.next (sym (joined-assoc which how one.how t.how)) (sofar _ (more-together next more some one t stands h))
 
-      pub sofar-all : more < 1 → StandTogether bs p count z branches (record { how = how; next = next })
-      sofar-all l = together-is next (joined-alone branches how) (sofar _ (none-together next more l))
+      pub sofar-all : more < 1 → StandTogether bs p count z which (record { how = how; next = next })
+      sofar-all l = together-is next (joined-alone which how) (sofar _ (none-together next more l))

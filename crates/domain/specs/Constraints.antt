@@ -1,8 +1,7 @@
 -- Constraints by their places: what the fields from a place on say, and that they can be tested at a point with no sum leaving an i64.
 -- Assumes nothing.
-use Rattle.std.specs.Prelude.{ℕ, zero, suc, ◌+◌, ◌*◌, ◌^◌, ◌≤◌, ◌<◌, Bool, List, [], ◌∷◌, length, nat_abs}
+use Rattle.std.specs.Prelude.{ℕ, zero, suc, ◌+◌, ◌*◌, ◌^◌, ◌≤◌, ◌<◌, Bool, List, [], ◌∷◌, length, nat_abs, ℤ}
 use Rattle.alpha.specs.Field.{field}
-use Rattle.alpha.specs.declared.Int.{Int}
 use Rattle.alpha.specs.Sheet.{Constraint, Point}
 use Rattle.alpha.specs.Affine.{meets_all}
 use Rattle.alpha.specs.Read.{relation_of}
@@ -27,19 +26,18 @@ pub record Testable (bs : List ℕ) (p n : ℕ) (z : Point) : Type 0 where
   pub small : row_size (row_fields n bs (p + 8)) z < 2 ^ 63
 
 -- each of k constraints
-unfoldable pub AllTestable : ℕ → List ℕ → ℕ → ℕ → Point → Type 0
-AllTestable zero bs p n z = Unit {0}
-AllTestable (suc k) bs p n z = Testable bs p n z × AllTestable k bs (p + (16 + 8 * n)) n z
+abbrev pub AllTestable : ℕ → List ℕ → ℕ → ℕ → Point → Type 0
+AllTestable k bs p n z = (i : ℕ) → i < k → Testable bs (p + i * (16 + 8 * n)) n z
 
 -- ---- of a restriction
 
 -- the constraints of the restriction at p hold at the point z
-abbrev pub restriction_met : List ℕ → ℕ → List Int → Bool
+abbrev pub restriction_met : List ℕ → ℕ → List ℤ → Bool
 restriction_met bs p z =
     meets_all (constraints_fields (nat_abs (field bs (p + 16))) (nat_abs (field bs (p + 8))) bs (p + 24)) (point_of (nat_abs (field bs (p + 8))) z)
 
 -- its two numbers are there, and its constraints can be tested at z
-pub record RestrictionTestable (bs : List ℕ) (p : ℕ) (z : List Int) : Type 0 where
+pub record RestrictionTestable (bs : List ℕ) (p : ℕ) (z : List ℤ) : Type 0 where
   pub there : p + 24 ≤ length bs
   pub few : nat_abs (field bs (p + 8)) ≤ 4
   pub all : AllTestable (nat_abs (field bs (p + 16))) bs (p + 24) (nat_abs (field bs (p + 8))) (point_of (nat_abs (field bs (p + 8))) z)

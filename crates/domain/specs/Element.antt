@@ -1,16 +1,15 @@
 -- The elements of a variable, how its body stands at one, and what GAP and CLASH say of that. Assumes nothing.
-use Rattle.std.specs.Prelude.{◌≡◌, ℕ, ◌<◌, Bool, true, false, List, map}
+use Rattle.std.specs.Prelude.{◌≡◌, ℕ, ◌<◌, false, List, map}
 use Rattle.alpha.specs.Pick.{ifb}
 use Rattle.alpha.specs.Answer.{Answer, accepted, refused, GAP, CLASH}
 use Rattle.alpha.specs.Sheet.{Sheet, Point}
 use Rattle.alpha.specs.Box.{size}
 use Rattle.alpha.specs.Holds.{variable, is_input, in_domain}
-use Rattle.alpha.specs.Check.{Element, points}
+use Rattle.alpha.specs.Check.{Element, points, faults}
+use Rattle.alpha.specs.Ask.{before}
 use Rattle.laws.specs.Sheets.{vars_of, sheet_of}
 use Rattle.domain.specs.declared.Standing.{Standing}
 use Rattle.domain.specs.declared.Standing.TheVariants.{Not, Holds, Clash}
-use Rattle.tree.specs.Formed.{Formed}
-use Rattle.domain.specs.Inside.{Inside}
 use Rattle.domain.specs.Standing.{standing}
 
 -- the points zs as elements of variable v
@@ -20,10 +19,9 @@ elements_at v zs = map {B = Element} (λ z. record { who = v; at = z }) zs
 abbrev pub elements_of : Sheet → ℕ → List Element
 elements_of s v = elements_at v (points (variable s v).head.box)
 
-abbrev pub is_clear : Standing → Bool
-is_clear Not = false
-is_clear Holds = true
-is_clear Clash = false
+-- what GAP and CLASH say of the elements of variable v
+abbrev pub faults_of : Sheet → ℕ → Answer (Unit {0})
+faults_of s v = faults s (before s v) (elements_of s v)
 
 -- what is said of the element numbered n
 abbrev pub fault_of : Standing → ℕ → Answer (Unit {0})
@@ -36,11 +34,6 @@ abbrev pub body_standing : Sheet → ℕ → Point → Standing
 body_standing s v z = ifb (in_domain (variable s v) z) (λ _. standing (variable s v).body s z) (λ _. Holds)
 
 -- ---- what is needed to say it
-
--- the sheet passes SHAPE, TYPE and REACH, and the table of its elements says which are inside
-pub record Checkable (bs tab inside : List ℕ) : Type 0 where
-  pub formed : Formed bs tab
-  pub inside_is : Inside (sheet_of bs) inside
 
 -- v is a variable that has a body
 pub record HasBody (bs : List ℕ) (v : ℕ) : Type 0 where

@@ -1,4 +1,5 @@
 -- The definitions that this crate's contracts cite, besides those of the crates below.
+pub mod Ground
 pub mod Walk
 pub mod Held
 pub mod Standing

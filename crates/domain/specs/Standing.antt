@@ -1,8 +1,7 @@
 -- How an expression stands at a point: it does not hold, it holds, or it holds and a case that is reached clashes. How the standing of a
 -- node follows from its children's is in proofs/Standings.antt. Assumes nothing.
-use Rattle.std.specs.Prelude.{Bool, true, false, List, ◌≡◌, ℕ}
+use Rattle.std.specs.Prelude.{Bool, true, List, ◌≡◌, ℕ, ℤ}
 use Rattle.alpha.specs.Pick.{ifb}
-use Rattle.alpha.specs.declared.Int.{Int}
 use Rattle.alpha.specs.Sheet.{Expr, Exprs, Exprs.none, Exprs.more, Sheet, Point}
 use Rattle.alpha.specs.Shape.{fits, all_fit}
 use Rattle.alpha.specs.Holds.{holds, clashes}
@@ -12,6 +11,8 @@ use Rattle.laws.specs.Sheets.{heads_of, vars_of, sheet_of}
 use Rattle.affine.specs.Value.{point_of}
 use Rattle.domain.specs.declared.Standing.{Standing}
 use Rattle.domain.specs.declared.Standing.TheVariants.{Not, Holds, Clash}
+use Rattle.domain.specs.declared.Together.{Together}
+use Rattle.domain.specs.declared.Together.TheVariants.{Branches, Operands}
 use Rattle.domain.specs.declared.Stood.{Stood}
 
 -- whether it holds, and whether a case clashes
@@ -40,30 +41,30 @@ either Holds Clash = Clash
 either Clash b = Clash
 
 -- two branches of a case, or two operands
-abbrev pub joined : Bool → Standing → Standing → Standing
-joined true a b = either a b
-joined false a b = both a b
+abbrev pub joined : Together → Standing → Standing → Standing
+joined Branches a b = either a b
+joined Operands a b = both a b
 
 -- no branches, or no operands
-abbrev pub alone : Bool → Standing
-alone true = Not
-alone false = Holds
+abbrev pub alone : Together → Standing
+alone Branches = Not
+alone Operands = Holds
 
 -- the branches of a case, or operands, together
-unfoldable pub together : Bool → Exprs → Sheet → Point → Standing
-together branches none s z = alone branches
-together branches (more e es) s z = joined branches (standing e s z) (together branches es s z)
+unfoldable pub together : Together → Exprs → Sheet → Point → Standing
+together which none s z = alone which
+together which (more e es) s z = joined which (standing e s z) (together which es s z)
 
 -- ---- what a walk answers
 
 -- r says how the tree at p stands at z, and where it ends
-abbrev pub StandsAt : List ℕ → ℕ → List Int → Stood → Type 0
+abbrev pub StandsAt : List ℕ → ℕ → List ℤ → Stood → Type 0
 StandsAt bs p z r =
-    (e : Expr) (q n : ℕ) → At e (vars_of bs) bs p q → fits e (heads_of bs) n ≡ Bool.true →
+    (e : Expr) (q n : ℕ) → At e (vars_of bs) bs p q → fits e (heads_of bs) n ≡ true →
     (r.next ≡ q) × (r.how ≡ standing e (sheet_of bs) (point_of n z))
 
 -- r says how `count` trees one after another from p on stand together at z, and where they end
-abbrev pub StandTogether : List ℕ → ℕ → ℕ → List Int → Bool → Stood → Type 0
-StandTogether bs p count z branches r =
-    (es : Exprs) (q n : ℕ) → AllAt es (vars_of bs) bs p q → branch_count es ≡ count → all_fit es (heads_of bs) n ≡ Bool.true →
-    (r.next ≡ q) × (r.how ≡ together branches es (sheet_of bs) (point_of n z))
+abbrev pub StandTogether : List ℕ → ℕ → ℕ → List ℤ → Together → Stood → Type 0
+StandTogether bs p count z which r =
+    (es : Exprs) (q n : ℕ) → AllAt es (vars_of bs) bs p q → branch_count es ≡ count → all_fit es (heads_of bs) n ≡ true →
+    (r.next ≡ q) × (r.how ≡ together which es (sheet_of bs) (point_of n z))

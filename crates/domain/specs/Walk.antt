@@ -1,37 +1,29 @@
--- What a walk of a tree at a point requires: the sheet and its tables are as they must be; and, so that no sum on the way leaves an i64,
--- the tree stands there, it has the point's dimension, and where the point's coordinates reach no reach passes the limit. The laws that carry it to the children are in
--- proofs/Walks.antt. Assumes nothing.
-use Rattle.std.specs.Prelude.{◌≡◌, ℕ, ◌≤◌, true, List}
-use Rattle.alpha.specs.declared.Int.{Int}
+-- What a walk of a tree at a point requires, so that no sum on the way leaves an i64: the tree stands there, it has the point's dimension,
+-- and where the point's coordinates reach no reach passes the limit. The laws that carry it to the children are in proofs/Walks.antt.
+-- Assumes nothing.
+use Rattle.std.specs.Prelude.{◌≡◌, ℕ, ◌≤◌, true, List, ℤ}
 use Rattle.alpha.specs.Sheet.{Expr, Exprs}
 use Rattle.alpha.specs.Shape.{fits, all_fit}
 use Rattle.alpha.specs.Reach.{limit, reach, reach_all}
 use Rattle.alpha.specs.Written.{branch_count, node_count, node_counts}
 use Rattle.laws.specs.At.{At, AllAt}
-use Rattle.laws.specs.Sheets.{heads_of, vars_of, sheet_of}
+use Rattle.laws.specs.Sheets.{heads_of, vars_of}
 use Rattle.affine.specs.Value.{point_of, Padded}
 use Rattle.affine.specs.Size.{Near}
-use Rattle.tree.specs.Formed.{BodiesPlaced}
-use Rattle.domain.specs.Inside.{Inside}
-
--- the bodies of the sheet are placed, and the table of its elements says which are inside
-pub record Grounds (bs tab inside : List ℕ) : Type 0 where
-  pub placed : BodiesPlaced bs tab
-  pub inside_is : Inside (sheet_of bs) inside
 
 -- r is where every tree at p that has a dimension ends
 abbrev pub Ends : List ℕ → ℕ → ℕ → Type 0
 Ends bs p r = (e : Expr) (q n : ℕ) → At e (vars_of bs) bs p q → fits e (heads_of bs) n ≡ true → r ≡ q
 
 -- z has so many coordinates, each at most `bound` in size, and zeros beyond
-pub record Bounded (dims bound : ℕ) (z : List Int) : Type 0 where
+pub record Bounded (dims bound : ℕ) (z : List ℤ) : Type 0 where
   pub padded : Padded dims z
   pub near : Near bound (point_of dims z)
   pub low : 1 ≤ bound
   pub high : bound ≤ limit
 
 -- a tree of at most `left` nodes stands at p, and may be walked at z
-pub record Walk (bs : List ℕ) (p left : ℕ) (z : List Int) : Type 0 where
+pub record Walk (bs : List ℕ) (p left : ℕ) (z : List ℤ) : Type 0 where
   pub tree : Expr
   pub end : ℕ
   pub dims : ℕ
@@ -44,7 +36,7 @@ pub record Walk (bs : List ℕ) (p left : ℕ) (z : List Int) : Type 0 where
   pub point : Bounded dims bound z
 
 -- n trees, of at most `left` nodes in all, stand from p on, and may be walked at z
-pub record WalkAll (bs : List ℕ) (p left n : ℕ) (z : List Int) : Type 0 where
+pub record WalkAll (bs : List ℕ) (p left n : ℕ) (z : List ℤ) : Type 0 where
   pub trees : Exprs
   pub end : ℕ
   pub dims : ℕ

@@ -8,54 +8,37 @@ ghost use Rattle.laws.specs.Sheets.{heads_of, vars_of, sheet_of};
 ghost use Rattle.affine.specs.Value.{point_of};
 ghost use Rattle.tree.specs.declared.Class.TheVariants.{Leaf};
 ghost use Rattle.tree.specs.Standing.{NodedAs};
-ghost use Rattle.domain.specs.Walk.{Grounds};
 ghost use Rattle.domain.specs.Standing.{standing, StandsAt};
 
-use super::Standing;
-use alpha::Int;
-use points::Found;
-use sheet::table::{first_element, record_place};
+use super::{Ground, Standing};
 use tree::LeafKind;
 use tree::node::{leaf_of, natural};
 
-// How the variable v stands at z.
-fn variable_stands(
-    s: &[u8],
-    tab: &[usize; 102],
-    inside: &[u8; 4096],
-    v: usize,
-    z: [Int; 4],
-) -> Standing
-    requires { Grounds s.now tab.now inside.now × (v < vars_of s.now) }
-    ensures { result ≡ standing (var v) (sheet_of s.now) (point_of (dimension (heads_of s.now) v) z) }
-{
-    let found = points::index(s, record_place(tab, v), z);
-    let Found::At(i) = found else {
-        return Standing::Not;
-    };
-    let n = first_element(tab, v) + i;
-    if inside[n] == 1 {
-        Standing::Holds
-    } else {
-        Standing::Not
+impl Ground<'_> {
+    // How the variable v stands at z.
+    fn variable_stands(&self, v: usize, z: [i64; 4]) -> Standing
+        requires { v < vars_of self.now.sheet.now }
+        ensures { result ≡ standing (var v) (sheet_of self.now.sheet.now) (point_of (dimension (heads_of self.now.sheet.now) v) z) }
+    {
+        let found = points::index(self.sheet, self.table.record_place(v), z);
+        let Some(i) = found else {
+            return Standing::Not;
+        };
+        if self.inside[self.table.first_element(v) + i] {
+            Standing::Holds
+        } else {
+            Standing::Not
+        }
     }
-}
 
-// How the leaf at `at` stands at z: a constant holds.
-pub fn leaf_stands(
-    s: &[u8],
-    tab: &[usize; 102],
-    inside: &[u8; 4096],
-    at: usize,
-    z: [Int; 4],
-) -> Standing
-    requires { Grounds s.now tab.now inside.now × NodedAs s.now at Leaf }
-    ensures { StandsAt s.now at z (record { how = result; next = node_end (vars_of s.now) s.now at }) }
-{
-    let kind = leaf_of(s, at);
-    match kind {
-        LeafKind::Variable => variable_stands(s, tab, inside, natural(s, at + 8), z),
-        LeafKind::Integer => Standing::Holds,
-        LeafKind::Boolean => Standing::Holds,
+    // How the leaf at `at` stands at z: a constant holds.
+    pub fn leaf_stands(&self, at: usize, z: [i64; 4]) -> Standing
+        requires { NodedAs self.now.sheet.now at Leaf }
+        ensures { StandsAt self.now.sheet.now at z (record { how = result; next = node_end (vars_of self.now.sheet.now) self.now.sheet.now at }) }
+    {
+        match leaf_of(self.sheet, at) {
+            LeafKind::Variable => self.variable_stands(natural(self.sheet, at + 8), z),
+            LeafKind::Integer | LeafKind::Boolean => Standing::Holds,
+        }
     }
 }

@@ -1,78 +1,59 @@
 // How a tree stands at a point: what its node says of its children, which are walked in turn. Assumes nothing.
-ghost use Rattle.domain.specs.Walk.{Grounds, Walk, WalkAll};
+ghost use Rattle.domain.specs.Walk.{Walk, WalkAll};
 ghost use Rattle.domain.specs.Standing.{StandsAt, StandTogether};
 
 use super::constraint::restriction_meets;
-use super::join::{alone, joined};
-use super::leaf::leaf_stands;
-use super::{Standing, Stood};
-use alpha::Int;
+use super::{Ground, Standing, Stood, Together};
 use tree::Class;
 use tree::node::{children, class_of, node_end};
 use tree::skip::skip;
 
-// How the tree at `at`, of at most `left` nodes, stands at z. Below a restriction whose constraints are not met there nothing is asked.
-#[cycle(stand_stand_all)]
-pub fn stand(
-    s: &[u8],
-    tab: &[usize; 102],
-    inside: &[u8; 4096],
-    at: usize,
-    left: usize,
-    z: [Int; 4],
-) -> Stood
-    requires { Grounds s.now tab.now inside.now × Walk s.now at left z }
-    ensures { StandsAt s.now at z result }
-{
-    let class = class_of(s, at);
-    let next = node_end(s, at);
-    match class {
-        Class::Leaf => {
-            let how = leaf_stands(s, tab, inside, at, z);
-            Stood { how, next }
-        }
-        Class::Operator => stand_all(s, tab, inside, next, left - 1, z, children(s, at), false),
-        Class::Case => stand_all(s, tab, inside, next, left - 1, z, children(s, at), true),
-        Class::Restriction => {
-            if restriction_meets(s, at, z) {
-                return stand(s, tab, inside, next, left - 1, z);
-            }
-            Stood {
+impl Ground<'_> {
+    // How the tree at `at`, of at most `left` nodes, stands at z. Below a restriction whose constraints are not met there nothing is asked.
+    #[cycle(stand_stand_all)]
+    pub fn stand(&self, at: usize, left: usize, z: [i64; 4]) -> Stood
+        requires { Walk self.now.sheet.now at left z }
+        ensures { StandsAt self.now.sheet.now at z result }
+    {
+        let s = self.sheet;
+        let next = node_end(s, at);
+        let below = left - 1;
+        match class_of(s, at) {
+            Class::Leaf => Stood {
+                how: self.leaf_stands(at, z),
+                next,
+            },
+            Class::Operator => self.stand_all(next, below, z, children(s, at), Together::Operands),
+            Class::Case => self.stand_all(next, below, z, children(s, at), Together::Branches),
+            Class::Restriction if restriction_meets(s, at, z) => self.stand(next, below, z),
+            Class::Restriction => Stood {
                 how: Standing::Not,
-                next: skip(s, next, left - 1),
-            }
-        }
-        Class::Dependence => {
-            let y = affine::image_at(s, at + 8, z);
-            stand(s, tab, inside, next, left - 1, y)
+                next: skip(s, next, below),
+            },
+            Class::Dependence => self.stand(next, below, affine::image_at(s, at + 8, z)),
         }
     }
-}
 
-// How `count` trees, the branches of a case or operands, stand together at z.
-#[cycle(stand_stand_all)]
-fn stand_all(
-    s: &[u8],
-    tab: &[usize; 102],
-    inside: &[u8; 4096],
-    at: usize,
-    left: usize,
-    z: [Int; 4],
-    count: usize,
-    branches: bool,
-) -> Stood
-    requires { Grounds s.now tab.now inside.now × WalkAll s.now at left count z }
-    ensures { StandTogether s.now at count z branches result }
-{
-    let mut how = alone(branches);
-    let mut next = at;
-    let mut more = count;
-    while more > 0 {
-        let one = stand(s, tab, inside, next, left, z);
-        let its = one.how;
-        how = joined(branches, how, its);
-        next = one.next;
-        more -= 1;
+    // How `count` trees stand together at z.
+    #[cycle(stand_stand_all)]
+    fn stand_all(
+        &self,
+        at: usize,
+        left: usize,
+        z: [i64; 4],
+        count: usize,
+        together: Together,
+    ) -> Stood
+        requires { WalkAll self.now.sheet.now at left count z }
+        ensures { StandTogether self.now.sheet.now at count z together result }
+    {
+        let mut how = together.alone();
+        let mut next = at;
+        for _ in 0..count {
+            let one = self.stand(next, left, z);
+            how = together.joined(how, one.how);
+            next = one.next;
+        }
+        Stood { how, next }
     }
-    Stood { how, next }
 }

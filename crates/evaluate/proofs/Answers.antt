@@ -4,21 +4,19 @@ use Prim.Native.Nat.{ℕ, ◌+◌, ◌≤◌}
 use native.Mathlib.Omega.{arith}
 use lib.IntN.{ℤ}
 use Rattle.alpha.specs.Outcome.{Outcome, outside, value, divzero, overflow, loop, and_then}
-use Rattle.alpha.specs.declared.Int.{Int}
 use Rattle.alpha.specs.declared.Outcome as Declared
 use Rattle.alpha.specs.declared.Outcome.TheVariants as Outcomes
 use Rattle.alpha.specs.Verdict.{outcome_of}
 use Rattle.laws.specs.Under.{Under}
-use Rattle.evaluate.specs.declared.Work.{Work}
-use Rattle.evaluate.specs.declared.Work.TheVariants.{Done, Deep}
-use Rattle.evaluate.specs.Memo.{Thing, Elements, Grows, Says}
+use Rattle.std.specs.Prelude.{Ok, Err}
+use Rattle.evaluate.specs.Memo.{Work, Thing, Elements, Grows, Says}
 
 -- ---- one thing that is another
 
 pub says_same : (out : Elements) (f g : Thing) (c : ℕ) (r : Work) → ((k : ℕ) → f k ≡ g k) → Says out g c r → Says out f c r
 unfolding Says
-says_same out f g c (Done o) h s = record { is = h c ∙ s.is; stuck = λ l k. h k ∙ s.stuck l k }
-says_same out f g c (Deep d) h s = λ k l. h k ∙ s k l
+says_same out f g c (Ok o) h s = record { is = h c ∙ s.is; stuck = λ l k. h k ∙ s.stuck l k }
+says_same out f g c (Err d) h s = λ k l. h k ∙ s k l
 
 -- ---- a thing that has a value, and what follows it
 
@@ -65,23 +63,23 @@ module _ (out : Elements) (f : Thing) (grows : Grows f) (next : ℤ → Thing) w
     -- f has a value, and what follows it says r
     pub says-next : (r : Work) → Says out (next x) d r → Says out after d r
     unfolding Says
-    says-next (Done o) s = record { is = at_last ∙ s.is; stuck = λ l k. never k (s.stuck l k) }
-    says-next (Deep m) s = λ k l. never k (s k l)
+    says-next (Ok o) s = record { is = at_last ∙ s.is; stuck = λ l k. never k (s.stuck l k) }
+    says-next (Err m) s = λ k l. never k (s k l)
 
   -- f has no value: what it says is handed on
-  pub says_first : (c : ℕ) (r : Work) → ((x : Int) → r ≡ Done (Outcomes.Value x) → ⊥) → Says out f c r → Says out after c r
+  pub says_first : (c : ℕ) (r : Work) → ((x : ℤ) → r ≡ Ok (Outcomes.Value x) → ⊥) → Says out f c r → Says out after c r
   unfolding Says
-  says_first c (Done o) n s =
+  says_first c (Ok o) n s =
       record { is = handed c s.is ∙ no_value o (λ x. n x) c; stuck = λ l k. handed k (s.stuck l k) }
     where
       handed : (k : ℕ) {p : Outcome} → f k ≡ p → after k ≡ and_then p (λ y. next y k)
       handed k q = ap (λ p. and_then p (λ y. next y k)) q
 
-      no_value : (o : Declared.Outcome) → ((x : Int) → Done o ≡ Done (Outcomes.Value x) → ⊥) → (k : ℕ) →
+      no_value : (o : Declared.Outcome) → ((x : ℤ) → ◌≡◌ {A = Work} (Ok o) (Ok (Outcomes.Value x)) → ⊥) → (k : ℕ) →
           and_then (outcome_of o) (λ y. next y k) ≡ outcome_of o
       no_value Outcomes.Outside none k = refl
       no_value (Outcomes.Value x) none k = absurd (none x refl)
       no_value Outcomes.DivZero none k = refl
       no_value Outcomes.Overflow none k = refl
       no_value Outcomes.Loop none k = refl
-  says_first c (Deep m) n s = λ k l. ap (λ o. and_then o (λ y. next y k)) (s k l)
+  says_first c (Err d) n s = λ k l. ap (λ o. and_then o (λ y. next y k)) (s k l)

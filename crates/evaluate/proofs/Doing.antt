@@ -5,28 +5,19 @@ use Prim.Native.Nat.{ℕ}
 use native.Mathlib.Omega.{arith}
 use mathlib.Core.List.{List}
 use lib.IntN.{ℤ}
-use Rattle.alpha.specs.declared.Int.{Int}
 use Rattle.alpha.specs.declared.Outcome as Declared
 use Rattle.alpha.specs.declared.Outcome.TheVariants as Outcomes
 use Rattle.alpha.specs.Sheet.{Expr, Sheet, Point}
 use Rattle.alpha.specs.Check.{total}
 use Rattle.alpha.specs.Outcome.{Outcome, outside, value, loop, and_then}
-use Rattle.laws.specs.Sheets.{sheet_of}
 use Rattle.laws.proofs.Growth.{outcome-under, eval-grows}
 use Rattle.integer.specs.Range as Range
 use Rattle.integer.specs.Range.{In32}
-use Rattle.evaluate.specs.declared.Work.{Work}
-use Rattle.evaluate.specs.declared.Work.TheVariants.{Done}
-use Rattle.evaluate.specs.Memo.{Thing, Grows, element, Memo, count, Sized, Waits, Says, Kept}
-use Rattle.evaluate.specs.Working.{element_at, outcomes, expression, Ready, WorksOut, Setting}
+use Rattle.std.specs.Prelude.{Ok}
+use Rattle.evaluate.specs.Memo.{Work, Thing, Grows, element, Memo, count, Sized, Waits, Says, Kept}
+use Rattle.evaluate.specs.Working.{element_at, outcomes, expression, Ready, WorksOut}
 use Rattle.evaluate.proofs.Answers.{says_same, says-next, says_first, never}
 use Rattle.evaluate.proofs.Stores.{kept_same, kept-two, waits-sub, waits_kept}
-
--- the same setting with another memo
-pub setting-with : (bs tab inside ends : List ℕ) (memo last : Memo) → Setting bs tab inside ends memo → Ready (sheet_of bs) last →
-    Setting bs tab inside ends last
-setting-with bs tab inside ends memo last S ready =
-    record { formed = S.formed; inside_is = S.inside_is; ends_kept = S.ends_kept; ready = ready }
 
 module _ (s : Sheet) where
   pub element-grows : (ins : List ℤ) (m : ℕ) → Grows (element (outcomes s ins) m)
@@ -73,7 +64,7 @@ module _ (s : Sheet) where
   -- ---- nothing to do
 
   -- a thing that is the same at every depth, and an outcome says it
-  pub done-known : (memo : Memo) (o : Declared.Outcome) (defined : Outcome) → Range.Says o defined → WorksOut s memo memo (λ ins k. defined) (Done o)
+  pub done-known : (memo : Memo) (o : Declared.Outcome) (defined : Outcome) → Range.Says o defined → WorksOut s memo memo (λ ins k. defined) (Ok o)
   unfolding Says
   done-known memo o defined h = record {
     kept = kept_same memo;
@@ -82,10 +73,10 @@ module _ (s : Sheet) where
     said = λ ins R W. record { right = R; says = record { is = sym h.is; stuck = λ l k. sym h.is ∙ l } };
   }
 
-  pub done-value : (memo : Memo) (x : Int) → In32 x.v → WorksOut s memo memo (λ ins k. value x.v) (Done (Outcomes.Value x))
-  done-value memo x h = done-known memo (Outcomes.Value x) (value x.v) (record { is = refl; small = h })
+  pub done-value : (memo : Memo) (x : ℤ) → In32 x → WorksOut s memo memo (λ ins k. value x) (Ok (Outcomes.Value x))
+  done-value memo x h = done-known memo (Outcomes.Value x) (value x) (record { is = refl; small = h })
 
-  pub done-outside : (memo : Memo) → WorksOut s memo memo (λ ins k. outside) (Done Outcomes.Outside)
+  pub done-outside : (memo : Memo) → WorksOut s memo memo (λ ins k. outside) (Ok Outcomes.Outside)
   done-outside memo = done-known memo Outcomes.Outside outside (record { is = refl; small = tt })
 
   -- ---- a thing, and then what follows its value
@@ -98,7 +89,7 @@ module _ (s : Sheet) where
     first-loops ins k q = ap (λ o. and_then o (λ x. next x ins k)) q
 
     -- it has no value: it is handed back
-    pub done_first : (memo last : Memo) (r : Work) → ((x : Int) → r ≡ Done (Outcomes.Value x) → ⊥) → WorksOut s memo last f r → WorksOut s memo last after r
+    pub done_first : (memo last : Memo) (r : Work) → ((x : ℤ) → r ≡ Ok (Outcomes.Value x) → ⊥) → WorksOut s memo last f r → WorksOut s memo last after r
     done_first memo last r none D = record {
       kept = D.kept;
       wanted = D.wanted;
@@ -109,7 +100,7 @@ module _ (s : Sheet) where
     }
 
     -- it has the value x, and then what follows is worked out
-    pub done_next : (memo mid last : Memo) (x : Int) (r : Work) → WorksOut s memo mid f (Done (Outcomes.Value x)) → WorksOut s mid last (next x.v) r →
+    pub done_next : (memo mid last : Memo) (x : ℤ) (r : Work) → WorksOut s memo mid f (Ok (Outcomes.Value x)) → WorksOut s mid last (next x) r →
         WorksOut s memo last after r
     unfolding Says
     done_next memo mid last x r D E = record {
@@ -122,11 +113,11 @@ module _ (s : Sheet) where
           let c = count mid in
           let W2 = later ins memo mid (after ins) W D.kept in
           let T =
-          E.said ins S.right (sub ins mid (after ins) (next x.v ins) W2
-          (never out (f ins) (grows ins) (λ y. next y ins) c c x.v (omega arith) S.says.is)) in
+          E.said ins S.right (sub ins mid (after ins) (next x ins) W2
+          (never out (f ins) (grows ins) (λ y. next y ins) c c x (omega arith) S.says.is)) in
           record {
             right =
                 T.right;
-            says = says-next out (f ins) (grows ins) (λ y. next y ins) c (count last) x.v E.kept.more S.says.is r T.says;
+            says = says-next out (f ins) (grows ins) (λ y. next y ins) c (count last) x E.kept.more S.says.is r T.says;
           };
     }

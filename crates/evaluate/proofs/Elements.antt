@@ -1,6 +1,6 @@
 -- Elements by their numbers: what an element is, its body, and the ways through the evaluator of elements and through a variable.
 -- Assumes nothing.
-use mathlib.Core.Path.{◌≡◌, sym, ap, ◌∙◌, subst}
+use mathlib.Core.Path.{◌≡◌, refl, sym, ap, ◌∙◌, subst}
 use Prim.Native.Nat.{ℕ, suc, ◌+◌, ◌≤◌, ◌<◌}
 use native.Mathlib.Decide.{ℕ_discrete}
 use native.Mathlib.Omega.{arith}
@@ -9,7 +9,6 @@ use mathlib.Core.List.{List, []}
 use lib.ListN.{length, get_or, length-set}
 use lib.IntN.{ℤ, pos, nat_abs}
 use borrow.Author.Tests.{eqb-true}
-use Rattle.alpha.specs.declared.Int.{Int}
 use Rattle.alpha.specs.declared.Outcome as Declared
 use Rattle.alpha.specs.declared.Outcome.TheVariants as Outcomes
 use Rattle.alpha.specs.Field.{field}
@@ -28,10 +27,11 @@ use Rattle.laws.proofs.Elements.{number-low, element-of-number}
 use Rattle.laws.proofs.Growth.{outcome-outside, outcome-none, outcome-body}
 use Rattle.laws.proofs.Readers.{counted_is}
 use Rattle.laws.proofs.Shapes.{at-var}
+use Rattle.laws.proofs.Tests.{true-not-false}
 use Rattle.integer.specs.Range as Range
 use Rattle.affine.specs.Value.{point_of, Padded}
+use Rattle.sheet.specs.declared.table.Table.{Table}
 use Rattle.sheet.specs.Record.{dimension_at}
-use Rattle.points.specs.declared.Found.{Found}
 use Rattle.points.specs.Number.{box_of, number_in}
 use Rattle.tree.specs.declared.LeafKind.TheVariants.{Variable}
 use Rattle.tree.specs.Classes.{leaf_code}
@@ -40,16 +40,18 @@ use Rattle.tree.proofs.Classes.{coded-field}
 use Rattle.tree.proofs.Fitting.{variable-known}
 use Rattle.domain.specs.Walk.{Walk}
 use Rattle.domain.specs.Held.{Held}
-use Rattle.domain.proofs.Records.{VariableLaid, laid-variable}
+use Rattle.domain.proofs.Records.{VariableLaid, laid-of, laid-variable}
 use Rattle.domain.proofs.Leaves.{Numbered, at-numbered, off-outside, number_is}
 use Rattle.domain.proofs.Bodying.{body-walk}
 use Rattle.domain.proofs.Carried.{held_by}
-use Rattle.evaluate.specs.declared.Work.{Work}
-use Rattle.evaluate.specs.declared.Work.TheVariants.{Done, Deep}
+use Rattle.std.specs.Prelude.{Result, Ok, Err, Some, None, is_ok}
+use Rattle.evaluate.specs.declared.Awaited.{Awaited}
+use Rattle.evaluate.specs.declared.Stop.{Stop}
+use Rattle.evaluate.specs.declared.Stop.TheVariants.{NoValue, Awaits}
 use Rattle.evaluate.specs.declared.Worked.{Worked}
-use Rattle.evaluate.specs.Memo.{busy, unknown, element, Memo, code_at, value_at, saved_at, count, Tells, Right, Waits, Says, Known}
+use Rattle.evaluate.specs.Memo.{Work, busy, unknown, element, Memo, code_at, value_at, saved_at, count, Tells, Right, Waits, Says, Known}
 use Rattle.evaluate.specs.Memo.{noted, stored}
-use Rattle.evaluate.specs.Working.{element_at, outcomes, expression, Bodied, Ready, WorksOut, ElementIs, HeldLeaf, EvaluatesAt}
+use Rattle.evaluate.specs.Working.{element_at, outcomes, expression, Bodied, Ready, WorksOut, ElementIs, HeldLeaf, answer_of, Ends, Gives, EvaluatesAt}
 use Rattle.evaluate.specs.Settling.{body_of}
 use Rattle.evaluate.proofs.Entries.{loop-decoded}
 use Rattle.evaluate.proofs.Stores.{decide, code_same, code_other, kept_same, kept-stored, still-busy, in-last, wanted-stored, sized-noted}
@@ -57,7 +59,7 @@ use Rattle.evaluate.proofs.Stores.{sized-kept, busy-loops, right-mark, waits-mar
 use Rattle.evaluate.proofs.Doing.{element-grows, ready-sized, done-same, done-outside}
 use Rattle.evaluate.proofs.Operands.{some-variable, held-noded}
 
-module _ (bs tab : List ℕ) (F : Formed bs tab) (v e : ℕ) (z : List Int) (I : ElementIs bs v e z) where
+module _ (bs : List ℕ) (tab : Table) (F : Formed bs tab) (v e : ℕ) (z : List ℤ) (I : ElementIs bs v e z) where
   abbrev sheet : Sheet
   sheet = sheet_of bs
 
@@ -96,7 +98,7 @@ module _ (bs tab : List ℕ) (F : Formed bs tab) (v e : ℕ) (z : List Int) (I :
     pub steps : (ins : List ℤ) (k : ℕ) → outcomes sheet ins (suc k) e ≡ expression sheet ins (variable sheet v).body point k
     steps ins k = outcome-is ins (suc k) ∙ outcome-body sheet ins v point bodied.domain bodied.no_input k
 
-    element-walk : (place : ℕ) → place ≡ get_or tab (69 + v) 0 → Walk bs place 2048 z
+    element-walk : (place : ℕ) → place ≡ get_or tab.bodies v 0 → Walk bs place 2048 z
     element-walk place is =
         body-walk bs tab v (index box point) laid (index-low box point I.in-box) F (record { known = I.known; no_input = no_input }) z
         (record {
@@ -108,7 +110,7 @@ module _ (bs tab : List ℕ) (F : Formed bs tab) (v e : ℕ) (z : List Int) (I :
         place is
 
     -- it holds there, and what was worked out at its place
-    module _ (place : ℕ) (place_is : place ≡ get_or tab (69 + v) 0) where
+    module _ (place : ℕ) (place_is : place ≡ get_or tab.bodies v 0) where
       body-at : At (variable sheet v).body (vars_of bs) bs place (variable sheet v).end
       body-at = rw (place_is ∙ F.placed.starts v I.known) (F.placed.body v I.known no_input).at
 
@@ -122,8 +124,8 @@ module _ (bs tab : List ℕ) (F : Formed bs tab) (v e : ℕ) (z : List Int) (I :
           held_by bs place 2048 z (variable sheet v).body (variable sheet v).end (dimension (heads_of bs) v) body-at body-fits
           (element-walk place place_is) bodied.clear
 
-      pub body-evaluated : (memo last : Memo) (r : Worked) → EvaluatesAt bs place z memo last r →
-          WorksOut sheet memo last (λ ins. expression sheet ins (variable sheet v).body point) r.out
+      pub body-evaluated : (memo last : Memo) (r : Result Worked Stop) → EvaluatesAt bs place z memo last r →
+          WorksOut sheet memo last (λ ins. expression sheet ins (variable sheet v).body point) (answer_of r)
       body-evaluated memo last r E = (E (variable sheet v).body (variable sheet v).end (dimension (heads_of bs) v) body-at body-fits).done
 
     pub body-by-number : (memo last : Memo) (r : Work) → WorksOut sheet memo last (λ ins. expression sheet ins (variable sheet v).body point) r →
@@ -140,7 +142,7 @@ module _ (bs tab : List ℕ) (F : Formed bs tab) (v e : ℕ) (z : List Int) (I :
 
     -- what the memo has: a settled element's outcome, and an element in progress waits for itself
     known-way : (o : Declared.Outcome) → code_at memo e ≤ busy → Range.Says o (saved_at memo e) →
-        WorksOut sheet memo memo (λ ins. element (outcomes sheet ins) e) (Done o)
+        WorksOut sheet memo memo (λ ins. element (outcomes sheet ins) e) (Ok o)
     unfolding Says
     known-way o l says = record {
       kept = kept_same memo;
@@ -160,12 +162,10 @@ module _ (bs tab : List ℕ) (F : Formed bs tab) (v e : ℕ) (z : List Int) (I :
             record { is = loops (count memo) ∙ loop-decoded (code_at memo e) (value_at memo e) (omega (arith, is)); stuck = λ _. loops })
             (λ other. R.settled e element-low (omega (arith, l, other)))
 
-    pub known-answer : (r : Work) → Known memo e r → (o : Declared.Outcome) → r ≡ Done o → WorksOut sheet memo memo (λ ins. element (outcomes sheet ins) e) r
-    known-answer r k o is = let says = rw is at k in rw is (known-way o says.0 says.1)
-
     -- an unknown element
-    pub late-code : (r : Work) → Known memo e r → (d : ℕ) → r ≡ Deep d → unknown ≤ code_at memo e
-    late-code r k d is = let says = rw is at k in says.0
+    pub late-code : (r : Work) → Known memo e r → is_ok r ≡ false → unknown ≤ code_at memo e
+    late-code (Ok o) k is = true-not-false {b = true} refl is
+    late-code (Err d) k is = k.0
 
     module _ (late : unknown ≤ code_at memo e) where
       fresh : code_at memo e ≡ unknown
@@ -175,17 +175,14 @@ module _ (bs tab : List ℕ) (F : Formed bs tab) (v e : ℕ) (z : List Int) (I :
       open-body = M.opens e element-low (omega (arith, late))
 
       -- that has to be worked out first
-      deep-way : WorksOut sheet memo memo (λ ins. element (outcomes sheet ins) e) (Deep e)
+      deep-way : (d : Awaited) → d.element ≡ e → WorksOut sheet memo memo (λ ins. element (outcomes sheet ins) e) (Err d)
       unfolding Says
-      deep-way = record {
+      deep-way d is = record {
         kept = kept_same memo;
-        wanted = (element-low, fresh);
+        wanted = rw is (element-low, fresh);
         small = tt;
-        said = λ ins R W. record { right = R; says = λ k l. l };
+        said = λ ins R W. record { right = R; says = λ k l. ap (outcomes sheet ins k) (sym is) ∙ l };
       }
-
-      pub deep-answer : (r : Work) → Known memo e r → (d : ℕ) → r ≡ Deep d → WorksOut sheet memo memo (λ ins. element (outcomes sheet ins) e) r
-      deep-answer r k d is = let says = rw is at k in rw (is, says.1) deep-way
 
       abbrev marked : Memo
       marked = noted memo e busy (pos 0)
@@ -203,18 +200,19 @@ module _ (bs tab : List ℕ) (F : Formed bs tab) (v e : ℕ) (z : List Int) (I :
             (λ other. M.opens m h (rw (code_other memo e busy (pos 0) m other) at u));
       }
 
-      pub open-held : (place : ℕ) → place ≡ get_or tab (69 + v) 0 → Held bs place 2048 z
+      pub open-held : (place : ℕ) → place ≡ get_or tab.bodies v 0 → Held bs place 2048 z
       open-held place is = element-held open-body place is
 
       -- that is worked out by its body
-      module _ (place : ℕ) (place_is : place ≡ get_or tab (69 + v) 0) (last : Memo) (r : Worked) (E : EvaluatesAt bs place z marked last r) where
-        pub body-done : WorksOut sheet marked last (λ ins. expression sheet ins (variable sheet v).body point) r.out
-        body-done = body-evaluated open-body place place_is marked last r E
+      module _ (place : ℕ) (place_is : place ≡ get_or tab.bodies v 0) (last : Memo) (a : Result Worked Stop)
+          (E : EvaluatesAt bs place z marked last a) (r : Work) (is : r ≡ answer_of a) where
+        pub body-done : WorksOut sheet marked last (λ ins. expression sheet ins (variable sheet v).body point) r
+        body-done = rw is (body-evaluated open-body place place_is marked last a E)
 
-        pub worked-way : WorksOut sheet memo (stored last e r.out) (λ ins. element (outcomes sheet ins) e) r.out
+        pub worked-way : WorksOut sheet memo (stored last e r) (λ ins. element (outcomes sheet ins) e) r
         worked-way = record {
-          kept = kept-stored memo e in-memo fresh last body-done.kept r.out;
-          wanted = wanted-stored (total sheet) last e r.out (in-last memo e in-memo fresh last body-done.kept) body-done.wanted;
+          kept = kept-stored memo e in-memo fresh last body-done.kept r;
+          wanted = wanted-stored (total sheet) last e r (in-last memo e in-memo fresh last body-done.kept) body-done.wanted;
           small = body-done.small;
           said = λ ins R W.
               let out = outcomes sheet ins in
@@ -228,12 +226,17 @@ module _ (bs tab : List ℕ) (F : Formed bs tab) (v e : ℕ) (z : List Int) (I :
               (waits-mark out grows (total sheet) e element-low body first then memo S fresh W) in
               said-stored out grows (total sheet) e element-low body first then last
               (sized-kept (total sheet) marked last marked-sized body-done.kept)
-              (still-busy memo e in-memo fresh last body-done.kept) r.out D;
+              (still-busy memo e in-memo fresh last body-done.kept) r D;
         }
+
+    -- what the memo answers
+    pub had-answer : (r : Work) → Known memo e r → WorksOut sheet memo memo (λ ins. element (outcomes sheet ins) e) r
+    had-answer (Ok o) k = known-way o k.0 k.1
+    had-answer (Err d) k = deep-way k.0 d k.1
 
 -- ---- a variable at a point
 
-module _ (bs tab : List ℕ) (F : Formed bs tab) (p left : ℕ) (z : List Int) (t : HeldLeaf Variable bs p left z) (v : ℕ)
+module _ (bs : List ℕ) (tab : Table) (F : Formed bs tab) (p left : ℕ) (z : List ℤ) (t : HeldLeaf Variable bs p left z) (v : ℕ)
     (number : v ≡ nat_abs (field bs (p + 8))) where
   -- any tree there is this variable
   record Named (e : Expr) (q n : ℕ) : Type 0 where
@@ -267,25 +270,25 @@ module _ (bs tab : List ℕ) (F : Formed bs tab) (p left : ℕ) (z : List Int) (
       ap (λ t. expression (sheet_of bs) ins t (point_of n z) k) x.is ∙ ap (λ d. outcome k (sheet_of bs) ins v (point_of d z)) (sym x.wide)
 
   -- off its box
-  pub off-way : (memo : Memo) (k : ℕ) → k ≡ node_end (vars_of bs) bs p → Found.Off ≡ number_in (box_of bs (get_or tab v 0)) (point_of (dimension_at bs (get_or tab v 0)) z) →
-      EvaluatesAt bs p z memo memo (record { out = Done Outcomes.Outside; next = k })
-  off-way memo k next off e q n h f =
+  pub off-way : (memo : Memo) → None ≡ number_in (box_of bs (get_or tab.records v 0)) (point_of (dimension_at bs (get_or tab.records v 0)) z) →
+      EvaluatesAt bs p z memo memo (Err (NoValue Outcomes.Outside))
+  off-way memo off e q n h f =
       let x = named e q n h f in
       let outer : in_box (variable (sheet_of bs) v).head.box here ≡ false =
-      off-outside (variable (sheet_of bs) v).head.box here (number_is bs tab v z there Found.Off off) in
+      off-outside (variable (sheet_of bs) v).head.box here (number_is bs tab v z (laid-of there) None off) in
       let undeclared : in_domain (variable (sheet_of bs) v) here ≡ false = ap (λ b. b && meets_all (variable (sheet_of bs) v).declared here) outer in
       record {
-        done = done-same (sheet_of bs) memo memo (λ ins. expression (sheet_of bs) ins e (point_of n z)) (λ ins k. outside) (Done Outcomes.Outside)
+        done = done-same (sheet_of bs) memo memo (λ ins. expression (sheet_of bs) ins e (point_of n z)) (λ ins k. outside) (Ok Outcomes.Outside)
             (λ ins k. variable-same e q n x ins k ∙ outcome-outside (sheet_of bs) ins k v here undeclared) (done-outside (sheet_of bs) memo);
-        ends = λ y g. next ∙ x.end;
+        ends = record { next = λ w g. cc; none = λ s g y is. cc };
       }
 
   -- at an element
-  module _ (i : ℕ) (at : Found.At i ≡ number_in (box_of bs (get_or tab v 0)) (point_of (dimension_at bs (get_or tab v 0)) z)) where
+  module _ (i : ℕ) (at : Some i ≡ number_in (box_of bs (get_or tab.records v 0)) (point_of (dimension_at bs (get_or tab.records v 0)) z)) where
     numbered : Numbered (variable (sheet_of bs) v).head.box here i
-    numbered = at-numbered (variable (sheet_of bs) v).head.box here i (number_is bs tab v z there (Found.At i) at)
+    numbered = at-numbered (variable (sheet_of bs) v).head.box here i (number_is bs tab v z (laid-of there) (Some i) at)
 
-    pub named-element : (e : ℕ) → e ≡ get_or tab (32 + v) 0 + i → ElementIs bs v e z
+    pub named-element : (e : ℕ) → e ≡ get_or tab.firsts v 0 + i → ElementIs bs v e z
     named-element e is = record {
       known = number-known;
       in-box = numbered.inside;
@@ -293,17 +296,25 @@ module _ (bs tab : List ℕ) (F : Formed bs tab) (p left : ℕ) (z : List Int) (
       rest = let w = t.leaf.held.walk in rw (named w.tree w.end w.dims w.at w.fitting).wide w.point.padded;
     }
 
-    pub number-few : get_or tab (32 + v) 0 + i < 4096
+    pub number-few : get_or tab.firsts v 0 + i < 4096
     number-few = omega (arith, numbered.is, there.first_is, index-low (variable (sheet_of bs) v).head.box here numbered.inside, there.few)
 
-    pub variable-way : (e : ℕ) → e ≡ get_or tab (32 + v) 0 + i → (k : ℕ) → k ≡ node_end (vars_of bs) bs p → (memo last : Memo) (r : Work) →
-        WorksOut (sheet_of bs) memo last (λ ins. element (outcomes (sheet_of bs) ins) e) r →
-        EvaluatesAt bs p z memo last (record { out = r; next = k })
-    variable-way e is k next memo last r D tree q n h f =
-        let x = named tree q n h f in
-        record {
-          done =
-              done-same (sheet_of bs) memo last (λ ins. expression (sheet_of bs) ins tree (point_of n z)) (λ ins. element (outcomes (sheet_of bs) ins) e) r
-              (λ ins k. variable-same tree q n x ins k ∙ sym (outcome-is bs tab F v e z (named-element e is) ins k)) D;
-          ends = λ y g. next ∙ x.end;
-        }
+    module _ (e : ℕ) (is : e ≡ get_or tab.firsts v 0 + i) (memo last : Memo) where
+      variable-done : (r : Work) → WorksOut (sheet_of bs) memo last (λ ins. element (outcomes (sheet_of bs) ins) e) r →
+          (tree : Expr) (q n : ℕ) → Named tree q n → WorksOut (sheet_of bs) memo last (λ ins. expression (sheet_of bs) ins tree (point_of n z)) r
+      variable-done r D tree q n x =
+          done-same (sheet_of bs) memo last (λ ins. expression (sheet_of bs) ins tree (point_of n z)) (λ ins. element (outcomes (sheet_of bs) ins) e) r
+          (λ ins k. variable-same tree q n x ins k ∙ sym (outcome-is bs tab F v e z (named-element e is) ins k)) D
+
+      -- it has an outcome
+      pub variable-way : (o : Declared.Outcome) → WorksOut (sheet_of bs) memo last (λ ins. element (outcomes (sheet_of bs) ins) e) (Ok o) →
+          (k : ℕ) → k ≡ node_end (vars_of bs) bs p → (r : Result Worked Stop) → Gives o k r → EvaluatesAt bs p z memo last r
+      variable-way o D k next r g tree q n h f =
+          let x = named tree q n h f in
+          record { done = rw g.answer (variable-done (Ok o) D tree q n x); ends = subst (λ j. Ends j r) (next ∙ x.end) g.ends }
+
+      -- another has to be worked out first
+      pub variable-awaits : (d : Awaited) → WorksOut (sheet_of bs) memo last (λ ins. element (outcomes (sheet_of bs) ins) e) (Err d) →
+          EvaluatesAt bs p z memo last (Err (Awaits d))
+      variable-awaits d D tree q n h f =
+          record { done = variable-done (Err d) D tree q n (named tree q n h f); ends = record { next = λ w g. cc; none = λ s g y same. cc } }

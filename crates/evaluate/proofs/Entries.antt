@@ -1,14 +1,14 @@
 -- Outcomes coded as entries of the memo, and entries as numbers. Assumes nothing.
 use mathlib.Core.Path.{◌≡◌, refl, ap, ◌∙◌}
-use Prim.Native.Nat.{ℕ, zero, suc, ◌+◌, ◌*◌, ◌/◌, ◌%◌, ◌≤◌, ◌<◌}
+use Prim.Native.Nat.{ℕ, zero, suc, ◌≤◌, ◌<◌}
 use native.Mathlib.Omega.{arith}
 use mathlib.Core.Bool.{Bool, true, false}
 use mathlib.Core.List.{List, [], ◌∷◌, map}
 use lib.ListN.{length, get_or, set, length-map}
-use lib.Dec.{ltb, leb, eqb}
-use lib.IntN.{ℤ, pos, negsuc, nat_abs, ◌+ℤ◌, ◌-ℤ◌, +ℤ-neg_ℤ_cancel}
+use lib.Dec.{leb, eqb}
+use lib.IntN.{ℤ, pos, negsuc, nat_abs, ◌+ℤ◌}
 use lib.Signed.{mag}
-use borrow.Author.Tests.{ltb-false, le-ltb, le-leb, ne_eqb}
+use borrow.Author.Tests.{le-ltb, le-leb, ne_eqb}
 use Rattle.alpha.specs.declared.Outcome as Declared
 use Rattle.alpha.specs.declared.Outcome.TheVariants as Outcomes
 use Rattle.alpha.specs.Pick.{ifb}
@@ -20,9 +20,8 @@ use Rattle.laws.specs.Coded.{decoded}
 use Rattle.laws.proofs.Tests.{ifb-true, ifb-false}
 use Rattle.integer.specs.Range.{In32}
 use Rattle.integer.specs.Range as Range
-use Rattle.evaluate.specs.declared.Work.{Work}
-use Rattle.evaluate.specs.declared.Work.TheVariants.{Done, Deep}
-use Rattle.evaluate.specs.Memo.{busy, unknown, Memo, code_in, value_in, code_at, value_at, memo_of, settled_one, busy_one, to_do, noted}
+use Rattle.std.specs.Prelude.{Ok, Err}
+use Rattle.evaluate.specs.Memo.{Work, busy, unknown, Memo, code_in, value_in, code_at, value_at, memo_of, settled_one, busy_one, to_do, noted}
 use Rattle.evaluate.specs.Memo as Memo
 
 -- ---- outcomes and their codes
@@ -99,19 +98,19 @@ none-to-do c h =
 
 -- an answer's entry is not in progress
 pub answer-idle : (r : Work) → Memo.code_of r ≡ busy → ⊥
-answer-idle (Done o) h = omega (arith, code-few (outcome_of o))
-answer-idle (Deep d) h = omega arith
+answer-idle (Ok o) h = omega (arith, code-few (outcome_of o))
+answer-idle (Err d) h = omega arith
 
 pub answer-unmarked : (r : Work) → busy_one (Memo.code_of r) ≡ 0
 answer-unmarked r = unmarked (Memo.code_of r) (answer-idle r)
 
 pub answer-low : (r : Work) → Memo.code_of r ≤ unknown
-answer-low (Done o) = omega (arith, code-few (outcome_of o))
-answer-low (Deep d) = omega arith
+answer-low (Ok o) = omega (arith, code-few (outcome_of o))
+answer-low (Err d) = omega arith
 
 pub answer-to-do : (r : Work) → to_do (Memo.code_of r) ≤ 2
-answer-to-do (Done o) = omega (arith, none-to-do (code_for o) (code-few (outcome_of o)))
-answer-to-do (Deep d) = omega arith
+answer-to-do (Ok o) = omega (arith, none-to-do (code_for o) (code-few (outcome_of o)))
+answer-to-do (Err d) = omega arith
 
 -- ---- entries as numbers
 
@@ -127,26 +126,6 @@ counted-low (negsuc n) h = rw (le-ltb 2147483648 (suc n) (omega arith)) (omega a
 module _ (x : ℤ) (small : In32 x) (above : ℕ) (is : above ≡ nat_abs (x +ℤ pos 2147483648)) where
   pub packed-low : above < 4294967296
   packed-low = omega (arith, is, counted-low x small)
-
-  -- the entry of a code and a value has them
-  pub packed-code : (c : ℕ) → c ≤ unknown → code_in (above * 8 + c) ≡ c
-  packed-code c h = omega arith
-
-  pub packed-value : (c : ℕ) → c ≤ unknown → value_in (above * 8 + c) ≡ x
-  packed-value c h =
-      let same : (above * 8 + c) / 8 % 4294967296 ≡ above = omega (arith, packed-low) in
-      ap (λ n. pos n -ℤ pos 2147483648) (same ∙ is) ∙ ap (λ n. n -ℤ pos 2147483648) (counted x small) ∙ +ℤ-neg_ℤ_cancel x (pos 2147483648)
-
--- an entry's value is in the 32-bit range
-pub value-in-small : (n : ℕ) → In32 (value_in n)
-value-in-small n = go (n / 8 % 4294967296) (omega arith)
-  where
-    go : (w : ℕ) → w < 4294967296 → mag (pos w -ℤ pos 2147483648) < 2147483648
-    go w h = by (ltb w 2147483648) refl
-      where
-        by : (b : Bool) → ltb w 2147483648 ≡ b → mag (pos w -ℤ pos 2147483648) < 2147483648
-        by true e = rw e (omega arith)
-        by false e = let l = ltb-false w 2147483648 e in rw e (omega arith)
 
 -- ---- the memo of a list of entries
 

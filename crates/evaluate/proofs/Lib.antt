@@ -8,3 +8,4 @@ pub mod Ways
 pub mod Elements
 pub mod Owning
 pub mod Stacks
+pub mod Grounded

@@ -11,12 +11,14 @@ use lib.IntN.{ℤ, pos}
 use Rattle.alpha.specs.Sheet.{Sheet}
 use Rattle.alpha.specs.Check.{total}
 use Rattle.alpha.specs.declared.Outcome as Declared
+use Rattle.alpha.specs.declared.Outcome.TheVariants as Outcomes
+use Rattle.std.specs.Result.{result_unwrap_or}
 use Rattle.alpha.specs.Outcome.{loop}
 use Rattle.alpha.specs.Verdict.{outcome_of, code_for}
 use Rattle.laws.proofs.Growth.{outcome-none, outcome-body}
-use Rattle.evaluate.specs.declared.Work.{Work}
-use Rattle.evaluate.specs.declared.Work.TheVariants.{Done, Deep}
-use Rattle.evaluate.specs.Memo.{busy, unknown, Memo, code_at, sum, busy_one, to_do, Right, Waits, Says, Said, Known, noted, code_of}
+use Rattle.std.specs.Prelude.{Ok, Err}
+use Rattle.evaluate.specs.declared.Awaited.{Awaited}
+use Rattle.evaluate.specs.Memo.{Work, busy, unknown, Memo, code_at, sum, busy_one, to_do, Right, Waits, Says, Said, Known, noted, code_of}
 use Rattle.evaluate.specs.Memo.{value_of, stored}
 use Rattle.evaluate.specs.Memo as Memo
 use Rattle.evaluate.specs.Working.{element_at, outcomes, Bodied, Ready, WorksOut}
@@ -69,7 +71,7 @@ module _ (s : Sheet) (memo : Memo) (M : Ready s memo) (e c : ℕ) (x : ℤ) (lt 
   }
 
 -- the code of an answer that is an outcome
-settled-code : (r : Work) (o : Declared.Outcome) → r ≡ Done o → (code_of r ≤ 4) × (to_do (code_of r) ≡ 0)
+settled-code : (r : Work) (o : Declared.Outcome) → r ≡ Ok o → (code_of r ≤ 4) × (to_do (code_of r) ≡ 0)
 settled-code r o is = let few = code-few (outcome_of o) in rw is (few, none-to-do (code_for o) few)
 
 module _ (s : Sheet) (memo : Memo) (M : Ready s memo) (stack : List ℕ) (high : ℕ) (Top : StackedSome s memo stack high) where
@@ -97,9 +99,6 @@ module _ (s : Sheet) (memo : Memo) (M : Ready s memo) (stack : List ℕ) (high :
 
   pub top-element : top < total s
   top-element = St.element (high - 1) (omega (arith, Top.some))
-
-  pub top-marked : code_at memo top ≡ busy
-  top-marked = St.marked (high - 1) (omega (arith, Top.some))
 
   -- each on the stack loops after the body of the one on top
   module _ (ins : List ℤ) (L : Linked s ins stack high) where
@@ -139,7 +138,7 @@ module _ (s : Sheet) (memo : Memo) (M : Ready s memo) (stack : List ℕ) (high :
 
     -- ---- the one on top is settled
 
-    module _ (o : Declared.Outcome) (is : r ≡ Done o) where
+    module _ (o : Declared.Outcome) (is : r ≡ Ok o) where
       abbrev popped : Memo
       popped = stored last top r
 
@@ -195,7 +194,10 @@ module _ (s : Sheet) (memo : Memo) (M : Ready s memo) (stack : List ℕ) (high :
 
   -- ---- one that it waits for comes on top
 
-  module _ (last : Memo) (d : ℕ) (D : WorksOut s memo last (body_of s top) (Deep d)) where
+  module _ (last : Memo) (a : Awaited) (D : WorksOut s memo last (body_of s top) (Err a)) where
+    abbrev d : ℕ
+    d = a.element
+
     pub wanted-element : d < total s
     wanted-element = D.wanted.0
 
@@ -205,8 +207,8 @@ module _ (s : Sheet) (memo : Memo) (M : Ready s memo) (stack : List ℕ) (high :
           arith,
           St.height,
           D.kept.marks,
-          codes-last last (Deep d) D,
-          marks-fewer last d (in-last last (Deep d) D d wanted-element) D.wanted.1,
+          codes-last last (Err a) D,
+          marks-fewer last d (in-last last (Err a) D d wanted-element) D.wanted.1,
         )
 
     abbrev pushed : Memo
@@ -224,7 +226,7 @@ module _ (s : Sheet) (memo : Memo) (M : Ready s memo) (stack : List ℕ) (high :
     -- it was not there
     new : (j : ℕ) → j < high → standing stack j ≡ d → ⊥
     new j h e =
-        let b : code_at last d ≡ busy = subst (λ i. code_at last i ≡ busy) e (still last (Deep d) D j h) in
+        let b : code_at last d ≡ busy = subst (λ i. code_at last i ≡ busy) e (still last (Err a) D j h) in
         omega (arith, b, D.wanted.1)
 
     -- a place on the taller stack is the top or one below
@@ -234,8 +236,8 @@ module _ (s : Sheet) (memo : Memo) (M : Ready s memo) (stack : List ℕ) (high :
     pub pushed-turn : Turned s memo stack high pushed taller (high + 1)
     unfolding Says
     pushed-turn = record {
-      ready = ready-noted s last (ready-last last (Deep d) D) d busy (pos 0) wanted-element (omega (arith, Top.some))
-          (λ l. (ready-last last (Deep d) D).opens d wanted-element (omega (arith, D.wanted.1)));
+      ready = ready-noted s last (ready-last last (Err a) D) d busy (pos 0) wanted-element (omega (arith, Top.some))
+          (λ l. (ready-last last (Err a) D).opens d wanted-element (omega (arith, D.wanted.1)));
       stacked = record {
         sized = simp length-set St.sized;
         height =
@@ -243,12 +245,12 @@ module _ (s : Sheet) (memo : Memo) (M : Ready s memo) (stack : List ℕ) (high :
               arith,
               St.height,
               D.kept.marks,
-              sum-store busy_one last d unknown busy (pos 0) (in-last last (Deep d) D d wanted-element) D.wanted.1,
+              sum-store busy_one last d unknown busy (pos 0) (in-last last (Err a) D d wanted-element) D.wanted.1,
             );
         element = λ j h. either (λ i. standing taller i < total s) j h (λ l. rw (under j l) (St.element j l)) (rw on-top wanted-element);
         marked = λ j h. either (λ i. code_at pushed (standing taller i) ≡ busy) j h
-            (λ l. rw (under j l) (code_other last d busy (pos 0) (standing stack j) (λ e. new j l e) ∙ still last (Deep d) D j l))
-            (rw on-top (code_same last d busy (pos 0) (in-last last (Deep d) D d wanted-element)));
+            (λ l. rw (under j l) (code_other last d busy (pos 0) (standing stack j) (λ e. new j l e) ∙ still last (Err a) D j l))
+            (rw on-top (code_same last d busy (pos 0) (in-last last (Err a) D d wanted-element)));
         found = λ m h b. decide m d (ℕ_discrete m d)
             (λ same. (high, omega (arith, Top.some), on-top ∙ sym same))
             (λ other.
@@ -258,12 +260,12 @@ module _ (s : Sheet) (memo : Memo) (M : Ready s memo) (stack : List ℕ) (high :
             (λ last_one. new i (omega (arith, Top.some)) (sym (under i (omega (arith, Top.some))) ∙ e ∙ ap (standing taller) last_one ∙ on-top))
             (λ n. let k : j < high = omega (arith, n) in St.apart i j l k (sym (under i (omega (arith, Top.some))) ∙ e ∙ under j k));
       };
-      less = omega (arith, D.kept.less, sum-store to_do last d unknown busy (pos 0) (in-last last (Deep d) D d wanted-element) D.wanted.1);
+      less = omega (arith, D.kept.less, sum-store to_do last d unknown busy (pos 0) (in-last last (Err a) D d wanted-element) D.wanted.1);
       first = under 0 (omega (arith, Top.some));
       settled = λ none. absurd (omega (arith, Top.some));
       right = λ ins R L.
-          let S = said last (Deep d) D ins R L in (
-            right-set (outcomes s ins) (element-grows s ins) (total s) last (ready-sized s last (ready-last last (Deep d) D)) S.right d unknown
+          let S = said last (Err a) D ins R L in (
+            right-set (outcomes s ins) (element-grows s ins) (total s) last (ready-sized s last (ready-last last (Err a) D)) S.right d unknown
                 busy (pos 0) wanted-element D.wanted.1 refl (λ h. absurd (omega (arith, Top.some))),
             record {
               link = λ j h k q. decide (suc j) high (ℕ_discrete (suc j) high)
@@ -305,7 +307,7 @@ going_on s e memo memo' memo'' stack stack' high high' G T = record {
 
 module _ (s : Sheet) (e : ℕ) (memo : Memo) (M : Ready s memo) (A : Alone s memo e) where
   -- it is settled already
-  pub settled_before : (o : Declared.Outcome) → Known memo e (Done o) → Settled s e memo memo o
+  pub settled_before : (o : Declared.Outcome) → Known memo e (Ok o) → Settled s e memo memo o
   settled_before o k = record {
     ready = M;
     idle = A.idle;
@@ -327,7 +329,7 @@ module _ (s : Sheet) (e : ℕ) (memo : Memo) (M : Ready s memo) (A : Alone s mem
     attempt-right ins R = (D.said ins R (record { waits = λ m h b k q. absurd (idle-none memo A.idle m b) })).right
 
     -- it is settled, or unknown still
-    pub attempted : (o : Declared.Outcome) → Known last e (Done o) → Settled s e memo last o
+    pub attempted : (o : Declared.Outcome) → Known last e (Ok o) → Settled s e memo last o
     attempted o k = record {
       ready = ready-kept s memo last M D.kept;
       idle = idle-after;
@@ -380,11 +382,9 @@ module _ (s : Sheet) (e : ℕ) (memo : Memo) (M : Ready s memo) (A : Alone s mem
     -- the stack is empty again
     module _ (memo' : Memo) (stack : List ℕ) (high : ℕ) (G : Going s e marked memo' stack high) (none : high ≤ 0) where
       -- the memo has its outcome, and does not answer that it has to be worked out first
-      pub last-known : (d : ℕ) {X : Type 0} → Known memo' e (Deep d) → X
-      last-known d k = let l = G.settled (omega arith) in absurd (omega (arith, k.0, l))
-
-      pub going-last : (o : Declared.Outcome) → Known memo' e (Done o) → Settled s e memo memo' o
-      going-last o k = record {
+      pub going-last : (r : Work) → Known memo' e r → Settled s e memo memo' (result_unwrap_or r Outcomes.Loop)
+      going-last (Err d) k = let l = G.settled (omega arith) in absurd (omega (arith, k.0, l))
+      going-last (Ok o) k = record {
         ready = G.ready;
         idle = omega (arith, G.stacked.height);
         settled = G.settled (omega arith);

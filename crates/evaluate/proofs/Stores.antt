@@ -13,9 +13,8 @@ use Rattle.alpha.specs.Outcome.{Outcome, loop}
 use Rattle.alpha.specs.Verdict.{outcome_of, code_for, value_for}
 use Rattle.laws.specs.Coded.{decoded}
 use Rattle.laws.proofs.Growth.{under-loop}
-use Rattle.evaluate.specs.declared.Work.{Work}
-use Rattle.evaluate.specs.declared.Work.TheVariants.{Done, Deep}
-use Rattle.evaluate.specs.Memo.{busy, unknown, Thing, Elements, Grows, element, Memo, code_at, value_in, value_at, saved_at}
+use Rattle.std.specs.Prelude.{Ok, Err}
+use Rattle.evaluate.specs.Memo.{Work, busy, unknown, Thing, Elements, Grows, element, Memo, code_at, value_in, value_at, saved_at}
 use Rattle.evaluate.specs.Memo.{sum, settled_one, busy_one, to_do, count, Sized, Tells, Right, Waits, Says, Said, Kept, Wanted}
 use Rattle.evaluate.specs.Memo.{noted, code_of, value_of, stored}
 use Rattle.evaluate.proofs.Entries.{by_loop, decoded-coded, under_same, settled-low, answer-idle, answer-unmarked, answer-low, answer-to-do}
@@ -142,12 +141,12 @@ module _ (memo : Memo) (e : ℕ) (in-memo : e < length memo.codes) (fresh : code
 -- an element that was wanted is still unknown where another entry is stored, or its own as unknown again
 pub wanted-stored : (n : ℕ) (last : Memo) (e : ℕ) (r : Work) → e < length last.codes → Wanted n last r →
     Wanted n (stored last e r) r
-wanted-stored n last e (Done o) h w = tt
-wanted-stored n last e (Deep d) h w = (
+wanted-stored n last e (Ok o) h w = tt
+wanted-stored n last e (Err d) h w = (
   w.0,
-  decide d e (ℕ_discrete d e)
+  decide d.element e (ℕ_discrete d.element e)
       (λ same. rw same (code_same last e unknown (pos 0) h))
-      (λ other. code_other last e unknown (pos 0) d other ∙ w.1),
+      (λ other. code_other last e unknown (pos 0) d.element other ∙ w.1),
 )
 
 -- ---- what an outcome tells of a thing it tells at greater depths too
@@ -228,7 +227,7 @@ module _ (out : Elements) (grows : (m : ℕ) → Grows (element out m)) (n : ℕ
       -- what tells of the body at a depth tells of the element at the next, and a loop at every depth
       module _ (o : Declared.Outcome) (T : Tells body (count last) (outcome_of o)) where
         abbrev kept : Memo
-        kept = stored last e (Done o)
+        kept = stored last e (Ok o)
 
         loops : outcome_of o ≡ loop → (k : ℕ) → out k e ≡ loop
         loops l zero = start
@@ -247,10 +246,10 @@ module _ (out : Elements) (grows : (m : ℕ) → Grows (element out m)) (n : ℕ
 
       pub said-stored : (r : Work) → Said out n last body r → Said out n (stored last e r) (element out e) r
       unfolding Says
-      said-stored (Done o) D =
+      said-stored (Ok o) D =
           let T = element-tells o D.says in
-          record { right = right_kept (Done o) D.right (λ h. rw (decoded-coded (outcome_of o)) T); says = T }
-      said-stored (Deep d) D = record {
-        right = right_kept (Deep d) D.right (λ h. absurd (omega arith));
+          record { right = right_kept (Ok o) D.right (λ h. rw (decoded-coded (outcome_of o)) T); says = T }
+      said-stored (Err d) D = record {
+        right = right_kept (Err d) D.right (λ h. absurd (omega arith));
         says = λ k l. loop_down k (suc k) e (omega arith) (step k ∙ D.says k l);
       }

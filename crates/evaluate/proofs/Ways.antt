@@ -10,12 +10,14 @@ use lib.ListN.{length}
 use lib.IntN.{ℤ, nat_abs}
 use lib.Dec.{eqb}
 use borrow.Author.Tests.{eqb-true}
-use Rattle.alpha.specs.declared.Int.{Int}
 use Rattle.alpha.specs.declared.Outcome as Declared
 use Rattle.alpha.specs.declared.Outcome.TheVariants as Outcomes
 use Rattle.alpha.specs.Field.{field}
 use Rattle.alpha.specs.Sheet.{Expr, Exprs, Sheet, Point, Unary, Binary}
 use Rattle.alpha.specs.Sheet.{Expr.un, Expr.bin, Expr.ite, Expr.kase, Expr.restr, Expr.dep}
+use Rattle.alpha.specs.declared.kind.Unary.{Unary as UnaryCase}
+use Rattle.alpha.specs.declared.kind.Binary.{Binary as BinaryCase}
+use Rattle.alpha.specs.Kinds.{unary_meant, binary_meant}
 use Rattle.alpha.specs.Affine.{image}
 use Rattle.alpha.specs.Read.{unary_of, binary_of}
 use Rattle.alpha.specs.Shape.{fits}
@@ -38,11 +40,11 @@ use Rattle.tree.specs.Ends.{EndsAt}
 use Rattle.tree.proofs.Classes.{case_at, restriction-at, dependence-at, coded-field}
 use Rattle.domain.specs.Holding.{first_holding, Taken, Chooses}
 use Rattle.domain.proofs.Choices.{outcome_of, first-outcome}
-use Rattle.evaluate.specs.declared.Work.{Work}
-use Rattle.evaluate.specs.declared.Work.TheVariants.{Done}
+use Rattle.std.specs.Prelude.{Result, Ok, Err}
+use Rattle.evaluate.specs.declared.Stop.{Stop}
 use Rattle.evaluate.specs.declared.Worked.{Worked}
-use Rattle.evaluate.specs.Memo.{Thing, Memo}
-use Rattle.evaluate.specs.Working.{expression, WorksOut, ConstantRead, Evaluated, EvaluatesAt}
+use Rattle.evaluate.specs.Memo.{Work, Thing, Memo}
+use Rattle.evaluate.specs.Working.{expression, WorksOut, ConstantRead, answer_of, Ends, Gives, Evaluated, EvaluatesAt}
 use Rattle.evaluate.proofs.Doing.{expression-grows, done-same, done-known, done-value, done_first, done_next}
 
 -- ---- what an expression's outcome is, by its operands'
@@ -81,27 +83,43 @@ imaged-is : (s : Sheet) (f : _) (a : Expr) (z : Point) (ins : List ℤ) (k : ℕ
 unfolding eval
 imaged-is s f a z ins k = refl
 
--- ---- no value where a value's case is ruled out
-
-abbrev None : Work → Type 0
-None r = (x : Int) → r ≡ Done (Outcomes.Value x) → ⊥
-
-module _ (bs : List ℕ) (p : ℕ) (z : List Int) where
+module _ (bs : List ℕ) (p : ℕ) (z : List ℤ) where
   abbrev sheet : Sheet
   sheet = sheet_of bs
 
-  -- an expression that is another one, ending at the same place
-  evaluated-same : (e f : Expr) (q : ℕ) (y x : Point) (memo last : Memo) (r : Worked) →
-      ((ins : List ℤ) (k : ℕ) → expression sheet ins e y k ≡ expression sheet ins f x k) →
-      Evaluated bs f q x memo last r → Evaluated bs e q y memo last r
-  evaluated-same e f q y x memo last r is E = record {
-    done = done-same sheet memo last (λ ins. expression sheet ins e y) (λ ins. expression sheet ins f x) r.out is E.done;
-    ends = E.ends;
-  }
+  -- ---- what was worked out
 
-  evaluated-tree : (e f : Expr) (q : ℕ) (y : Point) (memo last : Memo) (r : Worked) → e ≡ f → Evaluated bs f q y memo last r →
-      Evaluated bs e q y memo last r
-  evaluated-tree e f q y memo last r is E = subst (λ t. Evaluated bs t q y memo last r) (sym is) E
+  -- what has no value has no end
+  stopped_ends : (k q : ℕ) (s : Stop) → Ends k (Err s) → Ends q (Err s)
+  stopped_ends k q s E = record { next = λ w is. cc; none = E.none }
+
+  -- a tree by another one
+  done-tree : (e f : Expr) (y : Point) (memo last : Memo) (r : Work) → e ≡ f → WorksOut sheet memo last (λ ins. expression sheet ins f y) r →
+      WorksOut sheet memo last (λ ins. expression sheet ins e y) r
+  done-tree e f y memo last r is D = subst (λ t. WorksOut sheet memo last (λ ins. expression sheet ins t y) r) (sym is) D
+
+  module _ (e : Expr) (q : ℕ) (y : Point) (memo last : Memo) where
+    -- an outcome was given, with the place after the tree
+    given : (o : Declared.Outcome) (r : Result Worked Stop) (k : ℕ) → Gives o k r → k ≡ q →
+        WorksOut sheet memo last (λ ins. expression sheet ins e y) (Ok o) → Evaluated bs e q y memo last r
+    given o r k g is D = record { done = rw g.answer D; ends = subst (λ i. Ends i r) is g.ends }
+
+    -- a part has no value
+    stopped : (s : Stop) (k : ℕ) → Ends k (Err s) → WorksOut sheet memo last (λ ins. expression sheet ins e y) (answer_of (Err s)) →
+        Evaluated bs e q y memo last (Err s)
+    stopped s k E D = record { done = D; ends = stopped_ends k q s E }
+
+    -- an expression that is another one, ending at the same place
+    evaluated-same : (f : Expr) (x : Point) (r : Result Worked Stop) →
+        ((ins : List ℤ) (k : ℕ) → expression sheet ins e y k ≡ expression sheet ins f x k) →
+        Evaluated bs f q x memo last r → Evaluated bs e q y memo last r
+    evaluated-same f x r is E = record {
+      done = done-same sheet memo last (λ ins. expression sheet ins e y) (λ ins. expression sheet ins f x) (answer_of r) is E.done;
+      ends = E.ends;
+    }
+
+    evaluated-tree : (f : Expr) (r : Result Worked Stop) → e ≡ f → Evaluated bs f q y memo last r → Evaluated bs e q y memo last r
+    evaluated-tree f r is E = subst (λ t. Evaluated bs t q y memo last r) (sym is) E
 
   -- what stands after the node stands at the next place
   after-node : (t : Expr) (k q : ℕ) → k ≡ node_end (vars_of bs) bs p → At t (vars_of bs) bs (node_end (vars_of bs) bs p) q → At t (vars_of bs) bs k q
@@ -135,20 +153,21 @@ module _ (bs : List ℕ) (p : ℕ) (z : List Int) where
         end = x.end;
       }
 
-  pub constant-way : ((e : Expr) (q : ℕ) → At e (vars_of bs) bs p q → ConstantAt e q) → (memo : Memo) (r : Worked) → ConstantRead bs p r →
-      EvaluatesAt bs p z memo memo r
-  constant-way constant memo r c e q n h f =
+  pub constant-way : ((e : Expr) (q : ℕ) → At e (vars_of bs) bs p q → ConstantAt e q) → (memo : Memo) (w : Worked) → ConstantRead bs p w →
+      EvaluatesAt bs p z memo memo (Ok w)
+  constant-way constant memo w c e q n h f =
       let x = constant e q h in
-      let d = done-value sheet memo c.value (rw c.says x.small) in
-      let is : (ins : List ℤ) (k : ℕ) → expression sheet ins e (point_of n z) k ≡ value c.value.v =
+      let d = done-value sheet memo w.value (rw c.says x.small) in
+      let is : (ins : List ℤ) (k : ℕ) → expression sheet ins e (point_of n z) k ≡ value w.value =
       λ ins k. x.value-is (point_of n z) ins k ∙ ap value (sym c.says) in
       record {
-        done =
-            rw c.is
-            (done-same sheet memo memo (λ ins. expression sheet ins e (point_of n z)) (λ ins k. value c.value.v) (Done (Outcomes.Value c.value))
-            is d);
-        ends = λ v g. c.next ∙ x.end;
+        done = done-same sheet memo memo (λ ins. expression sheet ins e (point_of n z)) (λ ins k. value w.value) (Ok (Outcomes.Value w.value)) is d;
+        ends = record { next = λ v g. sym (ap (λ o. next_in w.next o) g) ∙ c.next ∙ x.end; none = λ s g. cc };
       }
+    where
+      next_in : ℕ → Result Worked Stop → ℕ
+      next_in k (Ok v) = v.next
+      next_in k (Err s) = k
 
   -- ---- a unary operator
 
@@ -160,37 +179,45 @@ module _ (bs : List ℕ) (p : ℕ) (z : List Int) where
     unfolding fits
     fit-one e q n h f = rw (here-one e q h).is at f
 
-    module _ (memo last : Memo) (a : Worked) (A : EvaluatesAt bs k z memo last a) where
-      pub one-back : None a.out → EvaluatesAt bs p z memo last a
-      one-back lacks e q n h f =
-          let x = here-one e q h in
-          let y = point_of n z in
-          let E = A x.child q n (after-node x.child k q next x.below) (fit-one e q n h f) in
-          let d =
-          done_first sheet (λ ins. expression sheet ins x.child y) (λ ins. expression-grows sheet ins x.child y)
-          (λ v ins k. unary x.op v) memo last a.out lacks E.done in
-          evaluated-tree e (un x.op x.child) q y memo last a x.is (record {
-            done = done-same sheet memo last _ _ a.out (λ ins k. one-is sheet ins y k x.op x.child) d;
-            ends = λ v g. absurd (lacks v g);
-          })
+    module _ (memo last : Memo) where
+      operand-done : (a : Result Worked Stop) → EvaluatesAt bs k z memo last a → (e : Expr) (q n : ℕ) (h : At e (vars_of bs) bs p q) →
+          fits e (heads_of bs) n ≡ true → Evaluated bs (here-one e q h).child q (point_of n z) memo last a
+      operand-done a A e q n h f =
+          let x = here-one e q h in A x.child q n (after-node x.child k q next x.below) (fit-one e q n h f)
 
-      pub one_way : (v : Int) (op : ℕ) (o : Declared.Outcome) → a.out ≡ Done (Outcomes.Value v) → op ≡ nat_abs (field bs (p + 8)) →
-          Range.Says o (unary (unary_of op) v.v) →
-          EvaluatesAt bs p z memo last (record { out = Done o; next = a.next })
-      one_way v op o is number says e q n h f =
+      -- the tree by its operand, and then the operator
+      one-done : (e : Expr) (q n : ℕ) (h : At e (vars_of bs) bs p q) (r : Work) →
+          WorksOut sheet memo last (λ ins k. and_then (expression sheet ins (here-one e q h).child (point_of n z) k) (λ v. unary (here-one e q h).op v)) r →
+          WorksOut sheet memo last (λ ins. expression sheet ins e (point_of n z)) r
+      one-done e q n h r d =
           let x = here-one e q h in
           let y = point_of n z in
-          let E = A x.child q n (after-node x.child k q next x.below) (fit-one e q n h f) in
-          let same : x.op ≡ unary_of op = x.chosen.is ∙ ap unary_of (sym number) in
-          let said : Range.Says o (unary x.op v.v) = rw same says in
-          let first = rw is at E.done in
-          let d =
-          done_next sheet (λ ins. expression sheet ins x.child y) (λ ins. expression-grows sheet ins x.child y) (λ w ins k. unary x.op w)
-          memo last last v (Done o) first (done-known sheet last o (unary x.op v.v) said) in
-          evaluated-tree e (un x.op x.child) q y memo last _ x.is (record {
-            done = done-same sheet memo last _ _ (Done o) (λ ins k. one-is sheet ins y k x.op x.child) d;
-            ends = λ w g. E.ends v is;
-          })
+          done-tree e (un x.op x.child) y memo last r x.is (done-same sheet memo last _ _ r (λ ins k. one-is sheet ins y k x.op x.child) d)
+
+      -- the operand has no value
+      pub one-back : (s : Stop) → EvaluatesAt bs k z memo last (Err s) → EvaluatesAt bs p z memo last (Err s)
+      one-back s A e q n h f =
+          let x = here-one e q h in
+          let y = point_of n z in
+          let E = operand-done (Err s) A e q n h f in
+          stopped e q y memo last s q E.ends
+          (one-done e q n h (answer_of (Err s))
+          (done_first sheet (λ ins. expression sheet ins x.child y) (λ ins. expression-grows sheet ins x.child y)
+          (λ v ins k. unary x.op v) memo last (answer_of (Err s)) (E.ends.none s refl) E.done))
+
+      pub one_way : (w : Worked) → EvaluatesAt bs k z memo last (Ok w) → (op : UnaryCase) (o : Declared.Outcome) →
+          unary_meant op ≡ unary_of (nat_abs (field bs (p + 8))) →
+          Range.Says o (unary (unary_meant op) w.value) → (r : Result Worked Stop) → Gives o w.next r → EvaluatesAt bs p z memo last r
+      one_way w A op o number says r g e q n h f =
+          let x = here-one e q h in
+          let y = point_of n z in
+          let E = operand-done (Ok w) A e q n h f in
+          let same : x.op ≡ unary_meant op = x.chosen.is ∙ sym number in
+          let said : Range.Says o (unary x.op w.value) = rw same says in
+          given e q y memo last o r w.next g (E.ends.next w refl)
+          (one-done e q n h (Ok o)
+          (done_next sheet (λ ins. expression sheet ins x.child y) (λ ins. expression-grows sheet ins x.child y) (λ v ins k. unary x.op v)
+          memo last last w.value (Ok o) E.done (done-known sheet last o (unary x.op w.value) said)))
 
   -- ---- a binary operator
 
@@ -203,73 +230,81 @@ module _ (bs : List ℕ) (p : ℕ) (z : List Int) where
     unfolding fits
     fit-two e q n h f = rw (here-two e q h).is at f
 
-    module _ (memo mid : Memo) (a : Worked) (A : EvaluatesAt bs k z memo mid a) where
+    module _ (memo mid : Memo) where
       -- the left operand of any such tree
-      left-done : (e : Expr) (q n : ℕ) (h : At e (vars_of bs) bs p q) → fits e (heads_of bs) n ≡ true →
-          Evaluated bs (here-two e q h).left (here-two e q h).middle (point_of n z) memo mid a
-      left-done e q n h f =
+      left-done : (a : Result Worked Stop) → EvaluatesAt bs k z memo mid a → (e : Expr) (q n : ℕ) (h : At e (vars_of bs) bs p q) →
+          fits e (heads_of bs) n ≡ true → Evaluated bs (here-two e q h).left (here-two e q h).middle (point_of n z) memo mid a
+      left-done a A e q n h f =
           let x = here-two e q h in
-          A x.left x.middle n (after-node x.left k x.middle next x.before) (&&-left (fits x.left (heads_of bs) n) (fits x.right (heads_of bs) n) (fit-two e q n h f))
+          A x.left x.middle n (after-node x.left k x.middle next x.before)
+          (&&-left (fits x.left (heads_of bs) n) (fits x.right (heads_of bs) n) (fit-two e q n h f))
 
-      pub left_back : None a.out → EvaluatesAt bs p z memo mid a
-      left_back lacks e q n h f =
+      -- the tree by its left operand, and what follows it
+      two-done : (e : Expr) (q n : ℕ) (h : At e (vars_of bs) bs p q) (last : Memo) (r : Work) →
+          WorksOut sheet memo last (λ ins k. and_then (expression sheet ins (here-two e q h).left (point_of n z) k)
+          (λ u. and_then (expression sheet ins (here-two e q h).right (point_of n z) k) (λ w. binary (here-two e q h).op u w))) r →
+          WorksOut sheet memo last (λ ins. expression sheet ins e (point_of n z)) r
+      two-done e q n h last r d =
           let x = here-two e q h in
           let y = point_of n z in
-          let d = done_first sheet (λ ins. expression sheet ins x.left y) (λ ins. expression-grows sheet ins x.left y)
-          (λ v ins k. and_then (expression sheet ins x.right y k) (λ w. binary x.op v w)) memo mid a.out lacks (left-done e q n h f).done in
-          evaluated-tree e (bin x.op x.left x.right) q y memo mid a x.is (record {
-            done = done-same sheet memo mid _ _ a.out (λ ins k. two_is sheet ins y k x.op x.left x.right) d;
-            ends = λ v g. absurd (lacks v g);
-          })
+          done-tree e (bin x.op x.left x.right) y memo last r x.is (done-same sheet memo last _ _ r (λ ins k. two_is sheet ins y k x.op x.left x.right) d)
 
-      module _ (v : Int) (is : a.out ≡ Done (Outcomes.Value v)) (last : Memo) (b : Worked) (B : EvaluatesAt bs a.next z mid last b) where
-        right-done : (e : Expr) (q n : ℕ) (h : At e (vars_of bs) bs p q) → fits e (heads_of bs) n ≡ true →
-            Evaluated bs (here-two e q h).right q (point_of n z) mid last b
-        right-done e q n h f =
+      -- the left operand has no value
+      pub left_back : (s : Stop) → EvaluatesAt bs k z memo mid (Err s) → EvaluatesAt bs p z memo mid (Err s)
+      left_back s A e q n h f =
+          let x = here-two e q h in
+          let y = point_of n z in
+          let E = left-done (Err s) A e q n h f in
+          stopped e q y memo mid s x.middle E.ends
+          (two-done e q n h mid (answer_of (Err s))
+          (done_first sheet (λ ins. expression sheet ins x.left y) (λ ins. expression-grows sheet ins x.left y)
+          (λ u ins k. and_then (expression sheet ins x.right y k) (λ w. binary x.op u w)) memo mid (answer_of (Err s)) (E.ends.none s refl) E.done))
+
+      module _ (v : Worked) (A : EvaluatesAt bs k z memo mid (Ok v)) (last : Memo) where
+        right-done : (b : Result Worked Stop) → EvaluatesAt bs v.next z mid last b → (e : Expr) (q n : ℕ) (h : At e (vars_of bs) bs p q) →
+            fits e (heads_of bs) n ≡ true → Evaluated bs (here-two e q h).right q (point_of n z) mid last b
+        right-done b B e q n h f =
             let x = here-two e q h in
-            let at : At x.right (vars_of bs) bs a.next q = rw ((left-done e q n h f).ends v is) x.after in
+            let at : At x.right (vars_of bs) bs v.next q = rw ((left-done (Ok v) A e q n h f).ends.next v refl) x.after in
             B x.right q n at (&&-right (fits x.left (heads_of bs) n) (fits x.right (heads_of bs) n) (fit-two e q n h f))
 
         -- the tree, from what follows the left operand's value
-        both-done : (e : Expr) (q n : ℕ) (h : At e (vars_of bs) bs p q) (f : fits e (heads_of bs) n ≡ true) (r : Worked) →
+        both-done : (e : Expr) (q n : ℕ) (h : At e (vars_of bs) bs p q) (f : fits e (heads_of bs) n ≡ true) (r : Work) →
             WorksOut sheet mid last (λ ins k. and_then (expression sheet ins (here-two e q h).right (point_of n z) k)
-            (λ w. binary (here-two e q h).op v.v w)) r.out →
-            ((w : Int) → r.out ≡ Done (Outcomes.Value w) → r.next ≡ q) → Evaluated bs e q (point_of n z) memo last r
-        both-done e q n h f r d ends =
+            (λ w. binary (here-two e q h).op v.value w)) r →
+            WorksOut sheet memo last (λ ins. expression sheet ins e (point_of n z)) r
+        both-done e q n h f r d =
             let x = here-two e q h in
             let y = point_of n z in
-            let first = rw is at (left-done e q n h f).done in
-            let g = done_next sheet (λ ins. expression sheet ins x.left y) (λ ins. expression-grows sheet ins x.left y)
-            (λ u ins k. and_then (expression sheet ins x.right y k) (λ w. binary x.op u w)) memo mid last v r.out first d in
-            evaluated-tree e (bin x.op x.left x.right) q y memo last r x.is (record {
-              done = done-same sheet memo last _ _ r.out (λ ins k. two_is sheet ins y k x.op x.left x.right) g;
-              ends = ends;
-            })
+            two-done e q n h last r
+            (done_next sheet (λ ins. expression sheet ins x.left y) (λ ins. expression-grows sheet ins x.left y)
+            (λ u ins k. and_then (expression sheet ins x.right y k) (λ w. binary x.op u w)) memo mid last v.value r (left-done (Ok v) A e q n h f).done d)
 
-        pub right-back : None b.out → EvaluatesAt bs p z memo last b
-        right-back lacks e q n h f =
+        -- the right operand has no value
+        pub right-back : (s : Stop) → EvaluatesAt bs v.next z mid last (Err s) → EvaluatesAt bs p z memo last (Err s)
+        right-back s B e q n h f =
             let x = here-two e q h in
             let y = point_of n z in
-            both-done e q n h f b
+            let E = right-done (Err s) B e q n h f in
+            stopped e q y memo last s q E.ends
+            (both-done e q n h f (answer_of (Err s))
             (done_first sheet (λ ins. expression sheet ins x.right y) (λ ins. expression-grows sheet ins x.right y)
-            (λ w ins k. binary x.op v.v w) mid last b.out lacks
-            (right-done e q n h f).done)
-            (λ w g. absurd (lacks w g))
+            (λ w ins k. binary x.op v.value w) mid last (answer_of (Err s)) (E.ends.none s refl) E.done))
 
-        pub two-way : (w : Int) (op : ℕ) (o : Declared.Outcome) → b.out ≡ Done (Outcomes.Value w) → op ≡ nat_abs (field bs (p + 8)) →
-            Range.Says o (binary (binary_of op) v.v w.v) →
-            EvaluatesAt bs p z memo last (record { out = Done o; next = b.next })
-        two-way w op o has number says e q n h f =
+        pub two-way : (w : Worked) → EvaluatesAt bs v.next z mid last (Ok w) → (op : BinaryCase) (o : Declared.Outcome) →
+            binary_meant op ≡ binary_of (nat_abs (field bs (p + 8))) →
+            Range.Says o (binary (binary_meant op) v.value w.value) → (r : Result Worked Stop) → Gives o w.next r → EvaluatesAt bs p z memo last r
+        two-way w B op o number says r g e q n h f =
             let x = here-two e q h in
             let y = point_of n z in
-            let same : x.op ≡ binary_of op = x.chosen.is ∙ ap binary_of (sym number) in
-            let said : Range.Says o (binary x.op v.v w.v) = rw same says in
-            let second = rw has at (right-done e q n h f).done in
-            both-done e q n h f (record { out = Done o; next = b.next })
+            let E = right-done (Ok w) B e q n h f in
+            let same : x.op ≡ binary_meant op = x.chosen.is ∙ sym number in
+            let said : Range.Says o (binary x.op v.value w.value) = rw same says in
+            given e q y memo last o r w.next g (E.ends.next w refl)
+            (both-done e q n h f (Ok o)
             (done_next sheet (λ ins. expression sheet ins x.right y) (λ ins. expression-grows sheet ins x.right y)
-            (λ u ins k. binary x.op v.v u) mid last last w (Done o) second
-            (done-known sheet last o (binary x.op v.v w.v) said))
-            (λ u g. (right-done e q n h f).ends w has)
+            (λ u ins k. binary x.op v.value u) mid last last w.value (Ok o) E.done
+            (done-known sheet last o (binary x.op v.value w.value) said)))
 
   -- ---- an if
 
@@ -290,105 +325,112 @@ module _ (bs : List ℕ) (p : ℕ) (z : List Int) where
     abbrev arm : Expr → Point → ℤ → ℤ → List ℤ → Thing
     arm c y t x ins k = and_then (expression sheet ins c y k) (λ w. choose (is_true t) x w)
 
-    module _ (memo one : Memo) (a : Worked) (A : EvaluatesAt bs k z memo one a) where
-      test-done : (e : Expr) (q n : ℕ) (h : At e (vars_of bs) bs p q) → fits e (heads_of bs) n ≡ true →
-          Evaluated bs (here-three e q h).test (here-three e q h).middle (point_of n z) memo one a
-      test-done e q n h f =
+    module _ (memo one : Memo) where
+      test-done : (a : Result Worked Stop) → EvaluatesAt bs k z memo one a → (e : Expr) (q n : ℕ) (h : At e (vars_of bs) bs p q) →
+          fits e (heads_of bs) n ≡ true → Evaluated bs (here-three e q h).test (here-three e q h).middle (point_of n z) memo one a
+      test-done a A e q n h f =
           let x = here-three e q h in
           A x.test x.middle n (after-node x.test k x.middle next x.tested)
           (&&-left (fits x.test (heads_of bs) n) (fits x.left (heads_of bs) n)
           (&&-left (fits x.test (heads_of bs) n && fits x.left (heads_of bs) n) (fits x.right (heads_of bs) n) (fit-three e q n h f)))
 
-      pub test_back : None a.out → EvaluatesAt bs p z memo one a
-      test_back lacks e q n h f =
+      -- the tree by its test, and what follows it
+      three-done : (e : Expr) (q n : ℕ) (h : At e (vars_of bs) bs p q) (last : Memo) (r : Work) →
+          WorksOut sheet memo last (λ ins k. and_then (expression sheet ins (here-three e q h).test (point_of n z) k)
+          (λ t. arms (here-three e q h).left (here-three e q h).right (point_of n z) t ins k)) r →
+          WorksOut sheet memo last (λ ins. expression sheet ins e (point_of n z)) r
+      three-done e q n h last r d =
           let x = here-three e q h in
           let y = point_of n z in
-          let d =
-          done_first sheet (λ ins. expression sheet ins x.test y) (λ ins. expression-grows sheet ins x.test y) (arms x.left x.right y)
-          memo one a.out lacks
-          (test-done e q n h f).done in
-          evaluated-tree e (ite x.test x.left x.right) q y memo one a x.is (record {
-            done = done-same sheet memo one _ _ a.out (λ ins k. three-is sheet ins y k x.test x.left x.right) d;
-            ends = λ v g. absurd (lacks v g);
-          })
+          done-tree e (ite x.test x.left x.right) y memo last r x.is
+          (done-same sheet memo last _ _ r (λ ins k. three-is sheet ins y k x.test x.left x.right) d)
 
-      module _ (t : Int) (tested : a.out ≡ Done (Outcomes.Value t)) (two : Memo) (b : Worked) (B : EvaluatesAt bs a.next z one two b) where
-        first_done : (e : Expr) (q n : ℕ) (h : At e (vars_of bs) bs p q) → fits e (heads_of bs) n ≡ true →
-            Evaluated bs (here-three e q h).left (here-three e q h).last (point_of n z) one two b
-        first_done e q n h f =
+      -- the test has no value
+      pub test_back : (s : Stop) → EvaluatesAt bs k z memo one (Err s) → EvaluatesAt bs p z memo one (Err s)
+      test_back s A e q n h f =
+          let x = here-three e q h in
+          let y = point_of n z in
+          let E = test-done (Err s) A e q n h f in
+          stopped e q y memo one s x.middle E.ends
+          (three-done e q n h one (answer_of (Err s))
+          (done_first sheet (λ ins. expression sheet ins x.test y) (λ ins. expression-grows sheet ins x.test y) (arms x.left x.right y)
+          memo one (answer_of (Err s)) (E.ends.none s refl) E.done))
+
+      module _ (t : Worked) (A : EvaluatesAt bs k z memo one (Ok t)) (two : Memo) where
+        first_done : (b : Result Worked Stop) → EvaluatesAt bs t.next z one two b → (e : Expr) (q n : ℕ) (h : At e (vars_of bs) bs p q) →
+            fits e (heads_of bs) n ≡ true → Evaluated bs (here-three e q h).left (here-three e q h).last (point_of n z) one two b
+        first_done b B e q n h f =
             let x = here-three e q h in
-            let at : At x.left (vars_of bs) bs a.next x.last = rw ((test-done e q n h f).ends t tested) x.before in
+            let at : At x.left (vars_of bs) bs t.next x.last = rw ((test-done (Ok t) A e q n h f).ends.next t refl) x.before in
             B x.left x.last n at
             (&&-right (fits x.test (heads_of bs) n) (fits x.left (heads_of bs) n)
             (&&-left (fits x.test (heads_of bs) n && fits x.left (heads_of bs) n) (fits x.right (heads_of bs) n) (fit-three e q n h f)))
 
         -- the tree, from what follows the test's value
-        tested-done : (e : Expr) (q n : ℕ) (h : At e (vars_of bs) bs p q) (f : fits e (heads_of bs) n ≡ true) (last : Memo) (r : Worked) →
-            WorksOut sheet one last (arms (here-three e q h).left (here-three e q h).right (point_of n z) t.v) r.out →
-            ((w : Int) → r.out ≡ Done (Outcomes.Value w) → r.next ≡ q) → Evaluated bs e q (point_of n z) memo last r
-        tested-done e q n h f last r d ends =
+        tested-done : (e : Expr) (q n : ℕ) (h : At e (vars_of bs) bs p q) (f : fits e (heads_of bs) n ≡ true) (last : Memo) (r : Work) →
+            WorksOut sheet one last (arms (here-three e q h).left (here-three e q h).right (point_of n z) t.value) r →
+            WorksOut sheet memo last (λ ins. expression sheet ins e (point_of n z)) r
+        tested-done e q n h f last r d =
             let x = here-three e q h in
             let y = point_of n z in
-            let first = rw tested at (test-done e q n h f).done in
-            let g =
-            done_next sheet (λ ins. expression sheet ins x.test y) (λ ins. expression-grows sheet ins x.test y)
-            (arms x.left x.right y) memo one last t r.out first d in
-            evaluated-tree e (ite x.test x.left x.right) q y memo last r x.is (record {
-              done = done-same sheet memo last _ _ r.out (λ ins k. three-is sheet ins y k x.test x.left x.right) g;
-              ends = ends;
-            })
+            three-done e q n h last r
+            (done_next sheet (λ ins. expression sheet ins x.test y) (λ ins. expression-grows sheet ins x.test y)
+            (arms x.left x.right y) memo one last t.value r (test-done (Ok t) A e q n h f).done d)
 
-        pub first_back : None b.out → EvaluatesAt bs p z memo two b
-        first_back lacks e q n h f =
+        -- the first arm has no value
+        pub first_back : (s : Stop) → EvaluatesAt bs t.next z one two (Err s) → EvaluatesAt bs p z memo two (Err s)
+        first_back s B e q n h f =
             let x = here-three e q h in
             let y = point_of n z in
-            tested-done e q n h f two b
-            (done_first sheet (λ ins. expression sheet ins x.left y) (λ ins. expression-grows sheet ins x.left y) (arm x.right y t.v) one
-            two b.out lacks (first_done e q n h f).done)
-            (λ w g. absurd (lacks w g))
+            let E = first_done (Err s) B e q n h f in
+            stopped e q y memo two s x.last E.ends
+            (tested-done e q n h f two (answer_of (Err s))
+            (done_first sheet (λ ins. expression sheet ins x.left y) (λ ins. expression-grows sheet ins x.left y) (arm x.right y t.value) one
+            two (answer_of (Err s)) (E.ends.none s refl) E.done))
 
-        module _ (u : Int) (has : b.out ≡ Done (Outcomes.Value u)) (last : Memo) (c : Worked) (C : EvaluatesAt bs b.next z two last c) where
-          second-done : (e : Expr) (q n : ℕ) (h : At e (vars_of bs) bs p q) → fits e (heads_of bs) n ≡ true →
-              Evaluated bs (here-three e q h).right q (point_of n z) two last c
-          second-done e q n h f =
+        module _ (u : Worked) (B : EvaluatesAt bs t.next z one two (Ok u)) (last : Memo) where
+          second-done : (c : Result Worked Stop) → EvaluatesAt bs u.next z two last c → (e : Expr) (q n : ℕ) (h : At e (vars_of bs) bs p q) →
+              fits e (heads_of bs) n ≡ true → Evaluated bs (here-three e q h).right q (point_of n z) two last c
+          second-done c C e q n h f =
               let x = here-three e q h in
-              let at : At x.right (vars_of bs) bs b.next q = rw ((first_done e q n h f).ends u has) x.after in
+              let at : At x.right (vars_of bs) bs u.next q = rw ((first_done (Ok u) B e q n h f).ends.next u refl) x.after in
               C x.right q n at (&&-right (fits x.test (heads_of bs) n && fits x.left (heads_of bs) n) (fits x.right (heads_of bs) n)
               (fit-three e q n h f))
 
           -- the tree, from what follows the first arm's value
-          armed-done : (e : Expr) (q n : ℕ) (h : At e (vars_of bs) bs p q) (f : fits e (heads_of bs) n ≡ true) (r : Worked) →
-              WorksOut sheet two last (arm (here-three e q h).right (point_of n z) t.v u.v) r.out →
-              ((w : Int) → r.out ≡ Done (Outcomes.Value w) → r.next ≡ q) → Evaluated bs e q (point_of n z) memo last r
-          armed-done e q n h f r d ends =
+          armed-done : (e : Expr) (q n : ℕ) (h : At e (vars_of bs) bs p q) (f : fits e (heads_of bs) n ≡ true) (r : Work) →
+              WorksOut sheet two last (arm (here-three e q h).right (point_of n z) t.value u.value) r →
+              WorksOut sheet memo last (λ ins. expression sheet ins e (point_of n z)) r
+          armed-done e q n h f r d =
               let x = here-three e q h in
               let y = point_of n z in
-              let first = rw has at (first_done e q n h f).done in
               tested-done e q n h f last r
-              (done_next sheet (λ ins. expression sheet ins x.left y) (λ ins. expression-grows sheet ins x.left y) (arm x.right y t.v) one
-              two last u r.out first d) ends
+              (done_next sheet (λ ins. expression sheet ins x.left y) (λ ins. expression-grows sheet ins x.left y) (arm x.right y t.value) one
+              two last u.value r (first_done (Ok u) B e q n h f).done d)
 
-          pub second_back : None c.out → EvaluatesAt bs p z memo last c
-          second_back lacks e q n h f =
+          -- the second arm has no value
+          pub second_back : (s : Stop) → EvaluatesAt bs u.next z two last (Err s) → EvaluatesAt bs p z memo last (Err s)
+          second_back s C e q n h f =
               let x = here-three e q h in
               let y = point_of n z in
-              armed-done e q n h f c
+              let E = second-done (Err s) C e q n h f in
+              stopped e q y memo last s q E.ends
+              (armed-done e q n h f (answer_of (Err s))
               (done_first sheet (λ ins. expression sheet ins x.right y) (λ ins. expression-grows sheet ins x.right y)
-              (λ w ins k. choose (is_true t.v) u.v w) two last c.out lacks
-              (second-done e q n h f).done)
-              (λ w g. absurd (lacks w g))
+              (λ w ins k. choose (is_true t.value) u.value w) two last (answer_of (Err s)) (E.ends.none s refl) E.done))
 
-          pub three-way : (w : Int) (o : Declared.Outcome) → c.out ≡ Done (Outcomes.Value w) → Range.Says o (choose (is_true t.v) u.v w.v) →
-              EvaluatesAt bs p z memo last (record { out = Done o; next = c.next })
-          three-way w o got says e q n h f =
+          pub three-way : (w : Worked) → EvaluatesAt bs u.next z two last (Ok w) → (o : Declared.Outcome) →
+              Range.Says o (choose (is_true t.value) u.value w.value) →
+              (r : Result Worked Stop) → Gives o w.next r → EvaluatesAt bs p z memo last r
+          three-way w C o says r g e q n h f =
               let x = here-three e q h in
               let y = point_of n z in
-              let second = rw got at (second-done e q n h f).done in
-              armed-done e q n h f (record { out = Done o; next = c.next })
+              let E = second-done (Ok w) C e q n h f in
+              given e q y memo last o r w.next g (E.ends.next w refl)
+              (armed-done e q n h f (Ok o)
               (done_next sheet (λ ins. expression sheet ins x.right y) (λ ins. expression-grows sheet ins x.right y)
-              (λ v ins k. choose (is_true t.v) u.v v) two last last w (Done o) second
-              (done-known sheet last o (choose (is_true t.v) u.v w.v) says))
-              (λ v g. (second-done e q n h f).ends w got)
+              (λ v ins k. choose (is_true t.value) u.value v) two last last w.value (Ok o) E.done
+              (done-known sheet last o (choose (is_true t.value) u.value w.value) says)))
 
   -- ---- a case
 
@@ -399,23 +441,39 @@ module _ (bs : List ℕ) (p : ℕ) (z : List Int) where
     taken : (e : Expr) (q n : ℕ) (h : At e (vars_of bs) bs p q) → fits e (heads_of bs) n ≡ true → Taken bs (here-case e q h).branches n z place
     taken e q n h f = let x = here-case e q h in C.says x.branches q n (rw x.is at h) (rw x.is at f)
 
-    -- it has the outcome of its branch, and its own end
-    pub branch-way : (memo last : Memo) (r : Worked) → EvaluatesAt bs place z memo last r → (next : ℕ) → EndsAt (vars_of bs) bs p next →
-        EvaluatesAt bs p z memo last (record { out = r.out; next = next })
-    branch-way memo last r R next ends e q n h f =
-        let x = here-case e q h in
-        let y = point_of n z in
-        let t = taken e q n h f in
-        let d = (R t.tree t.end n t.at t.fitting).done in
-        evaluated-tree e (kase x.branches) q y memo last (record { out = r.out; next = next }) x.is (record {
-          done = done-same sheet memo last (λ ins. expression sheet ins (kase x.branches) y) (λ ins. expression sheet ins t.tree y) r.out
-              (taken_is sheet x.branches y t.tree t.first) d;
-          ends = λ v g. ends e q h;
-        })
+    module _ (memo last : Memo) where
+      -- the tree by the branch that it takes
+      branch-done : (r : Result Worked Stop) → EvaluatesAt bs place z memo last r → (e : Expr) (q n : ℕ) → At e (vars_of bs) bs p q →
+          fits e (heads_of bs) n ≡ true → WorksOut sheet memo last (λ ins. expression sheet ins e (point_of n z)) (answer_of r)
+      branch-done r R e q n h f =
+          let x = here-case e q h in
+          let y = point_of n z in
+          let t = taken e q n h f in
+          done-tree e (kase x.branches) y memo last (answer_of r) x.is
+          (done-same sheet memo last (λ ins. expression sheet ins (kase x.branches) y) (λ ins. expression sheet ins t.tree y) (answer_of r)
+          (taken_is sheet x.branches y t.tree t.first) (R t.tree t.end n t.at t.fitting).done)
+
+      -- the branch has no value
+      pub branch-back : (s : Stop) → EvaluatesAt bs place z memo last (Err s) → EvaluatesAt bs p z memo last (Err s)
+      branch-back s R e q n h f =
+          let t = taken e q n h f in
+          stopped e q (point_of n z) memo last s t.end (R t.tree t.end n t.at t.fitting).ends (branch-done (Err s) R e q n h f)
+
+      -- it has the value of its branch, and its own end
+      pub branch-way : (w : Worked) → EvaluatesAt bs place z memo last (Ok w) → (next : ℕ) → EndsAt (vars_of bs) bs p next →
+          EvaluatesAt bs p z memo last (Ok (record { value = w.value; next = next }))
+      branch-way w R next ends e q n h f = record {
+        done = branch-done (Ok w) R e q n h f;
+        ends = record { next = λ v g. sym (ap next_of g) ∙ ends e q h; none = λ s g. cc };
+      }
+        where
+          next_of : Result Worked Stop → ℕ
+          next_of (Ok v) = v.next
+          next_of (Err s) = next
 
   -- ---- a restriction
 
-  pub restriction-way : class_at bs p ≡ Restriction → (k : ℕ) → k ≡ node_end (vars_of bs) bs p → (memo last : Memo) (r : Worked) →
+  pub restriction-way : class_at bs p ≡ Restriction → (k : ℕ) → k ≡ node_end (vars_of bs) bs p → (memo last : Memo) (r : Result Worked Stop) →
       EvaluatesAt bs k z memo last r → EvaluatesAt bs p z memo last r
   restriction-way class_is k next memo last r R e q n h f =
       let x = restriction-at bs e p q h class_is in
@@ -423,16 +481,16 @@ module _ (bs : List ℕ) (p : ℕ) (z : List Int) where
       let E =
       R x.child q n (after-node x.child k q next x.below)
       (&&-right (eqb x.dim n) (fits x.child (heads_of bs) n) (parts x)) in
-      evaluated-tree e (restr x.dim x.given x.child) q y memo last r x.is
-      (evaluated-same (restr x.dim x.given x.child) x.child q y y memo last r (restricted-is sheet x.dim x.given x.child y) E)
+      evaluated-tree e q y memo last (restr x.dim x.given x.child) r x.is
+      (evaluated-same (restr x.dim x.given x.child) q y memo last x.child y r (restricted-is sheet x.dim x.given x.child y) E)
     where
       parts : (x : RestrAt e (vars_of bs) bs p q) → eqb x.dim n && fits x.child (heads_of bs) n ≡ true
       parts x = unfold fits in rw x.is at f
 
   -- ---- a dependence
 
-  pub image-way : class_at bs p ≡ Dependence → (k : ℕ) → k ≡ node_end (vars_of bs) bs p → (y : List Int) → ImageAt bs (p + 8) z y →
-      (memo last : Memo) (r : Worked) → EvaluatesAt bs k y memo last r → EvaluatesAt bs p z memo last r
+  pub image-way : class_at bs p ≡ Dependence → (k : ℕ) → k ≡ node_end (vars_of bs) bs p → (y : List ℤ) → ImageAt bs (p + 8) z y →
+      (memo last : Memo) (r : Result Worked Stop) → EvaluatesAt bs k y memo last r → EvaluatesAt bs p z memo last r
   image-way class_is k next y i memo last r R e q n h f =
       let x = dependence-at bs e p q h class_is in
       let m = i.map in
@@ -442,8 +500,8 @@ module _ (bs : List ℕ) (p : ℕ) (z : List Int) where
       rw (height-length m map_is, width-cols m map_is, cols) at (i.is ∙ ap (λ w. image w.rows (point_of m.width z)) map_is) in
       let E = R x.child q (length x.by.rows) (after-node x.child k q next x.below)
       (&&-right (eqb x.by.cols n) (fits x.child (heads_of bs) (length x.by.rows)) (parts x)) in
-      evaluated-tree e (dep x.by x.child) q (point_of n z) memo last r x.is
-      (evaluated-same (dep x.by x.child) x.child q (point_of n z) (image x.by.rows (point_of n z)) memo last r
+      evaluated-tree e q (point_of n z) memo last (dep x.by x.child) r x.is
+      (evaluated-same (dep x.by x.child) q (point_of n z) memo last x.child (image x.by.rows (point_of n z)) r
       (imaged-is sheet x.by x.child (point_of n z))
       (subst (λ w. Evaluated bs x.child q w memo last r) point E))
     where

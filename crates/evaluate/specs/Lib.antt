@@ -2,3 +2,4 @@
 pub mod Memo
 pub mod Working
 pub mod Settling
+pub mod Evaluating

@@ -1,21 +1,25 @@
 -- The memo: for each element by its number a code and a value. Codes 0 to 4 are document 01's, of elements that are settled; 5 marks
 -- an element in progress, 6 an unknown one. `out k m` is the outcome of element m at depth k; a thing that is worked out is its outcome
 -- by depth. Assumes nothing.
-use Rattle.std.specs.Prelude.{◌≡◌, ℕ, suc, ◌+◌, ◌/◌, ◌%◌, ◌≤◌, ◌<◌, List, [], ◌∷◌, map, length, get_or, set, ℤ, pos, ◌-ℤ◌, leb, eqb}
+use Rattle.std.specs.Prelude.{◌≡◌, Result, Ok, Err, ℕ, suc, ◌+◌, ◌/◌, ◌%◌, ◌≤◌, ◌<◌, List, [], ◌∷◌, map, length, get_or, set, ℤ, pos, ◌-ℤ◌, leb, eqb}
 use Rattle.alpha.specs.Pick.{ifb}
 use Rattle.alpha.specs.Outcome.{Outcome, loop}
+use Rattle.alpha.specs.declared.Outcome as Declared
 use Rattle.alpha.specs.Verdict.{outcome_of, code_for, value_for}
 use Rattle.laws.specs.Under.{Under}
 use Rattle.laws.specs.Coded.{decoded}
 use Rattle.integer.specs.Range as Range
-use Rattle.evaluate.specs.declared.Work.{Work}
-use Rattle.evaluate.specs.declared.Work.TheVariants.{Done, Deep}
+use Rattle.evaluate.specs.declared.Awaited.{Awaited}
 
 abbrev pub busy : ℕ
 busy = 5
 
 abbrev pub unknown : ℕ
 unknown = 6
+
+-- what a thing that is worked out answers: its outcome, or the element that has to be worked out first
+abbrev pub Work : Type 0
+Work = Result Declared.Outcome Awaited
 
 -- the outcome by depth of one thing, and of each element
 abbrev pub Thing : Type 0
@@ -99,8 +103,8 @@ pub record Waits (out : Elements) (n : ℕ) (memo : Memo) (f : Thing) : Type 0 w
 -- ---- what an answer says of f, where c entries are settled: an outcome tells what f is at depth c, and f loops where the element that
 -- has to be worked out first does
 unfoldable pub Says : Elements → Thing → ℕ → Work → Type 0
-Says out f c (Done o) = Tells f c (outcome_of o)
-Says out f c (Deep d) = (k : ℕ) → out k d ≡ loop → f k ≡ loop
+Says out f c (Ok o) = Tells f c (outcome_of o)
+Says out f c (Err d) = (k : ℕ) → out k d.element ≡ loop → f k ≡ loop
 
 pub record Said (out : Elements) (n : ℕ) (last : Memo) (f : Thing) (r : Work) : Type 0 where
   pub right : Right out n last
@@ -121,20 +125,20 @@ pub record Kept (memo last : Memo) : Type 0 where
 
 -- an element that is to be worked out first is one of the n, and unknown
 abbrev pub Wanted : ℕ → Memo → Work → Type 0
-Wanted n memo (Done o) = Unit {0}
-Wanted n memo (Deep d) = (d < n) × (code_at memo d ≡ unknown)
+Wanted n memo (Ok o) = Unit {0}
+Wanted n memo (Err d) = (d.element < n) × (code_at memo d.element ≡ unknown)
 
 -- a value is in the 32-bit range
 abbrev pub Small : Work → Type 0
-Small (Done o) = Range.Small o
-Small (Deep d) = Unit {0}
+Small (Ok o) = Range.Small o
+Small (Err d) = Unit {0}
 
 -- ---- entries read and stored
 
 -- what the memo answers for element e: the outcome of its entry, or that it has to be worked out first where it is unknown
 abbrev pub Known : Memo → ℕ → Work → Type 0
-Known memo e (Done o) = (code_at memo e ≤ busy) × Range.Says o (saved_at memo e)
-Known memo e (Deep d) = (unknown ≤ code_at memo e) × (d ≡ e)
+Known memo e (Ok o) = (code_at memo e ≤ busy) × Range.Says o (saved_at memo e)
+Known memo e (Err d) = (unknown ≤ code_at memo e) × (d.element ≡ e)
 
 -- the memo with another entry at m
 abbrev pub noted : Memo → ℕ → ℕ → ℤ → Memo
@@ -142,12 +146,12 @@ noted memo m c x = record { codes = set memo.codes m c; values = set memo.values
 
 -- the entry of an answer: document 01's code and value of its outcome; an element that waits for another is unknown again
 abbrev pub code_of : Work → ℕ
-code_of (Done o) = code_for o
-code_of (Deep d) = unknown
+code_of (Ok o) = code_for o
+code_of (Err d) = unknown
 
 abbrev pub value_of : Work → ℤ
-value_of (Done o) = value_for o
-value_of (Deep d) = pos 0
+value_of (Ok o) = value_for o
+value_of (Err d) = pos 0
 
 -- the memo with the entry of an answer at m
 abbrev pub stored : Memo → ℕ → Work → Memo

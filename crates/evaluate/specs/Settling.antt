@@ -9,12 +9,13 @@ use Rattle.laws.specs.Sheets.{vars_of}
 use Rattle.integer.specs.Range as Range
 use Rattle.evaluate.specs.Memo.{busy, unknown, Thing, Memo, code_at, saved_at, sum, busy_one, to_do, Right}
 use Rattle.evaluate.specs.Working.{element_at, outcomes, expression, Ready}
+use Rattle.sheet.specs.declared.table.Table.{Table}
 
 -- v is the variable of element e, by the table of places
-pub record Owns (bs tab : List ℕ) (e v : ℕ) : Type 0 where
+pub record Owns (bs : List ℕ) (tab : Table) (e v : ℕ) : Type 0 where
   pub known : v < vars_of bs
-  pub from : get_or tab (32 + v) 0 ≤ e
-  pub below_next : e < get_or tab (32 + (v + 1)) 0
+  pub from : get_or tab.firsts v 0 ≤ e
+  pub below_next : e < get_or tab.firsts (v + 1) 0
 
 -- the body of element m by depth
 abbrev pub body_of : Sheet → ℕ → List ℤ → Thing

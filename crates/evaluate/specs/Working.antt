@@ -1,8 +1,8 @@
 -- Elements and expressions as things that are worked out, and what working one out answers, for every input list: the code holds no
 -- list, since the memo has an entry for each input element from the start. Assumes nothing.
-use Rattle.std.specs.Prelude.{◌≡◌, ℕ, ◌+◌, ◌≤◌, ◌<◌, true, false, List, [], length, get_or, ℤ}
+use Rattle.std.specs.Prelude.{◌≡◌, Result, Ok, Err, ℕ, ◌+◌, ◌≤◌, ◌<◌, true, false, List, [], length, get_or, ℤ}
 use Rattle.alpha.specs.Field.{field}
-use Rattle.alpha.specs.declared.Int.{Int}
+use Rattle.alpha.specs.declared.Outcome as Declared
 use Rattle.alpha.specs.declared.Outcome.TheVariants as Outcomes
 use Rattle.alpha.specs.Sheet.{Expr, Sheet, Point}
 use Rattle.alpha.specs.Box.{in_box}
@@ -20,24 +20,17 @@ use Rattle.tree.specs.declared.Class.TheVariants.{Leaf, Operator}
 use Rattle.tree.specs.declared.LeafKind.{LeafKind}
 use Rattle.tree.specs.declared.OperatorKind.{OperatorKind}
 use Rattle.tree.specs.Classes.{class_at, leaf_code, operator_code}
-use Rattle.tree.specs.Formed.{Formed}
-use Rattle.tree.specs.Ends.{EndsKept}
 use Rattle.domain.specs.declared.Standing.TheVariants.{Holds}
 use Rattle.domain.specs.Standing.{standing}
-use Rattle.domain.specs.Inside.{Inside}
 use Rattle.domain.specs.Held.{Held}
-use Rattle.evaluate.specs.declared.Work.{Work}
-use Rattle.evaluate.specs.declared.Work.TheVariants.{Done}
+use Rattle.evaluate.specs.declared.Stop.{Stop}
+use Rattle.evaluate.specs.declared.Stop.TheVariants.{NoValue, Awaits}
 use Rattle.evaluate.specs.declared.Worked.{Worked}
-use Rattle.evaluate.specs.declared.Operand.{Operand}
-use Rattle.evaluate.specs.declared.Operand.TheVariants.{Value, NoValue}
-use Rattle.evaluate.specs.Memo.{unknown, Thing, Elements, Memo, code_at, Right, Waits, Said, Kept, Wanted, Small}
+use Rattle.evaluate.specs.Memo.{unknown, Work, Thing, Elements, Memo, code_at, Right, Waits, Said, Kept, Wanted, Small}
 
 -- the constant at p was read: its value is its second field's
 pub record ConstantRead (bs : List ℕ) (p : ℕ) (r : Worked) : Type 0 where
-  pub value : Int
-  pub is : r.out ≡ Done (Outcomes.Value value)
-  pub says : value.v ≡ field bs (p + 8)
+  pub says : r.value ≡ field bs (p + 8)
   pub next : r.next ≡ node_end (vars_of bs) bs p
 
 -- element number m of a sheet
@@ -75,47 +68,49 @@ pub record WorksOut (s : Sheet) (memo last : Memo) (f : List ℤ → Thing) (r :
       Said (outcomes s ins) (total s) last (f ins) r
 
 -- z is the point of element e, of variable v
-pub record ElementIs (bs : List ℕ) (v e : ℕ) (z : List Int) : Type 0 where
+pub record ElementIs (bs : List ℕ) (v e : ℕ) (z : List ℤ) : Type 0 where
   pub known : v < vars_of bs
   pub in-box : in_box (variable (sheet_of bs) v).head.box (point_of (dimension (heads_of bs) v) z) ≡ true
   pub number : e ≡ number_of (sheet_of bs) v (point_of (dimension (heads_of bs) v) z)
   pub rest : Padded (dimension (heads_of bs) v) z
 
--- an expression that ends at q was worked out; where it has a value, the next place is its end
-pub record Evaluated (bs : List ℕ) (e : Expr) (q : ℕ) (z : Point) (memo last : Memo) (r : Worked) : Type 0 where
-  pub done : WorksOut (sheet_of bs) memo last (λ ins. expression (sheet_of bs) ins e z) r.out
-  pub ends : (x : Int) → r.out ≡ Done (Outcomes.Value x) → r.next ≡ q
+-- what working out an expression answers: its value's outcome, one that is no value, or the element that has to be worked out first
+abbrev pub answer_of : Result Worked Stop → Work
+answer_of (Ok w) = Ok (Outcomes.Value w.value)
+answer_of (Err (NoValue o)) = Ok o
+answer_of (Err (Awaits d)) = Err d
+
+-- where an expression has a value, the next place is q; where it has none, its answer is no value's
+pub record Ends (q : ℕ) (r : Result Worked Stop) : Type 0 where
+  pub next : (w : Worked) → r ≡ Ok w → w.next ≡ q
+  pub none : (s : Stop) → r ≡ Err s → (x : ℤ) → answer_of r ≡ Ok (Outcomes.Value x) → ⊥
+
+-- the outcome o is given, and q is the next place
+pub record Gives (o : Declared.Outcome) (q : ℕ) (r : Result Worked Stop) : Type 0 where
+  pub answer : answer_of r ≡ Ok o
+  pub ends : Ends q r
+
+-- an expression that ends at q was worked out
+pub record Evaluated (bs : List ℕ) (e : Expr) (q : ℕ) (z : Point) (memo last : Memo) (r : Result Worked Stop) : Type 0 where
+  pub done : WorksOut (sheet_of bs) memo last (λ ins. expression (sheet_of bs) ins e z) (answer_of r)
+  pub ends : Ends q r
 
 -- the tree at p was worked out at z
-abbrev pub EvaluatesAt : List ℕ → ℕ → List Int → Memo → Memo → Worked → Type 0
+abbrev pub EvaluatesAt : List ℕ → ℕ → List ℤ → Memo → Memo → Result Worked Stop → Type 0
 EvaluatesAt bs p z memo last r =
     (e : Expr) (q n : ℕ) → At e (vars_of bs) bs p q → fits e (heads_of bs) n ≡ true → Evaluated bs e q (point_of n z) memo last r
 
--- an operand's answer was taken apart: its value, or that it has none
-abbrev pub TakenApart : Work → Operand → Type 0
-TakenApart r (Value x) = r ≡ Done (Outcomes.Value x)
-TakenApart r NoValue = (x : Int) → r ≡ Done (Outcomes.Value x) → ⊥
-
--- ---- what the evaluators require
-
--- of the sheet, its table of places, the bytes of its elements, the ends that are kept and the memo
-pub record Setting (bs tab inside ends : List ℕ) (memo : Memo) : Type 0 where
-  pub formed : Formed bs tab
-  pub inside_is : Inside (sheet_of bs) inside
-  pub ends_kept : EndsKept bs ends
-  pub ready : Ready (sheet_of bs) memo
-
--- of the place and the point, besides that a tree holds there: that its node is of a class,
-pub record HeldAs (class : Class) (bs : List ℕ) (p left : ℕ) (z : List Int) : Type 0 where
+-- ---- what the evaluators require of the place and the point, besides that a tree holds there: that its node is of a class,
+pub record HeldAs (class : Class) (bs : List ℕ) (p left : ℕ) (z : List ℤ) : Type 0 where
   pub held : Held bs p left z
   pub class_is : class_at bs p ≡ class
 
 -- a leaf of that kind,
-pub record HeldLeaf (kind : LeafKind) (bs : List ℕ) (p left : ℕ) (z : List Int) : Type 0 where
+pub record HeldLeaf (kind : LeafKind) (bs : List ℕ) (p left : ℕ) (z : List ℤ) : Type 0 where
   pub leaf : HeldAs Leaf bs p left z
   pub code_is : code_of (node_read (vars_of bs) bs p) ≡ leaf_code kind
 
 -- an operator of that kind
-pub record HeldOperator (kind : OperatorKind) (bs : List ℕ) (p left : ℕ) (z : List Int) : Type 0 where
+pub record HeldOperator (kind : OperatorKind) (bs : List ℕ) (p left : ℕ) (z : List ℤ) : Type 0 where
   pub operator : HeldAs Operator bs p left z
   pub code_is : code_of (node_read (vars_of bs) bs p) ≡ operator_code kind

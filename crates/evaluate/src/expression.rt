@@ -1,93 +1,38 @@
 // The element evaluator and the expression evaluator, which call each other: the remaining depth falls, and then the remaining nodes.
 // Each operand's outcome is taken apart as a value, or else handed straight back. Assumes nothing.
-ghost use Rattle.laws.specs.Sheets.{sheet_of};
+ghost use Rattle.std.specs.Prelude.{◌≡◌};
 ghost use Rattle.tree.specs.declared.Class.TheVariants as Class;
 ghost use Rattle.tree.specs.declared.LeafKind.TheVariants as LeafKind;
 ghost use Rattle.tree.specs.declared.OperatorKind.TheVariants as OperatorKind;
 ghost use Rattle.tree.specs.Standing.{NodedAs};
 ghost use Rattle.domain.specs.Held.{Held};
-ghost use Rattle.evaluate.specs.Memo as Memo;
-ghost use Rattle.evaluate.specs.Memo.{memo_of};
-ghost use Rattle.evaluate.specs.Working.{outcomes, WorksOut, Setting, ElementIs, HeldAs, HeldLeaf, HeldOperator, ConstantRead, TakenApart, EvaluatesAt};
+ghost use Rattle.evaluate.specs.Working.{ElementIs, HeldAs, HeldLeaf, HeldOperator, ConstantRead, answer_of, Gives};
 
 use super::memo::{known, mark, note};
-use super::{Operand, Work, Worked};
-use alpha::{Int, Outcome};
-use domain::holding::holding;
-use points::Found;
-use sheet::table::{body_place, first_element, record_place};
+use super::{Awaited, Evaluator, Stop, Worked};
+use alpha::{Binary, Outcome, Unary};
 use tree::ends::end_of;
 use tree::node::{class_of, leaf_of, natural, node_end, operator_of};
 use tree::{Class, LeafKind, OperatorKind};
 
-// The value of an answer that has one.
-fn value_in(r: Work) -> Operand
-    ensures { TakenApart r result }
+// What an outcome is as a result: its value with the place after it, or that it has none.
+fn worked(o: Outcome, next: usize) -> Result<Worked, Stop>
+    ensures { Gives o next result }
+{
+    match o {
+        Outcome::Value(value) => Ok(Worked { value, next }),
+        _ => Err(Stop::NoValue(o)),
+    }
+}
+
+// The outcome of a result, or the element that has to be worked out first.
+pub(super) fn answer_of(r: Result<Worked, Stop>) -> Result<Outcome, Awaited>
+    ensures { result ≡ answer_of r }
 {
     match r {
-        Work::Done(o) => match o {
-            Outcome::Value(x) => Operand::Value(x),
-            _ => Operand::NoValue,
-        },
-        Work::Deep(_) => Operand::NoValue,
-    }
-}
-
-// Element e, the one of variable v at z: what the memo has, or else what the body gives. Where no depth remains, it has to be worked
-// out first.
-#[cycle(branch_dependence_element_expression_leaf_one_operator_restriction_three_two_variable)]
-pub fn element(
-    s: &[u8],
-    tab: &[usize; 102],
-    inside: &[u8; 4096],
-    ends: &[u16; 8192],
-    memo: &mut [u64; 4096],
-    v: usize,
-    e: usize,
-    z: [Int; 4],
-    depth: usize,
-) -> Work
-    requires { Setting s.now tab.now inside.now ends.now (memo_of memo.old) × ElementIs s.now v e z }
-    ensures { WorksOut (sheet_of s.now) (memo_of memo.old) (memo_of memo.new) (λ ins. Memo.element (outcomes (sheet_of s.now) ins) e) result }
-{
-    let had = known(memo, e);
-    let Work::Deep(_) = had else {
-        return had;
-    };
-    if depth < 1 {
-        return had;
-    }
-    mark(memo, e);
-    let at = body_place(tab, v);
-    let r = expression(s, tab, inside, ends, memo, at, 2048, z, depth - 1);
-    let out = r.out;
-    note(memo, e, out);
-    out
-}
-
-// The tree at `at`, of at most `left` nodes, at z, where it holds without a clash.
-#[cycle(branch_dependence_element_expression_leaf_one_operator_restriction_three_two_variable)]
-pub fn expression(
-    s: &[u8],
-    tab: &[usize; 102],
-    inside: &[u8; 4096],
-    ends: &[u16; 8192],
-    memo: &mut [u64; 4096],
-    at: usize,
-    left: usize,
-    z: [Int; 4],
-    depth: usize,
-) -> Worked
-    requires { Setting s.now tab.now inside.now ends.now (memo_of memo.old) × Held s.now at left z }
-    ensures { EvaluatesAt s.now at z (memo_of memo.old) (memo_of memo.new) result }
-{
-    let class = class_of(s, at);
-    match class {
-        Class::Leaf => leaf(s, tab, inside, ends, memo, at, left, z, depth),
-        Class::Operator => operator(s, tab, inside, ends, memo, at, left, z, depth),
-        Class::Case => branch(s, tab, inside, ends, memo, at, left, z, depth),
-        Class::Restriction => restriction(s, tab, inside, ends, memo, at, left, z, depth),
-        Class::Dependence => dependence(s, tab, inside, ends, memo, at, left, z, depth),
+        Ok(w) => Ok(Outcome::Value(w.value)),
+        Err(Stop::NoValue(o)) => Ok(o),
+        Err(Stop::Awaits(d)) => Err(d),
     }
 }
 
@@ -97,263 +42,228 @@ fn constant(s: &[u8], at: usize) -> Worked
     ensures { ConstantRead s.now at result }
 {
     Worked {
-        out: Work::Done(Outcome::Value(integer::number_at(s, at + 8))),
+        value: integer::number_at(s, at + 8),
         next: node_end(s, at),
     }
 }
 
-// A leaf.
-#[cycle(branch_dependence_element_expression_leaf_one_operator_restriction_three_two_variable)]
-fn leaf(
-    s: &[u8],
-    tab: &[usize; 102],
-    inside: &[u8; 4096],
-    ends: &[u16; 8192],
-    memo: &mut [u64; 4096],
-    at: usize,
-    left: usize,
-    z: [Int; 4],
-    depth: usize,
-) -> Worked
-    requires { Setting s.now tab.now inside.now ends.now (memo_of memo.old) × HeldAs Class.Leaf s.now at left z }
-    ensures { EvaluatesAt s.now at z (memo_of memo.old) (memo_of memo.new) result }
-{
-    let kind = leaf_of(s, at);
-    match kind {
-        LeafKind::Variable => variable(s, tab, inside, ends, memo, at, left, z, depth),
-        LeafKind::Integer => constant(s, at),
-        LeafKind::Boolean => constant(s, at),
-    }
-}
+impl Evaluator<'_, '_> {
+    ghost use Rattle.evaluate.specs.Evaluating.{Stands, bytes, Same, Evaluates, ElementDone};
 
-// A variable at z: off its box it is outside.
-#[cycle(branch_dependence_element_expression_leaf_one_operator_restriction_three_two_variable)]
-fn variable(
-    s: &[u8],
-    tab: &[usize; 102],
-    inside: &[u8; 4096],
-    ends: &[u16; 8192],
-    memo: &mut [u64; 4096],
-    at: usize,
-    left: usize,
-    z: [Int; 4],
-    depth: usize,
-) -> Worked
-    requires { Setting s.now tab.now inside.now ends.now (memo_of memo.old) × HeldLeaf LeafKind.Variable s.now at left z }
-    ensures { EvaluatesAt s.now at z (memo_of memo.old) (memo_of memo.new) result }
-{
-    let v = natural(s, at + 8);
-    let next = node_end(s, at);
-    let found = points::index(s, record_place(tab, v), z);
-    let Found::At(i) = found else {
-        return Worked {
-            out: Work::Done(Outcome::Outside),
-            next,
+    // Element e, the one of variable v at z: what the memo has, or else what the body gives. Where no depth remains, it has to be worked
+    // out first.
+    #[cycle(branch_dependence_element_expression_leaf_one_operator_restriction_three_two_variable)]
+    pub fn element(
+        &mut self,
+        v: usize,
+        e: usize,
+        z: [i64; 4],
+        depth: usize,
+    ) -> Result<Outcome, Awaited>
+        requires { Stands self.old × ElementIs (bytes self.old) v e z }
+        ensures same { Same self.old self.new }
+        ensures done { ElementDone self.old self.new e result }
+    {
+        let had = known(self.memo, e);
+        if had.is_ok() || depth == 0 {
+            return had;
+        }
+        mark(self.memo, e);
+        let at = self.ground.table.body_place(v);
+        let r = answer_of(self.expression(at, 2048, z, depth - 1));
+        note(self.memo, e, r);
+        r
+    }
+
+    // The tree at `at`, of at most `left` nodes, at z, where it holds without a clash.
+    #[cycle(branch_dependence_element_expression_leaf_one_operator_restriction_three_two_variable)]
+    pub fn expression(
+        &mut self,
+        at: usize,
+        left: usize,
+        z: [i64; 4],
+        depth: usize,
+    ) -> Result<Worked, Stop>
+        requires { Stands self.old × Held (bytes self.old) at left z }
+        ensures same { Same self.old self.new }
+        ensures done { Evaluates self.old self.new at z result }
+    {
+        let s = self.ground.sheet;
+        let class = class_of(s, at);
+        match class {
+            Class::Leaf => self.leaf(at, left, z, depth),
+            Class::Operator => self.operator(at, left, z, depth),
+            Class::Case => self.branch(at, left, z, depth),
+            Class::Restriction => self.restriction(at, left, z, depth),
+            Class::Dependence => self.dependence(at, left, z, depth),
+        }
+    }
+
+    // A leaf.
+    #[cycle(branch_dependence_element_expression_leaf_one_operator_restriction_three_two_variable)]
+    fn leaf(&mut self, at: usize, left: usize, z: [i64; 4], depth: usize) -> Result<Worked, Stop>
+        requires { Stands self.old × HeldAs Class.Leaf (bytes self.old) at left z }
+        ensures same { Same self.old self.new }
+        ensures done { Evaluates self.old self.new at z result }
+    {
+        let s = self.ground.sheet;
+        let kind = leaf_of(s, at);
+        match kind {
+            LeafKind::Variable => self.variable(at, left, z, depth),
+            LeafKind::Integer | LeafKind::Boolean => Ok(constant(s, at)),
+        }
+    }
+
+    // A variable at z: off its box it is outside.
+    #[cycle(branch_dependence_element_expression_leaf_one_operator_restriction_three_two_variable)]
+    fn variable(
+        &mut self,
+        at: usize,
+        left: usize,
+        z: [i64; 4],
+        depth: usize,
+    ) -> Result<Worked, Stop>
+        requires { Stands self.old × HeldLeaf LeafKind.Variable (bytes self.old) at left z }
+        ensures same { Same self.old self.new }
+        ensures done { Evaluates self.old self.new at z result }
+    {
+        let s = self.ground.sheet;
+        let table = self.ground.table;
+        let next = node_end(s, at);
+        let v = natural(s, at + 8);
+        let found = points::index(s, table.record_place(v), z);
+        let Some(i) = found else {
+            return Err(Stop::NoValue(Outcome::Outside));
         };
-    };
-    let e = first_element(tab, v) + i;
-    let out = element(s, tab, inside, ends, memo, v, e, z, depth);
-    Worked { out, next }
-}
-
-// An operator.
-#[cycle(branch_dependence_element_expression_leaf_one_operator_restriction_three_two_variable)]
-fn operator(
-    s: &[u8],
-    tab: &[usize; 102],
-    inside: &[u8; 4096],
-    ends: &[u16; 8192],
-    memo: &mut [u64; 4096],
-    at: usize,
-    left: usize,
-    z: [Int; 4],
-    depth: usize,
-) -> Worked
-    requires { Setting s.now tab.now inside.now ends.now (memo_of memo.old) × HeldAs Class.Operator s.now at left z }
-    ensures { EvaluatesAt s.now at z (memo_of memo.old) (memo_of memo.new) result }
-{
-    let kind = operator_of(s, at);
-    match kind {
-        OperatorKind::Unary => one(s, tab, inside, ends, memo, at, left, z, depth),
-        OperatorKind::Binary => two(s, tab, inside, ends, memo, at, left, z, depth),
-        OperatorKind::If => three(s, tab, inside, ends, memo, at, left, z, depth),
+        let e = table.first_element(v) + i;
+        let o = self.element(v, e, z, depth)?;
+        worked(o, next)
     }
-}
 
-// A unary operator.
-#[cycle(branch_dependence_element_expression_leaf_one_operator_restriction_three_two_variable)]
-fn one(
-    s: &[u8],
-    tab: &[usize; 102],
-    inside: &[u8; 4096],
-    ends: &[u16; 8192],
-    memo: &mut [u64; 4096],
-    at: usize,
-    left: usize,
-    z: [Int; 4],
-    depth: usize,
-) -> Worked
-    requires { Setting s.now tab.now inside.now ends.now (memo_of memo.old) × HeldOperator OperatorKind.Unary s.now at left z }
-    ensures { EvaluatesAt s.now at z (memo_of memo.old) (memo_of memo.new) result }
-{
-    let n = left - 1;
-    let from = node_end(s, at);
-    let a = expression(s, tab, inside, ends, memo, from, n, z, depth);
-    let o = a.out;
-    let p = value_in(o);
-    let Operand::Value(x) = p else {
-        return a;
-    };
-    Worked {
-        out: Work::Done(integer::unary(natural(s, at + 8), x)),
-        next: a.next,
+    // An operator.
+    #[cycle(branch_dependence_element_expression_leaf_one_operator_restriction_three_two_variable)]
+    fn operator(
+        &mut self,
+        at: usize,
+        left: usize,
+        z: [i64; 4],
+        depth: usize,
+    ) -> Result<Worked, Stop>
+        requires { Stands self.old × HeldAs Class.Operator (bytes self.old) at left z }
+        ensures same { Same self.old self.new }
+        ensures done { Evaluates self.old self.new at z result }
+    {
+        let s = self.ground.sheet;
+        let kind = operator_of(s, at);
+        match kind {
+            OperatorKind::Unary => self.one(at, left, z, depth),
+            OperatorKind::Binary => self.two(at, left, z, depth),
+            OperatorKind::If => self.three(at, left, z, depth),
+        }
     }
-}
 
-// A binary operator: the left operand, then the right one.
-#[cycle(branch_dependence_element_expression_leaf_one_operator_restriction_three_two_variable)]
-fn two(
-    s: &[u8],
-    tab: &[usize; 102],
-    inside: &[u8; 4096],
-    ends: &[u16; 8192],
-    memo: &mut [u64; 4096],
-    at: usize,
-    left: usize,
-    z: [Int; 4],
-    depth: usize,
-) -> Worked
-    requires { Setting s.now tab.now inside.now ends.now (memo_of memo.old) × HeldOperator OperatorKind.Binary s.now at left z }
-    ensures { EvaluatesAt s.now at z (memo_of memo.old) (memo_of memo.new) result }
-{
-    let n = left - 1;
-    let from = node_end(s, at);
-    let first = expression(s, tab, inside, ends, memo, from, n, z, depth);
-    let o = first.out;
-    let p = value_in(o);
-    let Operand::Value(x) = p else {
-        return first;
-    };
-    let middle = first.next;
-    let second = expression(s, tab, inside, ends, memo, middle, n, z, depth);
-    let u = second.out;
-    let q = value_in(u);
-    let Operand::Value(y) = q else {
-        return second;
-    };
-    Worked {
-        out: Work::Done(integer::binary(natural(s, at + 8), x, y)),
-        next: second.next,
+    // A unary operator.
+    #[cycle(branch_dependence_element_expression_leaf_one_operator_restriction_three_two_variable)]
+    fn one(&mut self, at: usize, left: usize, z: [i64; 4], depth: usize) -> Result<Worked, Stop>
+        requires { Stands self.old × HeldOperator OperatorKind.Unary (bytes self.old) at left z }
+        ensures same { Same self.old self.new }
+        ensures done { Evaluates self.old self.new at z result }
+    {
+        let s = self.ground.sheet;
+        let n = left - 1;
+        let from = node_end(s, at);
+        let a = self.expression(from, n, z, depth)?;
+        worked(
+            integer::unary(Unary::of(natural(s, at + 8)), a.value),
+            a.next,
+        )
     }
-}
 
-// An if: all three parts.
-#[cycle(branch_dependence_element_expression_leaf_one_operator_restriction_three_two_variable)]
-fn three(
-    s: &[u8],
-    tab: &[usize; 102],
-    inside: &[u8; 4096],
-    ends: &[u16; 8192],
-    memo: &mut [u64; 4096],
-    at: usize,
-    left: usize,
-    z: [Int; 4],
-    depth: usize,
-) -> Worked
-    requires { Setting s.now tab.now inside.now ends.now (memo_of memo.old) × HeldOperator OperatorKind.If s.now at left z }
-    ensures { EvaluatesAt s.now at z (memo_of memo.old) (memo_of memo.new) result }
-{
-    let n = left - 1;
-    let from = node_end(s, at);
-    let test = expression(s, tab, inside, ends, memo, from, n, z, depth);
-    let o = test.out;
-    let p = value_in(o);
-    let Operand::Value(t) = p else {
-        return test;
-    };
-    let middle = test.next;
-    let then = expression(s, tab, inside, ends, memo, middle, n, z, depth);
-    let u = then.out;
-    let q = value_in(u);
-    let Operand::Value(x) = q else {
-        return then;
-    };
-    let last = then.next;
-    let other = expression(s, tab, inside, ends, memo, last, n, z, depth);
-    let w = other.out;
-    let r = value_in(w);
-    let Operand::Value(y) = r else {
-        return other;
-    };
-    Worked {
-        out: Work::Done(integer::choose(integer::is_true(t), x, y)),
-        next: other.next,
+    // A binary operator: the left operand, then the right one.
+    #[cycle(branch_dependence_element_expression_leaf_one_operator_restriction_three_two_variable)]
+    fn two(&mut self, at: usize, left: usize, z: [i64; 4], depth: usize) -> Result<Worked, Stop>
+        requires { Stands self.old × HeldOperator OperatorKind.Binary (bytes self.old) at left z }
+        ensures same { Same self.old self.new }
+        ensures done { Evaluates self.old self.new at z result }
+    {
+        let s = self.ground.sheet;
+        let n = left - 1;
+        let from = node_end(s, at);
+        let a = self.expression(from, n, z, depth)?;
+        let b = self.expression(a.next, n, z, depth)?;
+        worked(
+            integer::binary(Binary::of(natural(s, at + 8)), a.value, b.value),
+            b.next,
+        )
     }
-}
 
-// A case: the branch that holds. The case ends after all its branches.
-#[cycle(branch_dependence_element_expression_leaf_one_operator_restriction_three_two_variable)]
-fn branch(
-    s: &[u8],
-    tab: &[usize; 102],
-    inside: &[u8; 4096],
-    ends: &[u16; 8192],
-    memo: &mut [u64; 4096],
-    at: usize,
-    left: usize,
-    z: [Int; 4],
-    depth: usize,
-) -> Worked
-    requires { Setting s.now tab.now inside.now ends.now (memo_of memo.old) × HeldAs Class.Case s.now at left z }
-    ensures { EvaluatesAt s.now at z (memo_of memo.old) (memo_of memo.new) result }
-{
-    let n = left - 1;
-    let taken = holding(s, tab, inside, ends, at, left, z);
-    let r = expression(s, tab, inside, ends, memo, taken, n, z, depth);
-    let out = r.out;
-    let end = end_of(s, ends, at, left);
-    Worked { out, next: end }
-}
+    // An if: all three parts.
+    #[cycle(branch_dependence_element_expression_leaf_one_operator_restriction_three_two_variable)]
+    fn three(&mut self, at: usize, left: usize, z: [i64; 4], depth: usize) -> Result<Worked, Stop>
+        requires { Stands self.old × HeldOperator OperatorKind.If (bytes self.old) at left z }
+        ensures same { Same self.old self.new }
+        ensures done { Evaluates self.old self.new at z result }
+    {
+        let s = self.ground.sheet;
+        let n = left - 1;
+        let from = node_end(s, at);
+        let test = self.expression(from, n, z, depth)?;
+        let then = self.expression(test.next, n, z, depth)?;
+        let other = self.expression(then.next, n, z, depth)?;
+        let o = integer::choose(test.value != 0, then.value, other.value);
+        worked(o, other.next)
+    }
 
-// A restriction: its child at the same point.
-#[cycle(branch_dependence_element_expression_leaf_one_operator_restriction_three_two_variable)]
-fn restriction(
-    s: &[u8],
-    tab: &[usize; 102],
-    inside: &[u8; 4096],
-    ends: &[u16; 8192],
-    memo: &mut [u64; 4096],
-    at: usize,
-    left: usize,
-    z: [Int; 4],
-    depth: usize,
-) -> Worked
-    requires { Setting s.now tab.now inside.now ends.now (memo_of memo.old) × HeldAs Class.Restriction s.now at left z }
-    ensures { EvaluatesAt s.now at z (memo_of memo.old) (memo_of memo.new) result }
-{
-    let n = left - 1;
-    let child = node_end(s, at);
-    expression(s, tab, inside, ends, memo, child, n, z, depth)
-}
+    // A case: the branch that holds. The case ends after all its branches.
+    #[cycle(branch_dependence_element_expression_leaf_one_operator_restriction_three_two_variable)]
+    fn branch(&mut self, at: usize, left: usize, z: [i64; 4], depth: usize) -> Result<Worked, Stop>
+        requires { Stands self.old × HeldAs Class.Case (bytes self.old) at left z }
+        ensures same { Same self.old self.new }
+        ensures done { Evaluates self.old self.new at z result }
+    {
+        let n = left - 1;
+        let taken = self.ground.holding(self.ends, at, left, z);
+        let r = self.expression(taken, n, z, depth)?;
+        let end = end_of(self.ground.sheet, self.ends, at, left);
+        Ok(Worked { next: end, ..r })
+    }
 
-// A dependence: its child at the image of the point.
-#[cycle(branch_dependence_element_expression_leaf_one_operator_restriction_three_two_variable)]
-fn dependence(
-    s: &[u8],
-    tab: &[usize; 102],
-    inside: &[u8; 4096],
-    ends: &[u16; 8192],
-    memo: &mut [u64; 4096],
-    at: usize,
-    left: usize,
-    z: [Int; 4],
-    depth: usize,
-) -> Worked
-    requires { Setting s.now tab.now inside.now ends.now (memo_of memo.old) × HeldAs Class.Dependence s.now at left z }
-    ensures { EvaluatesAt s.now at z (memo_of memo.old) (memo_of memo.new) result }
-{
-    let n = left - 1;
-    let y = affine::image_at(s, at + 8, z);
-    let child = node_end(s, at);
-    expression(s, tab, inside, ends, memo, child, n, y, depth)
+    // A restriction: its child at the same point.
+    #[cycle(branch_dependence_element_expression_leaf_one_operator_restriction_three_two_variable)]
+    fn restriction(
+        &mut self,
+        at: usize,
+        left: usize,
+        z: [i64; 4],
+        depth: usize,
+    ) -> Result<Worked, Stop>
+        requires { Stands self.old × HeldAs Class.Restriction (bytes self.old) at left z }
+        ensures same { Same self.old self.new }
+        ensures done { Evaluates self.old self.new at z result }
+    {
+        let s = self.ground.sheet;
+        let n = left - 1;
+        let child = node_end(s, at);
+        self.expression(child, n, z, depth)
+    }
+
+    // A dependence: its child at the image of the point.
+    #[cycle(branch_dependence_element_expression_leaf_one_operator_restriction_three_two_variable)]
+    fn dependence(
+        &mut self,
+        at: usize,
+        left: usize,
+        z: [i64; 4],
+        depth: usize,
+    ) -> Result<Worked, Stop>
+        requires { Stands self.old × HeldAs Class.Dependence (bytes self.old) at left z }
+        ensures same { Same self.old self.new }
+        ensures done { Evaluates self.old self.new at z result }
+    {
+        let s = self.ground.sheet;
+        let n = left - 1;
+        let y = affine::image_at(s, at + 8, z);
+        let child = node_end(s, at);
+        self.expression(child, n, y, depth)
+    }
 }

@@ -17,7 +17,7 @@ In32 x = mag x < 2147483648
 -- the value of an outcome, if it has one, is in the 32-bit range
 abbrev pub Small : Outcome → Type 0
 Small Outside = Unit {0}
-Small (Value x) = In32 x.v
+Small (Value x) = In32 x
 Small DivZero = Unit {0}
 Small Overflow = Unit {0}
 Small Loop = Unit {0}

@@ -1,16 +1,16 @@
 -- The branches of a body: how long a branch can be, that following it from the identity gives that branch of the normal form, and the ways
 -- through what measures and stores one branch after another. Assumes nothing.
 use mathlib.Core.Path.{◌≡◌, refl, sym, ap, ◌∙◌, subst}
-use Prim.Native.Nat.{ℕ, zero, suc, ◌+◌, ◌*◌, ◌-◌, ◌/◌, ◌%◌, ◌^◌, ◌≤◌, ◌<◌, min}
+use Prim.Native.Nat.{ℕ, zero, suc, ◌+◌, ◌*◌, ◌-◌, ◌/◌, ◌%◌, ◌^◌, ◌≤◌, ◌<◌, max}
 use native.Mathlib.Nat.{mul-le-mul_right, mul-le-mul_left, zero-add}
 use native.Mathlib.Omega.{arith}
 use mathlib.Core.Bool.{Bool, true, false}
-use mathlib.Core.List.{List, [], ◌∷◌, ◌++◌, map}
+use mathlib.Core.List.{List, [], ◌∷◌, ◌++◌, map, append_assoc}
 use lib.ListN.{length, get_or, drop, length-append, length-map, drop_of_length-le}
-use lib.Seq.{sets, length-sets, drop-cons}
+use lib.Seq.{drop-cons}
 use lib.Dec.{ltb}
 use Rattle.alpha.specs.Pick.{ifb}
-use Rattle.alpha.specs.Field.{nat}
+use Rattle.alpha.specs.Field.{num, nat}
 use Rattle.alpha.specs.Sheet as Sheet
 use Rattle.alpha.specs.Sheet.{Node, Expr, Exprs}
 use Rattle.alpha.specs.Sheet.{Node.n_var, Node.n_int, Node.n_bool, Node.n_unary, Node.n_binary, Node.n_if, Node.n_case, Node.n_restr, Node.n_dep}
@@ -18,7 +18,7 @@ use Rattle.alpha.specs.Sheet.{Expr.var, Expr.int, Expr.boo, Expr.un, Expr.bin, E
 use Rattle.alpha.specs.Affine.{row_after, constraint_after, map_after, identity, id_rows}
 use Rattle.alpha.specs.Read.{dimension}
 use Rattle.alpha.specs.Reach.{top_reach, map_reach}
-use Rattle.alpha.specs.Written.{flat, unary_code, binary_code, row_bytes, constraint_bytes, bytes, all_bytes, node_count, node_counts, depth}
+use Rattle.alpha.specs.Written.{flat, unary_code, binary_code, row_bytes, constraint_bytes, bytes, all_bytes, branch_count, node_count, node_counts, depth}
 use Rattle.alpha.specs.Normal.{Branch, push_branch, as_exprs}
 use Rattle.laws.specs.Sheets.{heads_of, vars_of}
 use Rattle.laws.specs.Wide.{RowsWide, Wide}
@@ -29,21 +29,27 @@ use Rattle.laws.proofs.NormalAgain.{WideToo, AllWideToo, wide-rules, id_rows-wid
 use Rattle.laws.proofs.NormalReach.{identity-reach}
 use Rattle.laws.proofs.NormalWritable.{at-writable}
 use Rattle.laws.proofs.Widths.{at_wide}
+use Rattle.laws.proofs.Trees.{at-unique}
 use Rattle.affine.specs.declared.Map.{Map}
 use Rattle.affine.specs.Value.{map_of, Neat}
 use Rattle.laws.proofs.Written.{length-num}
 use Rattle.tree.specs.Standing.{Standing}
+use Rattle.normal.specs.declared.Choice.{Choice}
+use Rattle.normal.specs.declared.Half.{Half}
+use Rattle.normal.specs.declared.Half.TheVariants.{Constraints, Tree}
+use Rattle.normal.specs.declared.Mode.{Mode}
 use Rattle.normal.specs.declared.Pen.{Pen}
 use Rattle.normal.specs.declared.Taken.{Taken}
 use Rattle.normal.specs.Count.{count_of}
-use Rattle.normal.specs.Part.{Part, beside, given_by, own, part_of, chosen_of}
-use Rattle.normal.specs.Followed.{advance, room_of, Route, Wrote, Follows}
-use Rattle.normal.specs.Body.{written, taken_by, nothing, both, total, branches_in, branch_in, BodyAt, BranchAt, IsBody, TakesBranch, TakesFrom}
-use Rattle.normal.specs.Body.{StoresBranch, RoomFor, RoomFrom, StoresFrom}
+use Rattle.normal.specs.Part.{Part, beside, tree_part, given_part, given_by, own, part_of, chosen_of}
+use Rattle.normal.specs.Followed.{laid, room_of, Route, Wrote, Follows}
+use Rattle.normal.specs.Body.{written, taken_by, nothing, both, total, branches_in, branch_in, BodyAt, BranchAt, IsBody}
+use Rattle.normal.specs.Body.{Added, AddedAll, PutsBranch, PutsFrom, Fits, BranchFits, BodyFits, half_of, HalfAt, PutsHalf}
 use Rattle.normal.proofs.Numbered.{count-is}
 use Rattle.normal.proofs.Composing.{branch-first}
-use Rattle.normal.proofs.Branched.{tree_part, given_part, Branched, branched}
-use Rattle.normal.proofs.Laying.{sets-after, sets-past, length-nat, two-long, three-long, rows_long, constraints-long}
+use Rattle.normal.proofs.Branched.{Branched, branched}
+use Rattle.normal.proofs.Laying.{length-nat, two-long, three-long, rows_long, constraints-long}
+use Rattle.normal.proofs.Laid.{laid_nothing, laid-after, laid-past, laid_room, room-high}
 
 -- ---- how long a branch can be
 
@@ -62,25 +68,25 @@ module _ (m : Sheet.Map) (few : m.cols ≤ 4) (high : length m.rows ≤ 4) (wide
         mul-le-mul_right (8 * m.cols + 8) high,
       )
 
-  own-short : (t : Bool) (nd : Node) (l : ℕ) → length (given_by nd) ≤ 64 → length (own t nd m l).out ≤ 3104
+  own-short : (t : Half) (nd : Node) (l : ℕ) → length (given_by nd) ≤ 64 → length (own t nd m l).out ≤ 3104
   unfolding bytes
-  own-short true (n_var v) l c = leaf-short (nat 0) (nat v) (length-nat 0) (length-nat v)
-  own-short true (n_int x) l c = leaf-short (nat 1) (Rattle.alpha.specs.Field.num x) (length-nat 1) (length-num x)
-  own-short true (n_bool b) l c = leaf-short (nat 2) (nat b) (length-nat 2) (length-nat b)
-  own-short true (n_unary o) l c = omega (arith, two-long 3 (unary_code o))
-  own-short true (n_binary o) l c = omega (arith, two-long 4 (binary_code o))
-  own-short true n_if l c = omega (arith, length-nat 5)
-  own-short true (n_case n) l c = omega arith
-  own-short true (n_restr d cs) l c = omega arith
-  own-short true (n_dep f) l c = omega arith
-  own-short false (n_var v) l c = omega arith
-  own-short false (n_int x) l c = omega arith
-  own-short false (n_bool b) l c = omega arith
-  own-short false (n_unary o) l c = omega arith
-  own-short false (n_binary o) l c = omega arith
-  own-short false n_if l c = omega arith
-  own-short false (n_case n) l c = omega arith
-  own-short false (n_restr d cs) l c =
+  own-short Tree (n_var v) l c = leaf-short (nat 0) (nat v) (length-nat 0) (length-nat v)
+  own-short Tree (n_int x) l c = leaf-short (nat 1) (num x) (length-nat 1) (length-num x)
+  own-short Tree (n_bool b) l c = leaf-short (nat 2) (nat b) (length-nat 2) (length-nat b)
+  own-short Tree (n_unary o) l c = omega (arith, two-long 3 (unary_code o))
+  own-short Tree (n_binary o) l c = omega (arith, two-long 4 (binary_code o))
+  own-short Tree n_if l c = omega (arith, length-nat 5)
+  own-short Tree (n_case n) l c = omega arith
+  own-short Tree (n_restr d cs) l c = omega arith
+  own-short Tree (n_dep f) l c = omega arith
+  own-short Constraints (n_var v) l c = omega arith
+  own-short Constraints (n_int x) l c = omega arith
+  own-short Constraints (n_bool b) l c = omega arith
+  own-short Constraints (n_unary o) l c = omega arith
+  own-short Constraints (n_binary o) l c = omega arith
+  own-short Constraints n_if l c = omega arith
+  own-short Constraints (n_case n) l c = omega arith
+  own-short Constraints (n_restr d cs) l c =
       omega (
         arith,
         constraints-long m.cols (map (constraint_after m) cs) (constraints-after-wide m cs wide),
@@ -88,7 +94,7 @@ module _ (m : Sheet.Map) (few : m.cols ≤ 4) (high : length m.rows ≤ 4) (wide
         mul-le-mul_right (16 + 8 * m.cols) c,
         ap (λ n. n * (16 + 8 * m.cols)) (length-map cs (constraint_after m)),
       )
-  own-short false (n_dep f) l c = omega arith
+  own-short Constraints (n_dep f) l c = omega arith
 
 two-short : (p q : Part) (a b : ℕ) → length p.out ≤ a → length q.out ≤ b → length (beside p q).out ≤ a + b
 two-short p q a b h g = omega (arith, length-append p.out q.out)
@@ -97,7 +103,7 @@ module _ (vars : ℕ) where
   mutual
     unfolding part_of node_count Writable
 
-    pub part-short : (t : Bool) (e : Expr) (m : Sheet.Map) (l b : ℕ) → Writable e vars → m.cols ≤ 4 → length m.rows ≤ 4 →
+    pub part-short : (t : Half) (e : Expr) (m : Sheet.Map) (l b : ℕ) → Writable e vars → m.cols ≤ 4 → length m.rows ≤ 4 →
         RowsWide m.cols m.rows →
         length (part_of t e m l b).out ≤ 3104 * node_count e
     part-short t (var v) m l b w f h r = omega (arith, own-short m f h r t (n_var v) l (omega arith))
@@ -150,7 +156,7 @@ module _ (vars : ℕ) where
               (rows-after-wide m g.rows r),
         )
 
-    chosen-short : (t : Bool) (es : Exprs) (m : Sheet.Map) (l b : ℕ) → AllWritable es vars → m.cols ≤ 4 → length m.rows ≤ 4 →
+    chosen-short : (t : Half) (es : Exprs) (m : Sheet.Map) (l b : ℕ) → AllWritable es vars → m.cols ≤ 4 → length m.rows ≤ 4 →
         RowsWide m.cols m.rows → length (chosen_of t es m l b).out ≤ 3104 * node_counts es
     chosen-short t none m l b w f h r = omega arith
     chosen-short t (more e es) m l b w f h r =
@@ -209,25 +215,175 @@ module _ (bs : List ℕ) (p n many : ℕ) (e : Expr) (h : IsBody bs p n many e) 
   unfolding x hs
   from-identity = branched hs e (identity n) 0 b wide (id_rows-wide n) (rw rows-long-are h.fitting) some
 
-  pub tree-part : part_of true e (identity n) 0 b ≡ tree_part (branch_in bs e b).term 0
+  tree-part : part_of Tree e (identity n) 0 b ≡ tree_part (branch_in bs e b).term 0
   unfolding x
   tree-part = from-identity.tree_is ∙ ap (λ y. tree_part y.term 0) same_branch
 
-  pub given-part : part_of false e (identity n) 0 b ≡ given_part (branch_in bs e b).given
+  given-part : part_of Constraints e (identity n) 0 b ≡ given_part (branch_in bs e b).given
   unfolding x
   given-part = from-identity.given_is ∙ ap (λ y. given_part y.given) same_branch
+
+  pub half-part : (t : Half) → part_of t e (identity n) 0 b ≡ half_of t (branch_in bs e b)
+  half-part Tree = tree-part
+  half-part Constraints = given-part
+
+-- ---- sums
 
 taken-same : {a b : Taken} → a.nodes ≡ b.nodes → a.bytes ≡ b.bytes → a.limits ≡ b.limits → a.deep ≡ b.deep → a ≡ b
 taken-same p q r s = λ i. record { nodes = p i; bytes = q i; limits = r i; deep = s i }
 
-pub both-assoc : (a b c : Taken) → both (both a b) c ≡ both a (both b c)
+both-assoc : (a b c : Taken) → both (both a b) c ≡ both a (both b c)
 both-assoc a b c = taken-same (omega arith) (omega arith) (omega arith) (omega arith)
 
-pub both-nothing : (a : Taken) → a ≡ both a nothing
+both-nothing : (a : Taken) → a ≡ both a nothing
 both-nothing a = taken-same (omega arith) (omega arith) (omega arith) (omega arith)
 
-pub nothing-both : (a : Taken) → a ≡ both nothing a
+nothing-both : (a : Taken) → a ≡ both nothing a
 nothing-both a = taken-same (omega arith) (omega arith) (omega arith) (omega arith)
+
+-- an expression is at least as long as it has nodes
+mutual
+  unfolding bytes node_count
+
+  node-low : (e : Expr) → node_count e ≤ length (bytes e)
+  node-low (var v) = omega (arith, two-long 0 v)
+  node-low (int c) = omega (arith, length-append (nat 1) (num c), length-nat 1)
+  node-low (boo b) = omega (arith, two-long 2 b)
+  node-low (un o a) =
+      let k = unary_code o in
+      omega (arith, length-append (nat 3 ++ nat k) (bytes a), two-long 3 k, node-low a)
+  node-low (bin o a b) =
+      let k = binary_code o in
+      omega (
+        arith,
+        length-append (nat 4 ++ nat k ++ bytes a) (bytes b),
+        length-append (nat 4 ++ nat k) (bytes a),
+        two-long 4 k,
+        node-low a,
+        node-low b,
+      )
+  node-low (ite a b c) =
+      omega (
+        arith,
+        length-append (nat 5 ++ bytes a ++ bytes b) (bytes c),
+        length-append (nat 5 ++ bytes a) (bytes b),
+        length-append (nat 5) (bytes a),
+        length-nat 5,
+        node-low a,
+        node-low b,
+        node-low c,
+      )
+  node-low (kase es) =
+      let k = branch_count es in
+      omega (arith, length-append (nat 6 ++ nat k) (all_bytes es), two-long 6 k, nodes-low es)
+  node-low (restr d cs a) =
+      let front = nat 7 ++ nat d ++ nat (length cs) in
+      omega (
+        arith,
+        length-append (front ++ flat (map constraint_bytes cs)) (bytes a),
+        length-append front (flat (map constraint_bytes cs)),
+        three-long 7 d (length cs),
+        node-low a,
+      )
+  node-low (dep f a) =
+      let front = nat 8 ++ nat f.cols ++ nat (length f.rows) in
+      omega (
+        arith,
+        length-append (front ++ flat (map row_bytes f.rows)) (bytes a),
+        length-append front (flat (map row_bytes f.rows)),
+        three-long 8 f.cols (length f.rows),
+        node-low a,
+      )
+
+  nodes-low : (es : Exprs) → node_counts es ≤ length (all_bytes es)
+  nodes-low none = omega arith
+  nodes-low (more e es) = omega (arith, length-append (bytes e) (all_bytes es), node-low e, nodes-low es)
+
+module _ (n : ℕ) where
+  total-append : (xs ys : List Branch) → total n (xs ++ ys) ≡ both (total n xs) (total n ys)
+  total-append [] ys = nothing-both (total n ys)
+  total-append (x ∷ xs) ys = ap (both (taken_by n x)) (total-append xs ys) ∙ sym (both-assoc (taken_by n x) (total n xs) (total n ys))
+
+  bytes-append : (xs ys : List Branch) → all_bytes (as_exprs n (xs ++ ys)) ≡ all_bytes (as_exprs n xs) ++ all_bytes (as_exprs n ys)
+  unfolding bytes
+  bytes-append [] ys = refl
+  bytes-append (x ∷ xs) ys =
+      let first = bytes (written n x) in
+      ap (λ l. first ++ l) (bytes-append xs ys) ∙ sym (append_assoc first (all_bytes (as_exprs n xs)) (all_bytes (as_exprs n ys)))
+
+  pub bytes_are : (xs : List Branch) → (total n xs).bytes ≡ length (all_bytes (as_exprs n xs))
+  unfolding bytes
+  bytes_are [] = refl
+  bytes_are (x ∷ xs) = omega (arith, length-append (bytes (written n x)) (all_bytes (as_exprs n xs)), bytes_are xs)
+
+  nodes_few : (xs : List Branch) → (total n xs).nodes ≤ (total n xs).bytes
+  nodes_few [] = omega arith
+  nodes_few (x ∷ xs) = omega (arith, node-low (written n x), nodes_few xs)
+
+-- ---- what is added, part after part
+
+pub added_nothing : (mode : Mode) (sofar : Taken) (l : List ℕ) → Added mode sofar l l sofar nothing []
+added_nothing mode sofar l = record { taken_is = both-nothing sofar; out_is = laid_nothing mode l sofar.bytes }
+
+module _ (mode : Mode) (sofar : Taken) (l : List ℕ) {a : List ℕ} {y : Taken} where
+  module _ (p : Taken) (xs ys : List ℕ) (long : p.bytes ≡ length xs) (first : Added mode sofar l a y p xs) where
+    added_then : (q : Taken) {b : List ℕ} {z : Taken} → Added mode y a b z q ys → Added mode sofar l b z (both p q) (xs ++ ys)
+    added_then q rest = record {
+      taken_is = rest.taken_is ∙ ap (λ x. both x q) first.taken_is ∙ both-assoc sofar p q;
+      out_is =
+          laid-after mode l sofar.bytes p.bytes xs ys (sym long) first.out_is (rest.out_is ∙ ap (λ x. laid mode a x.bytes ys) first.taken_is);
+    }
+
+    -- there is room for the rest
+    then-fits : p.nodes ≤ p.bytes → Fits sofar (xs ++ ys) (room_of mode l) → Fits y ys (room_of mode a)
+    then-fits few fits_in = record {
+      nodes_low = omega (arith, fits_in.nodes_low, ap (λ x. x.nodes) first.taken_is, ap (λ x. x.bytes) first.taken_is);
+      fits_room =
+          omega (
+            arith,
+            fits_in.fits_room,
+            length-append xs ys,
+            ap (λ x. x.bytes) first.taken_is,
+            laid_room mode l sofar.bytes xs first.out_is,
+          );
+    }
+
+  -- branches, and then others
+  module _ (n : ℕ) (xs ys : List Branch) (first : AddedAll mode sofar l a y n xs) where
+    pub added-append : {b : List ℕ} {z : Taken} → AddedAll mode y a b z n ys → AddedAll mode sofar l b z n (xs ++ ys)
+    added-append rest =
+        let both-are = added_then (total n xs) (all_bytes (as_exprs n xs)) (all_bytes (as_exprs n ys)) (bytes_are n xs) first (total n ys) rest in
+        record {
+          taken_is = both-are.taken_is ∙ ap (both sofar) (sym (total-append n xs ys));
+          out_is = both-are.out_is ∙ ap (laid mode l sofar.bytes) (sym (bytes-append n xs ys));
+        }
+
+    pub append-fits : Fits sofar (all_bytes (as_exprs n (xs ++ ys))) (room_of mode l) → Fits y (all_bytes (as_exprs n ys)) (room_of mode a)
+    append-fits fits_in =
+        then-fits (total n xs) (all_bytes (as_exprs n xs)) (all_bytes (as_exprs n ys)) (bytes_are n xs) first (nodes_few n xs)
+        (subst (λ k. Fits sofar k (room_of mode l)) (bytes-append n xs ys) fits_in)
+
+pub first-append : (sofar : Taken) (n : ℕ) (xs ys : List Branch) (room : ℕ) → Fits sofar (all_bytes (as_exprs n (xs ++ ys))) room →
+    Fits sofar (all_bytes (as_exprs n xs)) room
+first-append sofar n xs ys room fits_in = record {
+  nodes_low = fits_in.nodes_low;
+  fits_room =
+      omega (
+        arith,
+        fits_in.fits_room,
+        ap length (bytes-append n xs ys),
+        length-append (all_bytes (as_exprs n xs)) (all_bytes (as_exprs n ys)),
+      );
+}
+
+-- ---- the body
+
+module _ (bs : List ℕ) (p left n many : ℕ) (h : BodyAt bs p left n many) where
+  pub is_body : IsBody bs p n many h.tree
+  is_body = record { end = h.end; at = h.at; fitting = h.fitting; count = h.count }
+
+  pub tree-standing : Standing (vars_of bs) bs p left
+  tree-standing = record { tree = h.tree; end = h.end; at = h.at; few = h.few; most = h.left_low }
 
 -- a branch's own fields, its constraints and its tree
 written-long : (n : ℕ) (x : Branch) → length (bytes (written n x)) ≡ 24 + length (flat (map constraint_bytes x.given)) + length (bytes x.term)
@@ -237,38 +393,17 @@ written-long n x =
     length-append (front ++ flat (map constraint_bytes x.given)) (bytes x.term)
     ∙ omega (arith, length-append front (flat (map constraint_bytes x.given)), three-long 7 n (length x.given))
 
--- ---- where it starts
+-- ---- a branch
 
--- the pen at a place, with nothing written
-abbrev starting : ℕ → Pen
-starting to = record { to = to; things = 0; deep = 0 }
+module _ (bs : List ℕ) (p left n : ℕ) (x : Choice) (h : BranchAt bs p left n x) where
+  body_is : IsBody bs p n x.of h.body.tree
+  body_is = is_body bs p left n x.of h.body
 
-module _ (bs : List ℕ) (p left n many : ℕ) (h : BodyAt bs p left n many) where
-  pub is_body : IsBody bs p n many h.tree
-  is_body = record { end = h.end; at = h.at; fitting = h.fitting; count = h.count }
-
-  pub tree-standing : Standing (vars_of bs) bs p left
-  tree-standing = record { tree = h.tree; end = h.end; at = h.at; few = h.few; most = h.left_low }
-
-module _ (bs : List ℕ) (p left n many b : ℕ) (h : BranchAt bs p left n many b) where
-  body_is : IsBody bs p n many h.body.tree
-  body_is = is_body bs p left n many h.body
-
-  -- what is stored leaves the length
-  pub stored-long : (to : ℕ) (l d : List ℕ) (r : ℕ) → StoresBranch bs p n many b to l d r → length d ≡ length l
-  stored-long to l d r stored = ap length (stored h.body.tree body_is).0 ∙ length-sets l to (bytes (written n (branch_in bs h.body.tree b)))
-
-  pub room-there : (l : List ℕ) (to : ℕ) → RoomFor bs p n many b to (min (2 ^ 40) (length l)) →
-      (to + 24 ≤ 2 ^ 40) × (to + 24 ≤ length l)
-  room-there l to room = (
-    omega (arith, room h.body.tree body_is, written-long n (branch_in bs h.body.tree b)),
-    omega (arith, room h.body.tree body_is, written-long n (branch_in bs h.body.tree b)),
-  )
-
+  -- one half, followed from the identity
   module _ (m : Map) (is : map_of m ≡ identity n) (neat : Neat m) (high : m.height ≡ n) where
-    start-route : (t : Bool) (to room : ℕ) → to + length (part_of t h.body.tree (identity n) 0 b).out ≤ room →
-        Route bs p left m b many t 0 (starting to) room
-    start-route t to room fits_in = record {
+    pub half-route : (t : Half) (to room : ℕ) → HalfAt bs p left n x t to room →
+        Route bs p left m x.number x.of t 0 (record { to = to; things = 0; deep = 0 }) room
+    half-route t to room at = record {
       tree = h.body.tree;
       end = h.body.end;
       bound = top_reach;
@@ -287,128 +422,117 @@ module _ (bs : List ℕ) (p left n many b : ℕ) (h : BranchAt bs p left n many 
       low = h.body.low;
       some = h.some;
       things_low = omega arith;
-      fits_room = subst (λ f. to + length (part_of t h.body.tree f 0 b).out ≤ room) (sym is) fits_in;
+      fits_room =
+          let part = ap (λ f. part_of t h.body.tree f 0 x.number) is ∙ half-part bs p n x.of h.body.tree body_is x.number h.some t in
+          subst (λ y. to + length y.out ≤ room) (sym part) (at.fits_room h.body.tree body_is);
     }
 
-    short : (t : Bool) → length (part_of t h.body.tree (identity n) 0 b).out ≤ 3104 * 2048
-    short t =
-        omega (
-          arith,
-          part-short (vars_of bs) t h.body.tree (identity n) 0 b (at-writable (vars_of bs) bs h.body.tree p h.body.end h.body.at) h.body.narrow
-              (omega (arith, h.body.narrow, rows-long-are bs p n many h.body.tree body_is b h.some)) (id_rows-wide n),
-          mul-le-mul_left 3104 h.body.few,
-          h.body.left_low,
-        )
+    pub half-put : (t : Half) (mode : Mode) (to : ℕ) (l d : List ℕ) (r : Pen) →
+        Follows bs p m x.number x.of t 0 mode (record { to = to; things = 0; deep = 0 }) l d r → PutsHalf bs p n x t mode to l d r
+    half-put t mode to l d r followed e i =
+        subst (Wrote mode (record { to = to; things = 0; deep = 0 }) l d r)
+        (ap (λ f. part_of t e f 0 x.number) is ∙ half-part bs p n x.of e i x.number h.some t) (followed e i.end i.at i.count)
 
-    -- measured, there is always room
-    pub measure-route : (t : Bool) → Route bs p left m b many t 0 (starting 0) (2 ^ 40)
-    measure-route t = start-route t 0 (2 ^ 40) (omega (arith, short t))
+  module _ (mode : Mode) (sofar : Taken) (l : List ℕ) (room : BranchFits bs p n x sofar (room_of mode l)) where
+    -- there is room for the restriction's own numbers
+    pub head-room : (sofar.bytes + 24 ≤ 2 ^ 40) × (sofar.bytes + 24 ≤ room_of mode l)
+    head-room =
+        let fits_in = (room h.body.tree body_is).fits_room in
+        let long = written-long n (branch_in bs h.body.tree x.number) in
+        (omega (arith, fits_in, long, room-high mode l), omega (arith, fits_in, long))
 
-    -- ---- a branch measured
+    module _ (a b : List ℕ) (seven : a ≡ laid mode l sofar.bytes (nat 7)) (dim : b ≡ laid mode a (sofar.bytes + 8) (nat n)) where
+      head_is : b ≡ laid mode l sofar.bytes (nat 7 ++ nat n)
+      head_is = laid-after mode l sofar.bytes 8 (nat 7) (nat n) (length-nat 7) seven dim
 
-    module _ (none none' none'' : List ℕ) (given term : Pen)
-        (first : Follows bs p m b many false 0 true (starting 0) none none' given)
-        (second : Follows bs p m b many true 0 true (starting 0) none' none'' term) where
-      given-pen : (e : Expr) → IsBody bs p n many e → given ≡ advance (starting 0) (given_part (branch_in bs e b).given)
-      given-pen e i =
-          (first e i.end i.at i.count).pen_is
-          ∙ ap (advance (starting 0)) (ap (λ f. part_of false e f 0 b) is ∙ given-part bs p n many e i b h.some)
-
-      term-pen : (e : Expr) → IsBody bs p n many e → term ≡ advance (starting 0) (tree_part (branch_in bs e b).term 0)
-      term-pen e i =
-          (second e i.end i.at i.count).pen_is
-          ∙ ap (advance (starting 0)) (ap (λ f. part_of true e f 0 b) is ∙ tree-part bs p n many e i b h.some)
-
-      pub measured-low : (given.to ≤ 3104 * 2048) × (term.to ≤ 3104 * 2048) × (term.things ≤ term.to)
-      measured-low =
-          let e = h.body.tree in
-          let g = (first e h.body.end h.body.at h.body.count).pen_is in
-          let t = (second e h.body.end h.body.at h.body.count).pen_is in
-          let gs = ap (λ f. length (part_of false e f 0 b).out) is in
-          let ts = ap (λ f. length (part_of true e f 0 b).out) is in
-          let gto = ap (λ z. z.to) g in
-          let tto = ap (λ z. z.to) t in
-          let many-things = ap (λ z. z.things) t in
-          let few = Rattle.normal.proofs.Parts.part-things true e (map_of m) 0 b in
-          (omega (arith, short false), omega (arith, short true), omega arith)
-
-      pub measured : TakesBranch bs p n many b
-          (record { nodes = term.things + 1; bytes = 24 + given.to + term.to; limits = given.things; deep = term.deep })
-      unfolding node_count depth
-      measured = record {
-        few_bytes = omega (arith, measured-low);
-        few_nodes = omega (arith, measured-low);
-        is = λ e i.
-            let x = branch_in bs e b in
-            let g = given-pen e i in
-            let t = term-pen e i in
-            let gto = ap (λ z. z.to) g in
-            let tto = ap (λ z. z.to) t in
-            let gmany = ap (λ z. z.things) g in
-            let tmany = ap (λ z. z.things) t in
-            let tdeep = ap (λ z. z.deep) t in
-            taken-same (omega arith) (omega (arith, written-long n x)) (omega arith) (omega arith);
+      pub given-at : HalfAt bs p left n x Constraints (sofar.bytes + 24) (room_of mode b)
+      given-at = record {
+        at = h;
+        fits_room = λ e i.
+            omega (
+              arith,
+              (room e i).fits_room,
+              written-long n (branch_in bs e x.number),
+              laid_room mode l sofar.bytes (nat 7 ++ nat n) head_is,
+            );
       }
 
-    -- ---- a branch stored
+      module _ (c : List ℕ) (given : Pen) (first : PutsHalf bs p n x Constraints mode (sofar.bytes + 24) b c given) where
+        pub count-room : sofar.bytes + 24 ≤ room_of mode c
+        count-room =
+            let x-is = branch_in bs h.body.tree x.number in
+            omega (
+              arith,
+              head-room,
+              laid_room mode l sofar.bytes (nat 7 ++ nat n) head_is,
+              laid_room mode b (sofar.bytes + 24) (half_of Constraints x-is).out (first h.body.tree body_is).out_is,
+            )
 
-    module _ (l : List ℕ) (to : ℕ) (room : RoomFor bs p n many b to (min (2 ^ 40) (length l))) where
-      tree-room : to + 24 + length (part_of false h.body.tree (identity n) 0 b).out + length (part_of true h.body.tree (identity n) 0 b).out
-          ≤ min (2 ^ 40) (length l)
-      tree-room =
-          let x = branch_in bs h.body.tree b in
-          omega (
-            arith,
-            room h.body.tree body_is,
-            written-long n x,
-            ap (λ y. length y.out) (given-part bs p n many h.body.tree body_is b h.some),
-            ap (λ y. length y.out) (tree-part bs p n many h.body.tree body_is b h.some),
-          )
+        module _ (d : List ℕ) (count : d ≡ laid mode c (sofar.bytes + 16) (nat given.things)) where
+          pub term-at : HalfAt bs p left n x Tree given.to (room_of mode d)
+          term-at = record {
+            at = h;
+            fits_room = λ e i.
+                let y = branch_in bs e x.number in
+                omega (
+                  arith,
+                  (room e i).fits_room,
+                  written-long n y,
+                  ap (λ z. z.to) (first e i).pen_is,
+                  laid_room mode l sofar.bytes (nat 7 ++ nat n) head_is,
+                  laid_room mode b (sofar.bytes + 24) (half_of Constraints y).out (first e i).out_is,
+                  laid_room mode c (sofar.bytes + 16) (nat given.things) count,
+                );
+          }
 
-      module _ (a : List ℕ) (same : length a ≡ length l) where
-        pub given-route : Route bs p left m b many false 0 (starting (to + 24)) (room_of false a)
-        given-route = start-route false (to + 24) (room_of false a) (omega (arith, tree-room))
+          module _ (u : List ℕ) (term : Pen) (second : PutsHalf bs p n x Tree mode given.to d u term) where
+            pub nodes-fit : sofar.nodes + 1 + term.things ≤ 2 ^ 41
+            nodes-fit =
+                let y = branch_in bs h.body.tree x.number in
+                let here = room h.body.tree body_is in
+                omega (
+                  arith,
+                  here.nodes_low,
+                  here.fits_room,
+                  written-long n y,
+                  node-low y.term,
+                  ap (λ z. z.things) (second h.body.tree body_is).pen_is,
+                  room-high mode l,
+                )
 
-        module _ (c : List ℕ) (given : Pen) (first : Follows bs p m b many false 0 false (starting (to + 24)) a c given) where
-          given-wrote : Wrote false (starting (to + 24)) a c given (part_of false h.body.tree (map_of m) 0 b)
-          given-wrote = first h.body.tree h.body.end h.body.at h.body.count
-
-          pub term-route : (d : List ℕ) → length d ≡ length c → Route bs p left m b many true 0 (starting given.to) (room_of false d)
-          term-route d kept =
-              let to_is = ap (λ z. z.to) given-wrote.pen_is in
-              let as_is = ap (λ f. length (part_of false h.body.tree f 0 b).out) is in
-              let long = ap length given-wrote.out_is ∙ length-sets a (to + 24) (part_of false h.body.tree (map_of m) 0 b).out in
-              start-route true given.to (room_of false d) (omega (arith, tree-room))
-
-          pub branch-stored : (d u : List ℕ) (term : Pen) → a ≡ sets l to (nat 7 ++ nat n) → d ≡ sets c (to + 16) (nat given.things) →
-              Follows bs p m b many true 0 false (starting given.to) d u term → StoresBranch bs p n many b to l u term.to
-          unfolding bytes
-          branch-stored d u term head third second e i =
-              let x = branch_in bs e b in
-              let cs = flat (map constraint_bytes x.given) in
-              let k = nat (length x.given) in
-              let front = nat 7 ++ nat n ++ k in
-              let g = first e i.end i.at i.count in
-              let t = second e i.end i.at i.count in
-              let gp = ap (λ f. part_of false e f 0 b) is ∙ given-part bs p n many e i b h.some in
-              let tp = ap (λ f. part_of true e f 0 b) is ∙ tree-part bs p n many e i b h.some in
-              let limits : given.things ≡ length x.given =
-              ap (λ z. z.things) g.pen_is ∙ ap (λ y. 0 + y.things) gp ∙ zero-add (length x.given) in
-              let gto : given.to ≡ to + 24 + length cs = ap (λ z. z.to) g.pen_is ∙ ap (λ y. to + 24 + length y.out) gp in
-              let tto : term.to ≡ given.to + length (bytes x.term) = ap (λ z. z.to) t.pen_is ∙ ap (λ y. given.to + length y.out) tp in
-              let mid : c ≡ sets a (to + 24) cs = g.out_is ∙ ap (λ y. sets a (to + 24) y.out) gp in
-              let head_is : sets a (to + 16) k ≡ sets l to front = sets-after l to 16 (nat 7 ++ nat n) k (two-long 7 n) head refl in
-              let number : d ≡ sets c (to + 16) k = third ∙ ap (λ j. sets c (to + 16) (nat j)) limits in
-              let both-are : d ≡ sets (sets a (to + 16) k) (to + 24) cs =
-              number ∙ ap (λ r. sets r (to + 16) k) mid ∙ sets-past a (to + 16) (to + 24) k cs (omega (arith, length-nat (length x.given))) in
-              let front-cs = sets-after l to 24 front cs (three-long 7 n (length x.given)) head_is both-are in
-              let next : given.to ≡ to + (24 + length cs) = omega arith in
-              let last : u ≡ sets d (to + (24 + length cs)) (bytes x.term) =
-              t.out_is ∙ ap (λ y. sets d given.to y.out) tp ∙ ap (λ j. sets d j (bytes x.term)) next in
-              let front_long : length (front ++ cs) ≡ 24 + length cs = length-append front cs ∙ omega (arith, three-long 7 n (length x.given)) in (
-                sets-after l to (24 + length cs) (front ++ cs) (bytes x.term) front_long front-cs last,
-                omega (arith, written-long n x),
-              )
+            pub branch-put : PutsBranch bs p n x mode sofar l u (record {
+              nodes = sofar.nodes + 1 + term.things;
+              bytes = term.to;
+              limits = max sofar.limits given.things;
+              deep = max sofar.deep term.deep;
+            })
+            unfolding bytes node_count depth
+            branch-put e i =
+                let y = branch_in bs e x.number in
+                let to = sofar.bytes in
+                let g = first e i in
+                let t = second e i in
+                let cs = flat (map constraint_bytes y.given) in
+                let k = nat (length y.given) in
+                let front = nat 7 ++ nat n ++ k in
+                let limits : given.things ≡ length y.given = ap (λ z. z.things) g.pen_is ∙ zero-add (length y.given) in
+                let gto : given.to ≡ to + 24 + length cs = ap (λ z. z.to) g.pen_is in
+                let tto : term.to ≡ given.to + length (bytes y.term) = ap (λ z. z.to) t.pen_is in
+                let tmany = ap (λ z. z.things) t.pen_is in
+                let tdeep = ap (λ z. z.deep) t.pen_is in
+                let front_is : laid mode b (to + 16) k ≡ laid mode l to front =
+                laid-after mode l to 16 (nat 7 ++ nat n) k (two-long 7 n) head_is refl in
+                let counted : d ≡ laid mode (laid mode b (to + 16) k) (to + 24) cs =
+                count ∙ ap (λ j. laid mode c (to + 16) (nat j)) limits ∙ ap (λ r. laid mode r (to + 16) k) g.out_is
+                ∙ laid-past mode b (to + 16) (to + 24) k cs (omega (arith, length-nat (length y.given))) in
+                let front-cs = laid-after mode l to 24 front cs (three-long 7 n (length y.given)) front_is counted in
+                let next : given.to ≡ to + (24 + length cs) = omega arith in
+                let last : u ≡ laid mode d (to + (24 + length cs)) (bytes y.term) = t.out_is ∙ ap (λ j. laid mode d j (bytes y.term)) next in
+                let front_long : length (front ++ cs) ≡ 24 + length cs = length-append front cs ∙ omega (arith, three-long 7 n (length y.given)) in
+                record {
+                  taken_is = taken-same (omega arith) (omega (arith, written-long n y)) (omega arith) (omega arith);
+                  out_is = laid-after mode l to (24 + length cs) (front ++ cs) (bytes y.term) front_long front-cs last;
+                }
 
 -- ---- one branch after another
 
@@ -424,60 +548,82 @@ no-branches : (bs : List ℕ) (p n many b : ℕ) (e : Expr) → IsBody bs p n ma
 no-branches bs p n many b e i le = drop_of_length-le (branches_in bs e) {i = b} (omega (arith, i.count, count-is (dimension (heads_of bs)) e))
 
 module _ (bs : List ℕ) (p n many b : ℕ) where
-  pub measure-none : (sofar : Taken) → many ≤ b → TakesFrom bs p n many b sofar sofar
-  measure-none sofar le = record {
-    few = (omega arith, omega arith);
-    is =
-        λ e i. both-nothing sofar
-        ∙ ap (λ l. both sofar (total n l)) (sym (no-branches bs p n many b e i le));
-  }
+  pub none-puts : (mode : Mode) (sofar : Taken) (l : List ℕ) → many ≤ b → PutsFrom bs p n many b mode sofar l l sofar
+  unfolding bytes
+  none-puts mode sofar l le e i = subst (AddedAll mode sofar l l sofar n) (sym (no-branches bs p n many b e i le)) (added_nothing mode sofar l)
 
-  pub measure-more : (sofar taken next r : Taken) → b < many → TakesBranch bs p n many b taken → next ≡ both sofar taken →
-      TakesFrom bs p n many (b + 1) next r → TakesFrom bs p n many b sofar r
-  measure-more sofar taken next r lt took is rest = record {
-    few = (omega (arith, rest.few, took.few_bytes, ap (λ z. z.bytes) is), omega (arith, rest.few, took.few_nodes, ap (λ z. z.nodes) is));
-    is = λ e i.
-        let t = total n (drop (b + 1) (branches_in bs e)) in
-        rest.is e i ∙ ap (λ z. both z t) (is ∙ ap (both sofar) (took.is e i))
-        ∙ both-assoc sofar (taken_by n (branch_in bs e b)) t
-        ∙ ap (λ l. both sofar (total n l)) (sym (split-branches bs p n many b e i lt));
-  }
-
-  module _ (l : List ℕ) (to : ℕ) where
-    pub store-none : many ≤ b → StoresFrom bs p n many b to l l to
+  module _ (lt : b < many) where
+    cut : (e : Expr) → IsBody bs p n many e →
+        all_bytes (as_exprs n (drop b (branches_in bs e))) ≡ bytes (written n (branch_in bs e b))
+        ++ all_bytes (as_exprs n (drop (b + 1) (branches_in bs e)))
     unfolding bytes
-    store-none le e i =
-        let none = no-branches bs p n many b e i le in
-        (ap (λ x. sets l to (all_bytes (as_exprs n x))) (sym none), omega (arith, ap (λ x. length (all_bytes (as_exprs n x))) none))
+    cut e i = ap (λ x. all_bytes (as_exprs n x)) (split-branches bs p n many b e i lt)
 
-    module _ (lt : b < many) where
-      cut : (e : Expr) → IsBody bs p n many e →
-          all_bytes (as_exprs n (drop b (branches_in bs e))) ≡ bytes (written n (branch_in bs e b))
-          ++ all_bytes (as_exprs n (drop (b + 1) (branches_in bs e)))
+    pub cut-long : (e : Expr) → IsBody bs p n many e →
+        length (all_bytes (as_exprs n (drop b (branches_in bs e))))
+        ≡ length (bytes (written n (branch_in bs e b))) + length (all_bytes (as_exprs n (drop (b + 1) (branches_in bs e))))
+    cut-long e i =
+        ap length (cut e i) ∙ length-append (bytes (written n (branch_in bs e b))) (all_bytes (as_exprs n (drop (b + 1) (branches_in bs e))))
+
+    pub first-fits : (sofar : Taken) (room : ℕ) → BodyFits bs p n many b sofar room → BranchFits bs p n (record { number = b; of = many }) sofar room
+    first-fits sofar room h e i = record { nodes_low = (h e i).nodes_low; fits_room = omega (arith, (h e i).fits_room, cut-long e i) }
+
+    module _ (mode : Mode) (sofar next : Taken) (l a : List ℕ) (put : PutsBranch bs p n (record { number = b; of = many }) mode sofar l a next) where
+      pub rest-fits : BodyFits bs p n many b sofar (room_of mode l) → BodyFits bs p n many (b + 1) next (room_of mode a)
+      rest-fits h e i =
+          let x = branch_in bs e b in
+          then-fits mode sofar l (taken_by n x) (bytes (written n x)) (all_bytes (as_exprs n (drop (b + 1) (branches_in bs e)))) refl (put e i)
+          (node-low (written n x)) (subst (λ k. Fits sofar k (room_of mode l)) (cut e i) (h e i))
+
+      pub more-puts : (d : List ℕ) (r : Taken) → PutsFrom bs p n many (b + 1) mode next a d r → PutsFrom bs p n many b mode sofar l d r
       unfolding bytes
-      cut e i = ap (λ x. all_bytes (as_exprs n x)) (split-branches bs p n many b e i lt)
+      more-puts d r rest e i =
+          let x = branch_in bs e b in
+          let xs = drop (b + 1) (branches_in bs e) in
+          subst (AddedAll mode sofar l d r n) (sym (split-branches bs p n many b e i lt))
+          (added_then mode sofar l (taken_by n x) (bytes (written n x)) (all_bytes (as_exprs n xs)) refl (put e i) (total n xs) (rest e i))
 
-      long : (e : Expr) → IsBody bs p n many e →
-          length (all_bytes (as_exprs n (drop b (branches_in bs e))))
-          ≡ length (bytes (written n (branch_in bs e b))) + length (all_bytes (as_exprs n (drop (b + 1) (branches_in bs e))))
-      long e i = ap length (cut e i) ∙ length-append (bytes (written n (branch_in bs e b))) (all_bytes (as_exprs n (drop (b + 1) (branches_in bs e))))
+-- ---- how long all of them can be
 
-      pub first-room : (room : ℕ) → RoomFrom bs p n many b to room → RoomFor bs p n many b to room
-      first-room room h e i = omega (arith, h e i, long e i)
+module _ (bs : List ℕ) (p left n many : ℕ) (h : BodyAt bs p left n many) where
+  half-short : (b : ℕ) → b < many → (t : Half) → length (half_of t (branch_in bs h.tree b)).out ≤ 3104 * 2048
+  half-short b lt t =
+      omega (
+        arith,
+        ap (λ y. length y.out) (half-part bs p n many h.tree (is_body bs p left n many h) b lt t),
+        part-short (vars_of bs) t h.tree (identity n) 0 b (at-writable (vars_of bs) bs h.tree p h.end h.at) h.narrow
+            (omega (arith, h.narrow, rows-long-are bs p n many h.tree (is_body bs p left n many h) b lt)) (id_rows-wide n),
+        mul-le-mul_left 3104 h.few,
+        h.left_low,
+      )
 
-      pub rest-room : (next : ℕ) (a : List ℕ) → StoresBranch bs p n many b to l a next → RoomFrom bs p n many b to (min (2 ^ 40) (length l)) →
-          RoomFrom bs p n many (b + 1) next (min (2 ^ 40) (length a))
-      rest-room next a stored h e i =
-          let same = ap length (stored e i).0 ∙ length-sets l to (bytes (written n (branch_in bs e b))) in
-          omega (arith, h e i, long e i, (stored e i).1)
+  branches-short : (k b : ℕ) → b + k ≡ many → length (all_bytes (as_exprs n (drop b (branches_in bs h.tree)))) ≤ k * 2 ^ 24
+  unfolding bytes
+  branches-short zero b e =
+      let none = no-branches bs p n many b h.tree (is_body bs p left n many h) (omega arith) in
+      omega (arith, ap (λ x. length (all_bytes (as_exprs n x))) none)
+  branches-short (suc k) b e =
+      let x = branch_in bs h.tree b in
+      omega (
+        arith,
+        cut-long bs p n many b (omega arith) h.tree (is_body bs p left n many h),
+        written-long n x,
+        half-short b (omega arith) Constraints,
+        half-short b (omega arith) Tree,
+        branches-short k (b + 1) (omega arith),
+      )
 
-      pub store-more : (next r : ℕ) (a d : List ℕ) → StoresBranch bs p n many b to l a next → StoresFrom bs p n many (b + 1) next a d r →
-          StoresFrom bs p n many b to l d r
-      store-more next r a d stored rest e i =
-          let first = bytes (written n (branch_in bs e b)) in
-          let others = all_bytes (as_exprs n (drop (b + 1) (branches_in bs e))) in
-          let at = (stored e i).1 in (
-            sets-after l to (length first) first others refl (stored e i).0 ((rest e i).0 ∙ ap (λ k. sets a k others) at)
-                ∙ ap (sets l to) (sym (cut e i)),
-            omega (arith, (rest e i).1, at, long e i),
-          )
+  -- measured, there is room for all of them
+  pub measure-fits : (sofar : Taken) → sofar.nodes ≤ 4096 → sofar.bytes ≤ 2 ^ 24 → BodyFits bs p n many 0 sofar (2 ^ 40)
+  measure-fits sofar few low e i =
+      let one = (at-unique (vars_of bs) bs p e h.tree i.end h.end i.at h.at).tree_is in
+      record {
+        nodes_low = omega arith;
+        fits_room =
+            omega (
+              arith,
+              branches-short many 0 (zero-add many),
+              ap (λ f. length (all_bytes (as_exprs n (drop 0 (branches_in bs f))))) one,
+              mul-le-mul_right (2 ^ 24) h.low,
+            );
+      }

@@ -6,7 +6,7 @@ use Prim.Native.Nat.{ℕ, zero, suc, ◌+◌, ◌*◌, ◌-◌, ◌/◌, ◌%◌
 use native.Mathlib.Nat.{mod-lt, div-lt_iff_lt-mul}
 use native.Mathlib.Omega.{arith}
 use mathlib.Core.Logic.{⊎_elim}
-use mathlib.Core.Bool.{true, false, ◌&&◌}
+use mathlib.Core.Bool.{true, ◌&&◌}
 use mathlib.Core.List.{List, [], ◌∷◌, ◌++◌, map, append_assoc, map-append}
 use lib.ListN.{length, length-append, length-map}
 use lib.Dec.{eqb}
@@ -26,18 +26,12 @@ use Rattle.laws.proofs.Branches.{joined, joined3}
 use Rattle.laws.proofs.NormalAgain.{map-again, rows-after-wide}
 use Rattle.affine.proofs.Several.{lt-or-le}
 use Rattle.normal.specs.Count.{count_of, sum_of}
-use Rattle.normal.specs.Part.{Part, nothing, beside, leaf, operator, of_given, part_of, chosen_of}
+use Rattle.normal.specs.declared.Half.TheVariants.{Constraints, Tree}
+use Rattle.normal.specs.Part.{Part, nothing, beside, tree_part, given_part, leaf, operator, of_given, part_of, chosen_of}
 use Rattle.normal.proofs.Composing.{given-twice, push-twice}
 use Rattle.normal.proofs.Numbered.{branch_at, map_at, positive, count-is, bin_at, ite-at, first-at, rest_at}
 
 -- ---- a tree and constraints as parts
-
--- the tree x below l nodes
-abbrev pub tree_part : Expr → ℕ → Part
-tree_part x l = record { out = bytes x; things = node_count x; deep = l + depth x }
-
-abbrev pub given_part : List Constraint → Part
-given_part cs = record { out = flat (map constraint_bytes cs); things = length cs; deep = 0 }
 
 pub part_same : {p q : Part} → p.out ≡ q.out → p.things ≡ q.things → p.deep ≡ q.deep → p ≡ q
 part_same a b c = λ i. record { out = a i; things = b i; deep = c i }
@@ -84,16 +78,16 @@ nothing-beside p = part_same refl (omega arith) (omega arith)
 
 -- both parts of branch b are those of the branch x pushed through m
 pub record Branched (e : Expr) (m : Map) (l b : ℕ) (x : Branch) : Type 0 where
-  pub tree_is : part_of true e m l b ≡ tree_part (push x.term m) l
-  pub given_is : part_of false e m l b ≡ given_part (map (constraint_after m) x.given)
+  pub tree_is : part_of Tree e m l b ≡ tree_part (push x.term m) l
+  pub given_is : part_of Constraints e m l b ≡ given_part (map (constraint_after m) x.given)
 
 record Chosen (es : Exprs) (m : Map) (l b : ℕ) (x : Branch) : Type 0 where
-  tree_is : chosen_of true es m l b ≡ tree_part (push x.term m) l
-  given_is : chosen_of false es m l b ≡ given_part (map (constraint_after m) x.given)
+  tree_is : chosen_of Tree es m l b ≡ tree_part (push x.term m) l
+  given_is : chosen_of Constraints es m l b ≡ given_part (map (constraint_after m) x.given)
 
 -- a leaf, whose identity after m is m
-leaf-branched : (e : Expr) (m : Map) (l b d : ℕ) → d ≡ length m.rows → RowsWide m.cols m.rows → part_of true e m l b ≡ leaf m e l →
-    part_of false e m l b ≡ given_part [] →
+leaf-branched : (e : Expr) (m : Map) (l b d : ℕ) → d ≡ length m.rows → RowsWide m.cols m.rows → part_of Tree e m l b ≡ leaf m e l →
+    part_of Constraints e m l b ≡ given_part [] →
     node_count e ≡ 1 → depth e ≡ 1 → Branched e m l b (record { given = []; term = dep (identity d) e })
 unfolding push
 leaf-branched e m l b d is wide p q n k = record {
@@ -172,8 +166,8 @@ module _ (m : Map) (l b : ℕ) where
   first-chosen e es x lt h =
       let pick = lt-ltb b (count_of e) lt in
       record {
-        tree_is = ap (λ t. ifb t (λ _. part_of true e m l b) (λ _. chosen_of true es m l (b - count_of e))) pick ∙ h.tree_is;
-        given_is = ap (λ t. ifb t (λ _. part_of false e m l b) (λ _. chosen_of false es m l (b - count_of e))) pick ∙ h.given_is;
+        tree_is = ap (λ t. ifb t (λ _. part_of Tree e m l b) (λ _. chosen_of Tree es m l (b - count_of e))) pick ∙ h.tree_is;
+        given_is = ap (λ t. ifb t (λ _. part_of Constraints e m l b) (λ _. chosen_of Constraints es m l (b - count_of e))) pick ∙ h.given_is;
       }
 
   rest-chosen : (e : Expr) (es : Exprs) (x : Branch) → count_of e ≤ b → Chosen es m l (b - count_of e) x → Chosen (more e es) m l b x
@@ -181,8 +175,8 @@ module _ (m : Map) (l b : ℕ) where
   rest-chosen e es x le h =
       let pick = le-ltb b (count_of e) le in
       record {
-        tree_is = ap (λ t. ifb t (λ _. part_of true e m l b) (λ _. chosen_of true es m l (b - count_of e))) pick ∙ h.tree_is;
-        given_is = ap (λ t. ifb t (λ _. part_of false e m l b) (λ _. chosen_of false es m l (b - count_of e))) pick ∙ h.given_is;
+        tree_is = ap (λ t. ifb t (λ _. part_of Tree e m l b) (λ _. chosen_of Tree es m l (b - count_of e))) pick ∙ h.tree_is;
+        given_is = ap (λ t. ifb t (λ _. part_of Constraints e m l b) (λ _. chosen_of Constraints es m l (b - count_of e))) pick ∙ h.given_is;
       }
 
 -- the branches of two operands

@@ -4,7 +4,6 @@ use mathlib.Core.Path.{◌≡◌, refl, sym, ap, ◌∙◌, subst}
 use Prim.Native.Nat.{ℕ, zero, suc, ◌+◌, ◌*◌, ◌-◌, ◌/◌, ◌%◌, ◌≤◌, ◌<◌, min}
 use native.Mathlib.Nat.{mul-one, one-mul, mul-zero, mul_assoc, mul_comm, mul-suc, div-one, mod-one, le-mul_of_pos_right, mul-div_cancel_left}
 use native.Mathlib.Omega.{arith}
-use mathlib.Core.Bool.{Bool, true, false}
 use mathlib.Core.List.{List}
 use mathlib.Core.Logic.{⊎_elim}
 use borrow.Author.Tests.{lt-ltb, le-ltb}
@@ -22,6 +21,8 @@ use Rattle.tree.specs.Standing.{Standing, StandingAll}
 use Rattle.tree.proofs.Classes.{leaf-tree, operator-tree, leaf-at, operator-at, case_at, restriction-at, dependence-at}
 use Rattle.tree.proofs.Standings.{standing-children, first-standing, children-at, children-counted, one_more}
 use Rattle.normal.specs.declared.Chosen.{Chosen}
+use Rattle.normal.specs.declared.Group.{Group}
+use Rattle.normal.specs.declared.Group.TheVariants.{Children, Operands}
 use Rattle.normal.specs.Count.{count_of, sum_of, product_of, joined, counts_of, capped, Picked, pick}
 use Rattle.tree.specs.Ends.{EndsAt}
 use Rattle.normal.specs.Counted.{Counts, CountsAll, ChildrenAt, PicksOf, Picks, OperandAt, SplitsOf, Splits}
@@ -58,25 +59,25 @@ cap-left a (suc b) = ⊎_elim small large (lt-or-le a 65)
 cap-right : (a b : ℕ) → capped (a * capped b) ≡ capped (a * b)
 cap-right a b = ap capped (mul_comm a (capped b)) ∙ cap-left b a ∙ ap capped (mul_comm b a)
 
-cap-joined : (t : Bool) (s x y : ℕ) → capped (joined t (capped (joined t s (capped x))) y) ≡ capped (joined t s (joined t x y))
-cap-joined true s x y = omega arith
-cap-joined false s x y = ap (λ n. capped (n * y)) (cap-right s x) ∙ cap-left (s * x) y ∙ ap capped (mul_assoc s x y)
+cap-joined : (t : Group) (s x y : ℕ) → capped (joined t (capped (joined t s (capped x))) y) ≡ capped (joined t s (joined t x y))
+cap-joined Children s x y = omega arith
+cap-joined Operands s x y = ap (λ n. capped (n * y)) (cap-right s x) ∙ cap-left (s * x) y ∙ ap capped (mul_assoc s x y)
 
 -- ---- the ways through the count
 
-joined-none : (t : Bool) (x : ℕ) → joined t x (counts_of t none) ≡ x
+joined-none : (t : Group) (x : ℕ) → joined t x (counts_of t none) ≡ x
 unfolding count_of product_of
-joined-none true x = omega arith
-joined-none false x = mul-one x
+joined-none Children x = omega arith
+joined-none Operands x = mul-one x
 
 product-none : product_of none ≡ 1
 unfolding product_of
 product-none = refl
 
-counts-more : (t : Bool) (e : Expr) (es : Exprs) → counts_of t (more e es) ≡ joined t (count_of e) (counts_of t es)
+counts-more : (t : Group) (e : Expr) (es : Exprs) → counts_of t (more e es) ≡ joined t (count_of e) (counts_of t es)
 unfolding count_of product_of
-counts-more true e es = refl
-counts-more false e es = refl
+counts-more Children e es = refl
+counts-more Operands e es = refl
 
 module _ (bs : List ℕ) (p : ℕ) where
   pub leaf-way : class_at bs p ≡ Leaf → Counts bs p 1
@@ -89,7 +90,7 @@ module _ (bs : List ℕ) (p : ℕ) where
 
     -- so many children stand there
     module _ (n r : ℕ) (many : n ≡ arity (node_read (vars_of bs) bs p)) where
-      pub operator-way : class_at bs p ≡ Operator → CountsAll bs k n false 1 r → Counts bs p r
+      pub operator-way : class_at bs p ≡ Operator → CountsAll bs k n Operands 1 r → Counts bs p r
       operator-way class_is h = (
         h.0,
         λ e q at.
@@ -97,7 +98,7 @@ module _ (bs : List ℕ) (p : ℕ) where
             all ∙ ap capped (one-mul (product_of (children_of e)) ∙ sym (operator-count e (operator-at bs e p q at class_is).class_is)),
       )
 
-      pub case-way : class_at bs p ≡ Case → CountsAll bs k n true 0 r → Counts bs p r
+      pub case-way : class_at bs p ≡ Case → CountsAll bs k n Children 0 r → Counts bs p r
       case-way class_is h = (
         h.0,
         λ e q at.
@@ -145,7 +146,7 @@ module _ (bs : List ℕ) (p : ℕ) where
           let x = below e q at in
           h x.child q x.at
 
-  pub none-way : (many : ℕ) (t : Bool) (sofar : ℕ) → many < 1 → sofar ≤ 65 → CountsAll bs p many t sofar sofar
+  pub none-way : (many : ℕ) (t : Group) (sofar : ℕ) → many < 1 → sofar ≤ 65 → CountsAll bs p many t sofar sofar
   none-way many t sofar l low = (
     low,
     λ es q h m.
@@ -154,7 +155,7 @@ module _ (bs : List ℕ) (p : ℕ) where
         cap ∙ ap capped (sym (joined-none t sofar) ∙ ap (λ l. joined t sofar (counts_of t l)) (sym x.is)),
   )
 
-  pub more-way : (many : ℕ) (t : Bool) (sofar first next both r : ℕ) → 1 ≤ many → Counts bs p first →
+  pub more-way : (many : ℕ) (t : Group) (sofar first next both r : ℕ) → 1 ≤ many → Counts bs p first →
       EndsAt (vars_of bs) bs p next → both ≡ capped (joined t sofar first) → CountsAll bs next (many - 1) t both r →
       CountsAll bs p many t sofar r
   more-way many t sofar first next both r some one ends sum rest = (
@@ -201,7 +202,7 @@ module _ (bs : List ℕ) (p left many b of : ℕ) (h : ChildrenAt bs p left many
 
   -- a branch of the first child
   picks_first : (es : Exprs) (q k : ℕ) (x : MoreAt es (vars_of bs) bs p q (many - 1)) → count_of x.first ≡ k → b < k →
-      PicksOf bs es b (record { at = p; b = b; of = k })
+      PicksOf bs es b (record { at = p; choice = record { number = b; of = k } })
   picks_first es q k x count low =
       let is = ap (λ t. pick t b) x.is ∙ pick_first x.first x.rest b (omega arith) in
       record {
@@ -212,7 +213,7 @@ module _ (bs : List ℕ) (p left many b of : ℕ) (h : ChildrenAt bs p left many
       }
 
   -- the last child has all the branches that are left
-  pub last-way : many < 2 → Picks bs p many b of (record { at = p; b = b; of = of })
+  pub last-way : many < 2 → Picks bs p many b of (record { at = p; choice = record { number = b; of = of } })
   last-way few es q at m sum =
       let x = one_more (vars_of bs) bs es p q many children-some at m in
       let last = all_at-none (vars_of bs) bs x.rest x.middle q x.after (omega (arith, x.many)) in
@@ -234,7 +235,7 @@ module _ (bs : List ℕ) (p left many b of : ℕ) (h : ChildrenAt bs p left many
         omega (arith, counted.1 e q at, counted.1 split.first split.middle split.before, sum, h.sum, h.low)
 
     -- the first child's branches come first
-    pub first_way : b < n → Picks bs p many b of (record { at = p; b = b; of = n })
+    pub first_way : b < n → Picks bs p many b of (record { at = p; choice = record { number = b; of = n } })
     first_way l es q at m sum =
         let x = one_more (vars_of bs) bs es p q many children-some at m in
         picks_first es q n x (sym (exact x.first x.middle x.before)) l
@@ -293,7 +294,7 @@ factors x y z e some =
 
 -- an operand alone: its branch of the combination's number
 pub only-split : (e : Expr) (others : Exprs) (q b of : ℕ) → others ≡ none → count_of e * product_of others ≡ of →
-    SplitsOf e others q b (record { b = b; of = of; next = q; rest = 0; among = 1 })
+    SplitsOf e others q b (record { first = record { number = b; of = of }; next = q; rest = record { number = 0; of = 1 } })
 only-split e others q b of none-are product =
     let one = ap product_of none-are ∙ product-none in
     record {
@@ -305,25 +306,8 @@ only-split e others q b of none-are product =
     }
 
 module _ (bs : List ℕ) (p left b of : ℕ) (h : OperandAt bs p left b of) where
-  pub operand-standing : Standing (vars_of bs) bs p left
-  operand-standing = record { tree = h.tree; end = h.end; at = h.at; few = h.few; most = h.left_low }
-
   some : 0 < of
   some = omega (arith, h.some)
-
-  -- where there is one combination, each operand has one branch
-  pub one_split : of < 2 → (next : ℕ) → EndsAt (vars_of bs) bs p next → Splits bs p b of (record { b = b; of = of; next = next; rest = b; among = of })
-  one_split few next ends e others q at product =
-      let f = factors (count_of e) (product_of others) of product some in
-      let one : product_of others ≡ 1 = omega (arith, f.right-some, f.right-low) in
-      let first : b ≡ 0 = omega (arith, h.some) in
-      record {
-        ends = ends e q at;
-        first_count = omega (arith, f.left-some, f.left_low);
-        rest_count = omega (arith, f.right-some, f.right-low);
-        first_branch = sym (ap (λ n. b / n) one ∙ div-one b);
-        rest_branch = first ∙ sym (ap (λ n. b % n) one ∙ mod-one b);
-      }
 
   module _ (n : ℕ) (counted : Counts bs p n) where
     -- the count did not stop at 65
@@ -338,18 +322,13 @@ module _ (bs : List ℕ) (p left b of : ℕ) (h : OperandAt bs p left b of) wher
         ap (λ i. i / n) (sym product) ∙ ap (λ i. count_of e * product_of others / i) (operand-exact e q at)
         ∙ mul-div_cancel_left (product_of others) f.left-some
 
-    pub first_some : 0 < n
-    first_some =
-        let f = factors (count_of h.tree) (product_of h.others) of h.product some in
-        omega (arith, f.left-some, operand-exact h.tree h.end h.at)
-
     pub rest_some : 0 < of / n
     rest_some =
         let f = factors (count_of h.tree) (product_of h.others) of h.product some in
         omega (arith, f.right-some, rest-is h.tree h.others h.end h.at h.product)
 
     pub counted-split : (next : ℕ) → EndsAt (vars_of bs) bs p next →
-        Splits bs p b of (record { b = b / (of / n); of = n; next = next; rest = b % (of / n); among = of / n })
+        Splits bs p b of (record { first = record { number = b / (of / n); of = n }; next = next; rest = record { number = b % (of / n); of = of / n } })
     counted-split next ends e others q at product =
         let rest = rest-is e others q at product in
         record {

@@ -4,16 +4,17 @@ use Prim.Native.Nat.{ℕ, zero, suc, ◌+◌, ◌*◌, ◌-◌, ◌≤◌, ◌<�
 use native.Mathlib.Nat.{add-zero, zero-add, sub-zero}
 use native.Mathlib.Omega.{arith}
 use mathlib.Core.List.{List, [], ◌∷◌, ◌++◌, map, append_assoc}
-use lib.ListN.{length, get_or, take, length-append, set}
-use lib.Seq.{sets, length-take-le, take-suc, set_comm}
+use lib.ListN.{length, length-append, set}
+use lib.Seq.{sets, set_comm}
 use lib.IntN.{ℤ}
 use Rattle.alpha.specs.Field.{num, nat}
 use Rattle.alpha.specs.Sheet.{Row, Constraint}
 use Rattle.alpha.specs.Written.{flat, row_bytes, constraint_bytes, relation_code}
 use Rattle.laws.specs.Wide.{RowsWide, ConstraintsWide}
 use Rattle.laws.proofs.Written.{sets-append, length-bytes_of, length-num}
-use Rattle.affine.specs.Value.{several}
-use Rattle.affine.proofs.Several.{several-same}
+use Rattle.affine.specs.declared.Map.{Map}
+use Rattle.affine.specs.Value.{at, line, row_of, map_of, several}
+use Rattle.affine.proofs.Several.{several-same, length-several, map-several}
 
 -- ---- one after another
 
@@ -107,14 +108,12 @@ constraints-long n [] h = omega arith
 constraints-long n (c ∷ cs) h = length-append (constraint_bytes c) (flat (map constraint_bytes cs))
     ∙ omega (arith, constraint-long c n h.0, constraints-long n cs h.1)
 
--- ---- a copy
+-- the bytes of row i of a map
+abbrev pub row_at : Map → ℕ → List ℕ
+row_at m i = row_bytes (row_of m.width (line m i))
 
--- one byte more of s
-pub copied_more : (s l : List ℕ) (i : ℕ) → i < length s → set (sets l 0 (take i s)) i (get_or s i 0) ≡ sets l 0 (take (i + 1) s)
-copied_more s l i h =
-    let e : suc i ≡ i + 1 = omega arith in
-    let long : length (take i s) ≡ i = length-take-le i s (omega arith) in
-    let next : 0 + length (take i s) ≡ i = omega arith in
-    ap (λ k. set (sets l 0 (take i s)) k (get_or s i 0)) (sym next)
-    ∙ sym (sets-append l 0 (take i s) (get_or s i 0 ∷ []))
-    ∙ ap (sets l 0) (sym (take-suc s i 0 h) ∙ ap (λ k. take k s) e)
+pub rows-run : (m : Map) → run 0 m.height (row_at m) ≡ flat (map row_bytes (map_of m).rows)
+rows-run m = run-start m.height (row_at m) ∙ sym (ap flat (map-several row_bytes m.height (λ i. row_of m.width (line m i))))
+
+pub row-at-long : (m : Map) (i : ℕ) → length (row_at m i) ≡ 8 * m.width + 8
+row-at-long m i = row-long (row_of m.width (line m i)) m.width (length-several m.width (at (line m i).coef))

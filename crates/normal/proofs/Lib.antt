@@ -4,6 +4,7 @@ pub mod Composing
 pub mod Numbered
 pub mod Branched
 pub mod Laying
+pub mod Laid
 pub mod Composed
 pub mod Spots
 pub mod Parts

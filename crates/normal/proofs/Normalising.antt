@@ -1,15 +1,16 @@
 -- The whole normaliser against its promise: the sheet's refusals, WIDE, ROOM, and the bytes. Assumes nothing.
 use mathlib.Core.Path.{◌≡◌, refl, sym, ap, ap₂, ◌∙◌, subst}
-use Prim.Native.Nat.{ℕ, ◌+◌, ◌≤◌, ◌<◌}
+use Prim.Native.Nat.{ℕ, ◌+◌, ◌^◌, ◌≤◌, ◌<◌, min}
 use native.Mathlib.Nat.{zero-add}
 use native.Mathlib.Omega.{arith}
 use mathlib.Core.Bool.{true, false}
 use mathlib.Core.List.{List, [], ◌++◌}
 use lib.ListN.{length, get_or, drop, take, length-append}
-use lib.Seq.{sets, sets-eq, length-take-le}
+use lib.Seq.{sets, sets-eq, length-sets, length-take-le}
 use lib.Dec.{leb}
 use borrow.Author.Tests.{le-leb, lt-leb}
-use Rattle.alpha.specs.Answer.{Answer, accepted, refused, next, WIDE}
+use Rattle.std.specs.Prelude.{Result, Ok, Err}
+use Rattle.alpha.specs.Answer.{Answer, accepted, refused, next}
 use Rattle.alpha.specs.Field.{nat}
 use Rattle.alpha.specs.Sheet.{Raw, Sheet}
 use Rattle.alpha.specs.Read.{Got, got, bad, read}
@@ -18,21 +19,19 @@ use Rattle.alpha.specs.Normalise.{Body, write_bodies, normal_form, normal_after,
 use Rattle.alpha.specs.Verdict.{number_of, place_of, told}
 use Rattle.alpha.specs.Promise.{total_of, Normalises}
 use Rattle.alpha.specs.declared.Refusal.{Refusal}
-use Rattle.alpha.specs.declared.Refusal.TheVariants.{Wide, Room}
-use Rattle.alpha.specs.declared.Verdict.{Verdict}
-use Rattle.alpha.specs.declared.Verdict.TheVariants.{Accepted, Refused}
+use Rattle.alpha.specs.declared.Refusal.TheVariants.{Room}
 use Rattle.laws.specs.Sheets.{got_raw, raw_of, sheet_of}
 use Rattle.laws.specs.Normal.{body_bytes}
 use Rattle.laws.proofs.Rewritten.{Wrote, write-wrote}
 use Rattle.laws.proofs.NormalAccepted.{kept_at}
 use Rattle.tree.specs.Formed.{Formed}
 use Rattle.tree.proofs.Heading.{prepared-sections}
-use Rattle.normal.specs.declared.Plan.{Plan}
-use Rattle.normal.specs.declared.Plan.TheVariants.{Total, WideAt}
-use Rattle.normal.specs.Plan.{Size, planned, front_of, sized, Small, PlansFrom}
+use Rattle.normal.specs.declared.Totals.{Totals}
+use Rattle.normal.specs.Plan.{front_of, sized, Small, PlansFrom}
 use Rattle.normal.specs.Stored.{bodies_from, Stored, WritesFrom}
 use Rattle.normal.specs.Planned.{Planned}
 use Rattle.normal.proofs.Laying.{sets-after, length-nat}
+use Rattle.sheet.specs.declared.table.Table.{Table}
 
 -- ---- after the check
 
@@ -46,7 +45,7 @@ module _ (bs : List ℕ) where
       go (bad n p) = refl
 
   -- a refusal of the sheet, or of the totals
-  refuses : (out : List ℕ) (k : Refusal) → normal_after bs (read bs) ≡ refused (number_of k) (place_of k) → Normalises bs out out (Refused k)
+  refuses : (out : List ℕ) (k : Refusal) → normal_after bs (read bs) ≡ refused (number_of k) (place_of k) → Normalises bs out out (Err k)
   unfolding normalise
   refuses out k e = record { answer = rw e refl; out_after = rw e refl }
 
@@ -61,15 +60,14 @@ module _ (bs : List ℕ) where
           again (accepted x) = accepted []
           again (refused a b) = refused a b
 
-  pub check_refuses : (out : List ℕ) (r : Verdict) (k : Refusal) → r ≡ Refused k → told r ≡ total_of (check bs) → Normalises bs out out r
+  pub check_refuses : (out : List ℕ) (r : Result ℕ Refusal) (k : Refusal) → r ≡ Err k → told r ≡ total_of (check bs) → Normalises bs out out (Err k)
   check_refuses out r k e h =
-      subst (Normalises bs out out) (sym e)
-      (refuses out k (after_check
-      ∙ ap (λ a. next a (λ s. normal_form bs (raw_of bs) s)) (refused-check (number_of k) (place_of k) (sym (ap told e) ∙ h))))
+      refuses out k (after_check
+      ∙ ap (λ a. next a (λ s. normal_form bs (raw_of bs) s)) (refused-check (number_of k) (place_of k) (sym (ap told e) ∙ h)))
 
   -- ---- an accepted sheet
 
-  module _ (tab : List ℕ) (f : Formed bs tab) (accepts : check bs ≡ accepted (sheet_of bs)) where
+  module _ (tab : Table) (f : Formed bs tab) (accepts : check bs ≡ accepted (sheet_of bs)) where
     form-is : normal_after bs (read bs) ≡ next (write_bodies (sheet_of bs) (front_of bs) 0 (sheet_of bs) (record { nodes = 0; out = [] })) (λ w.
         accepted (take (raw_of bs).third bs ++ nat w.nodes ++ w.out))
     unfolding normal_form
@@ -78,38 +76,39 @@ module _ (bs : List ℕ) where
     pub front-there : ((raw_of bs).third + 8 ≤ length bs)
     front-there = let s = prepared-sections bs tab f.placed.prepared in omega (arith, s.first_is, s.first_there)
 
-    module _ (third : ℕ) (place : third ≡ get_or tab 67 0) (p : Plan) (plans : PlansFrom bs 0 0 (third + 8) p) where
+    module _ (third : ℕ) (place : third ≡ tab.third) (p : Result Totals Refusal) (plans : PlansFrom bs 0 0 (third + 8) p) where
       third-is : third ≡ (raw_of bs).third
       third-is = place ∙ f.placed.prepared.table.third
 
-      told-size : planned p ≡ sized (front_of bs) (write_bodies (sheet_of bs) (front_of bs) 0 (sheet_of bs) (record { nodes = 0; out = [] }))
+      told-size : told p ≡ sized (front_of bs) (write_bodies (sheet_of bs) (front_of bs) 0 (sheet_of bs) (record { nodes = 0; out = [] }))
       told-size = plans.is (record { nodes = 0; out = [] }) refl (omega (arith, third-is))
 
-      pub wide-refuses : (out : List ℕ) (v : ℕ) → p ≡ WideAt v → Normalises bs out out (Refused (Wide v))
-      wide-refuses out v e =
-          refuses out (Wide v) (form-is ∙ ap (λ a. next a (λ w. accepted (take (raw_of bs).third bs ++ nat w.nodes ++ w.out))) wide)
+      -- a refusal of the totals
+      pub wide-refuses : (out : List ℕ) (k : Refusal) → p ≡ Err k → Normalises bs out out (Err k)
+      wide-refuses out k e =
+          refuses out k (form-is ∙ ap (λ a. next a (λ w. accepted (take (raw_of bs).third bs ++ nat w.nodes ++ w.out))) wide)
         where
-          go : (a : Answer Body) → refused WIDE v ≡ sized (front_of bs) a → a ≡ refused WIDE v
+          go : (a : Answer Body) → refused (number_of k) (place_of k) ≡ sized (front_of bs) a → a ≡ refused (number_of k) (place_of k)
           go (accepted w) h = absurd (let z : ◌≡◌ {A = ℕ} 0 1 = cc in omega arith)
           go (refused i j) h = ap again (sym h)
             where
-              again : Answer Size → Answer Body
+              again : Answer Totals → Answer Body
               again (accepted x) = accepted (record { nodes = 0; out = [] })
               again (refused a b) = refused a b
 
-          wide : write_bodies (sheet_of bs) (front_of bs) 0 (sheet_of bs) (record { nodes = 0; out = [] }) ≡ refused WIDE v
-          wide = go (write_bodies (sheet_of bs) (front_of bs) 0 (sheet_of bs) (record { nodes = 0; out = [] })) (sym (ap planned e) ∙ told-size)
+          wide : write_bodies (sheet_of bs) (front_of bs) 0 (sheet_of bs) (record { nodes = 0; out = [] }) ≡ refused (number_of k) (place_of k)
+          wide = go (write_bodies (sheet_of bs) (front_of bs) 0 (sheet_of bs) (record { nodes = 0; out = [] })) (sym (ap told e) ∙ told-size)
 
-      pub plan-holds : (n b : ℕ) → p ≡ Total n b → Planned bs tab n b
-      plan-holds n b e =
-          go (write_bodies (sheet_of bs) (front_of bs) 0 (sheet_of bs) (record { nodes = 0; out = [] })) refl (sym (ap planned e) ∙ told-size)
+      pub plan-holds : (sum : Totals) → p ≡ Ok sum → Planned bs tab sum.nodes sum.bytes
+      plan-holds sum e =
+          go (write_bodies (sheet_of bs) (front_of bs) 0 (sheet_of bs) (record { nodes = 0; out = [] })) refl (sym (ap told e) ∙ told-size)
         where
-          size_in : Answer Size → Size
+          size_in : Answer Totals → Totals
           size_in (accepted z) = z
           size_in (refused i j) = record { nodes = 0; bytes = 0 }
 
           go : (a : Answer Body) → write_bodies (sheet_of bs) (front_of bs) 0 (sheet_of bs) (record { nodes = 0; out = [] }) ≡ a →
-              ◌≡◌ {A = Answer Size} (accepted (record { nodes = n; bytes = b })) (sized (front_of bs) a) → Planned bs tab n b
+              ◌≡◌ {A = Answer Totals} (accepted sum) (sized (front_of bs) a) → Planned bs tab sum.nodes sum.bytes
           go (accepted w) i h = record {
             formed = f;
             sheet_is = accepts;
@@ -123,7 +122,7 @@ module _ (bs : List ℕ) where
 
   -- ---- the bytes
 
-  module _ (tab : List ℕ) (nodes size : ℕ) (h : Planned bs tab nodes size) where
+  module _ (tab : Table) (nodes size : ℕ) (h : Planned bs tab nodes size) where
     whole_is : Wrote (sheet_of bs) (front_of bs) (sheet_of bs) (record { nodes = 0; out = [] }) h.whole
     whole_is = write-wrote (sheet_of bs) (front_of bs) 0 h.wrote
 
@@ -151,35 +150,59 @@ module _ (bs : List ℕ) where
       few = λ u lt body. (kept_at (sheet_of bs) (sheet_of bs) whole_is.kept u (omega (arith, h.formed.placed.many)) body).few-branches;
     }
 
-    pub room-refuses : (out : List ℕ) → length out < size → Normalises bs out out (Refused (Room size))
+    pub room-refuses : (out : List ℕ) → length out < size → Normalises bs out out (Err (Room size))
     unfolding normalise
     room-refuses out lt =
         let o = take (raw_of bs).third bs ++ nat nodes ++ body_bytes (sheet_of bs) (sheet_of bs) in
         let short : leb (length o) (length out) ≡ false = lt-leb (length o) (length out) (omega (arith, form-long)) in
         record { answer = rw (is-form, short, form-long) refl; out_after = rw (is-form, short) refl }
 
-    module _ (out : List ℕ) (enough : size ≤ length out) (third : ℕ) (place : third ≡ get_or tab 67 0) where
+    module _ (out : List ℕ) (enough : size ≤ length out) (third : ℕ) (place : third ≡ tab.third) where
       at-third : third ≡ (raw_of bs).third
       at-third = place ∙ h.formed.placed.prepared.table.third
 
-      pub written_all : {a b d : List ℕ} {r : ℕ} → a ≡ sets out 0 (take third bs) → b ≡ sets a third (nat nodes) →
-          Stored (bodies_from bs 0) (third + 8) b d r → Normalises bs out d (Accepted r)
-      unfolding normalise
-      written_all {a} {b} {d} {r} first second stored =
-          let front = take (raw_of bs).third bs in
-          let all = body_bytes (sheet_of bs) (sheet_of bs) in
-          let o = front ++ nat nodes ++ all in
-          let lent : leb (length o) (length out) ≡ true = le-leb (length o) (length out) (omega (arith, form-long)) in
-          let one : a ≡ sets out 0 front = first ∙ ap (λ k. sets out 0 (take k bs)) at-third in
-          let two_at : b ≡ sets a (0 + (raw_of bs).third) (nat nodes) = second ∙ ap (λ k. sets a k (nat nodes)) (omega (arith, at-third)) in
-          let two = sets-after out 0 (raw_of bs).third front (nat nodes) third-long one two_at in
-          let two-long : length (front ++ nat nodes) ≡ (raw_of bs).third + 8 =
-          length-append front (nat nodes) ∙ omega (arith, third-long, length-nat nodes) in
-          let three-at : d ≡ sets b (0 + ((raw_of bs).third + 8)) all = stored.0 ∙ ap (λ k. sets b k all) (omega (arith, at-third)) in
-          let three = sets-after out 0 ((raw_of bs).third + 8) (front ++ nat nodes) all two-long two three-at in
-          let end : r ≡ length o = stored.1 ∙ omega (arith, at-third, form-long, bodies-long) in
-          record {
-            answer = ap accepted end ∙ rw (is-form, lent) refl;
-            out_after =
-                three ∙ sets-eq o out 0 (omega (arith, form-long)) ∙ ap (λ k. o ++ drop k out) (zero-add (length o)) ∙ rw (is-form, lent) refl;
-          }
+      -- the copied bytes, as bytes that are stored from the start
+      front-set : sets out 0 (take (raw_of bs).third bs) ≡ take (raw_of bs).third bs ++ drop (raw_of bs).third out
+      front-set =
+          sets-eq (take (raw_of bs).third bs) out 0 (omega (arith, third-long, form-long, bodies-long))
+          ∙ ap (λ k. take (raw_of bs).third bs ++ drop k out) (zero-add (length (take (raw_of bs).third bs)) ∙ third-long)
+
+      -- what is copied is as long in the sheet as it is in what is lent
+      pub copied-long : third ≡ length (take third bs)
+      copied-long = sym (length-take-le third bs (omega (arith, at-third, front-there tab h.formed h.sheet_is)))
+
+      pub lent-long : third ≡ length (take third out)
+      lent-long = sym (length-take-le third out (omega (arith, at-third, form-long, bodies-long)))
+
+      module _ (x : List ℕ) (copied : x ≡ take third bs) where
+        front-copied : x ++ drop third out ≡ sets out 0 (take (raw_of bs).third bs)
+        front-copied = ap (λ y. y ++ drop third out) copied ∙ ap (λ k. take k bs ++ drop k out) at-third ∙ sym front-set
+
+        pub counted-room : (b : List ℕ) → b ≡ sets (x ++ drop third out) third (nat nodes) →
+            third + 8 + length (bodies_from bs 0) ≤ min (2 ^ 40) (length b)
+        counted-room b second =
+            let one = ap length front-copied ∙ length-sets out 0 (take (raw_of bs).third bs) in
+            let two = ap length second ∙ length-sets (x ++ drop third out) third (nat nodes) in
+            omega (arith, at-third, bodies-long, h.small, one, two)
+
+        pub written_all : {b d : List ℕ} {r : ℕ} → b ≡ sets (x ++ drop third out) third (nat nodes) →
+            Stored (bodies_from bs 0) (third + 8) b d r → Normalises bs out d (Ok r)
+        unfolding normalise
+        written_all {b} {d} {r} second stored =
+            let front = take (raw_of bs).third bs in
+            let all = body_bytes (sheet_of bs) (sheet_of bs) in
+            let o = front ++ nat nodes ++ all in
+            let lent : leb (length o) (length out) ≡ true = le-leb (length o) (length out) (omega (arith, form-long)) in
+            let a = x ++ drop third out in
+            let two_at : b ≡ sets a (0 + (raw_of bs).third) (nat nodes) = second ∙ ap (λ k. sets a k (nat nodes)) (omega (arith, at-third)) in
+            let two = sets-after out 0 (raw_of bs).third front (nat nodes) third-long front-copied two_at in
+            let two-long : length (front ++ nat nodes) ≡ (raw_of bs).third + 8 =
+            length-append front (nat nodes) ∙ omega (arith, third-long, length-nat nodes) in
+            let three-at : d ≡ sets b (0 + ((raw_of bs).third + 8)) all = stored.0 ∙ ap (λ k. sets b k all) (omega (arith, at-third)) in
+            let three = sets-after out 0 ((raw_of bs).third + 8) (front ++ nat nodes) all two-long two three-at in
+            let end : r ≡ length o = stored.1 ∙ omega (arith, at-third, form-long, bodies-long) in
+            record {
+              answer = ap accepted end ∙ rw (is-form, lent) refl;
+              out_after =
+                  three ∙ sets-eq o out 0 (omega (arith, form-long)) ∙ ap (λ k. o ++ drop k out) (zero-add (length o)) ∙ rw (is-form, lent) refl;
+            }

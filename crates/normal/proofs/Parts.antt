@@ -1,13 +1,12 @@
 -- A branch's parts by the node and its children: the children's combinations, the child that a case picks, and lengths. Assumes nothing.
 use mathlib.Core.Path.{◌≡◌, refl, sym, ap, ◌∙◌}
-use Prim.Native.Nat.{ℕ, ◌+◌, ◌*◌, ◌-◌, ◌/◌, ◌%◌, ◌^◌, ◌≤◌, ◌<◌, max, min}
+use Prim.Native.Nat.{ℕ, ◌+◌, ◌*◌, ◌-◌, ◌/◌, ◌%◌, ◌≤◌, ◌<◌, max}
 use native.Mathlib.Nat.{mul-one, div-one}
 use native.Mathlib.Omega.{arith}
 use mathlib.Core.Logic.{⊎_elim}
 use mathlib.Core.Bool.{Bool, true, false}
-use mathlib.Core.List.{List, [], ◌++◌, append-nil}
+use mathlib.Core.List.{List, ◌++◌, append-nil}
 use lib.ListN.{length, length-append}
-use lib.Seq.{sets, length-sets}
 use lib.Dec.{ltb}
 use borrow.Author.Tests.{lt-ltb, le-ltb}
 use Rattle.alpha.specs.Pick.{ifb}
@@ -20,16 +19,18 @@ use Rattle.alpha.specs.Written.{node_count, node_counts}
 use Rattle.laws.specs.At.{node_of}
 use Rattle.laws.specs.Children.{children_of}
 use Rattle.laws.proofs.Tests.{&&-left, &&-right}
-use Rattle.laws.proofs.Written.{sets-append}
 use Rattle.affine.proofs.Several.{lt-or-le}
 use Rattle.tree.specs.declared.Class.TheVariants.{Leaf, Operator}
 use Rattle.tree.specs.Classes.{class_of}
 use Rattle.tree.proofs.Classes.{leaf-tree, operator-tree}
+use Rattle.normal.specs.declared.Half.{Half}
+use Rattle.normal.specs.declared.Mode.{Mode}
 use Rattle.normal.specs.declared.Pen.{Pen}
 use Rattle.normal.specs.Count.{count_of, sum_of, product_of, Picked, pick}
 use Rattle.normal.specs.Part.{Part, nothing, beside, own, part_of, chosen_of, parts_of}
 use Rattle.normal.specs.Followed.{advance, laid, room_of, Wrote}
 use Rattle.normal.proofs.Branched.{part_same}
+use Rattle.normal.proofs.Laid.{laid-after, laid_room}
 use Rattle.normal.proofs.Spots.{own-things}
 
 -- ---- nothing more
@@ -39,18 +40,18 @@ beside_nothing p = part_same (sym (append-nil p.out)) (omega arith) (omega arith
 
 -- ---- by the children
 
-one-part : (t : Bool) (a : Expr) (m : Map) (l b : ℕ) → part_of t a m l b ≡ parts_of t (more a none) m l b
+one-part : (t : Half) (a : Expr) (m : Map) (l b : ℕ) → part_of t a m l b ≡ parts_of t (more a none) m l b
 unfolding parts_of product_of
 one-part t a m l b = ap (part_of t a m l) (sym (div-one b)) ∙ beside_nothing (part_of t a m l (b / 1))
 
-two-parts : (t : Bool) (x y : Expr) (m : Map) (l b : ℕ) →
+two-parts : (t : Half) (x y : Expr) (m : Map) (l b : ℕ) →
     beside (part_of t x m l (b / count_of y)) (part_of t y m l (b % count_of y)) ≡ parts_of t (more x (more y none)) m l b
 unfolding parts_of product_of
 two-parts t x y m l b =
     ap (λ n. beside (part_of t x m l (b / n)) (part_of t y m l (b % n))) (sym (mul-one (count_of y)))
     ∙ ap (beside (part_of t x m l (b / (count_of y * 1)))) (one-part t y m l (b % (count_of y * 1)))
 
-three-parts : (t : Bool) (x y z : Expr) (m : Map) (l b : ℕ) → let n = count_of y * count_of z in
+three-parts : (t : Half) (x y z : Expr) (m : Map) (l b : ℕ) → let n = count_of y * count_of z in
     beside (part_of t x m l (b / n)) (beside (part_of t y m l (b % n / count_of z)) (part_of t z m l (b % n % count_of z)))
     ≡ parts_of t (more x (more y (more z none))) m l b
 unfolding parts_of product_of
@@ -60,11 +61,11 @@ three-parts t x y z m l b =
     ∙ ap (λ k. beside (part_of t x m l (b / (count_of y * k))) (parts_of t (more y (more z none)) m l (b % (count_of y * k)))) (sym (mul-one (count_of z)))
 
 -- a leaf: its own part; an operator: its own part, and then its operands'
-pub leaf-part : (t : Bool) (m : Map) (l b : ℕ) (e : Expr) → class_of (node_of e) ≡ Leaf → part_of t e m l b ≡ own t (node_of e) m l
+pub leaf-part : (t : Half) (m : Map) (l b : ℕ) (e : Expr) → class_of (node_of e) ≡ Leaf → part_of t e m l b ≡ own t (node_of e) m l
 unfolding part_of
 leaf-part t m l b = leaf-tree (λ e. part_of t e m l b ≡ own t (node_of e) m l) (λ v. refl) (λ c. refl) (λ c. refl)
 
-pub operator-part : (t : Bool) (m : Map) (l b : ℕ) (e : Expr) → class_of (node_of e) ≡ Operator →
+pub operator-part : (t : Half) (m : Map) (l b : ℕ) (e : Expr) → class_of (node_of e) ≡ Operator →
     part_of t e m l b ≡ beside (own t (node_of e) m l) (parts_of t (children_of e) m (l + 1) b)
 unfolding part_of
 operator-part t m l b =
@@ -81,7 +82,7 @@ pub record PickKept (es : Exprs) (b : ℕ) : Type 0 where
   pub few : node_count (pick es b).child ≤ node_counts es
   pub no_more : count_of (pick es b).child ≤ sum_of es
   pub some : (pick es b).branch < count_of (pick es b).child
-  pub part-is : (t : Bool) (m : Map) (l : ℕ) → chosen_of t es m l b ≡ part_of t (pick es b).child m l (pick es b).branch
+  pub part-is : (t : Half) (m : Map) (l : ℕ) → chosen_of t es m l b ≡ part_of t (pick es b).child m l (pick es b).branch
 
 first-kept : (e : Expr) (es : Exprs) (b : ℕ) → b < count_of e → PickKept (more e es) b
 unfolding pick fits reach node_counts count_of part_of
@@ -116,25 +117,9 @@ pick-kept (more e es) b h =
 
 -- ---- the pen, part after part
 
-pub wrote_nothing : (dry : Bool) (pen : Pen) (out : List ℕ) → Wrote dry pen out out pen nothing
-wrote_nothing dry pen out = record {
-  pen_is = λ i. record { to = stays pen.to i; things = stays pen.things i; deep = same pen.deep i };
-  out_is = go dry;
-}
-  where
-    stays : (n : ℕ) → n ≡ n + 0
-    stays n = omega arith
-
-    same : (n : ℕ) → n ≡ max n 0
-    same n = omega arith
-
-    go : (d : Bool) → out ≡ laid d out pen.to []
-    go true = refl
-    go false = refl
-
-pub wrote_then : (dry : Bool) (pen : Pen) (out : List ℕ) {a b : List ℕ} {y z : Pen} (p q : Part) → Wrote dry pen out a y p → Wrote dry y a b z q →
-    Wrote dry pen out b z (beside p q)
-wrote_then dry pen out {a} {b} {y} {z} p q h g = record {
+pub wrote_then : (mode : Mode) (pen : Pen) (out : List ℕ) {a b : List ℕ} {y z : Pen} (p q : Part) → Wrote mode pen out a y p → Wrote mode y a b z q →
+    Wrote mode pen out b z (beside p q)
+wrote_then mode pen out {a} {b} {y} {z} p q h g = record {
   pen_is =
       g.pen_is ∙ ap (λ x. advance x q) h.pen_is
       ∙ (λ i. record {
@@ -142,7 +127,7 @@ wrote_then dry pen out {a} {b} {y} {z} p q h g = record {
         things = add_assoc pen.things p.things q.things i;
         deep = max_assoc pen.deep p.deep q.deep i;
       });
-  out_is = go dry h.out_is (g.out_is ∙ ap (λ x. laid dry a x.to q.out) h.pen_is);
+  out_is = laid-after mode out pen.to (length p.out) p.out q.out refl h.out_is (g.out_is ∙ ap (λ x. laid mode a x.to q.out) h.pen_is);
 }
   where
     add_assoc : (i j k : ℕ) → i + j + k ≡ i + (j + k)
@@ -154,18 +139,9 @@ wrote_then dry pen out {a} {b} {y} {z} p q h g = record {
     sum_is : pen.to + length p.out + length q.out ≡ pen.to + length (p.out ++ q.out)
     sum_is = omega (arith, length-append p.out q.out)
 
-    go : (d : Bool) → a ≡ laid d out pen.to p.out → b ≡ laid d a (pen.to + length p.out) q.out →
-        b ≡ laid d out pen.to (p.out ++ q.out)
-    go true e f = f ∙ e
-    go false e f = f ∙ ap (λ x. sets x (pen.to + length p.out) q.out) e ∙ sym (sets-append out pen.to p.out q.out)
-
 -- the room stays, whatever was stored
-pub room-same : (dry : Bool) (pen : Pen) (out : List ℕ) {a : List ℕ} {y : Pen} (p : Part) → Wrote dry pen out a y p → room_of dry a ≡ room_of dry out
-room-same dry pen out {a} p h = go dry h.out_is
-  where
-    go : (d : Bool) → a ≡ laid d out pen.to p.out → room_of d a ≡ room_of d out
-    go true e = refl
-    go false e = ap (min (2 ^ 40)) (ap length e ∙ length-sets out pen.to p.out)
+pub room-same : (mode : Mode) (pen : Pen) (out : List ℕ) {a : List ℕ} {y : Pen} (p : Part) → Wrote mode pen out a y p → room_of mode a ≡ room_of mode out
+room-same mode pen out p h = laid_room mode out pen.to p.out h.out_is
 
 -- ---- a part is at least as long as it has things
 
@@ -175,7 +151,7 @@ both-things p q h g = omega (arith, length-append p.out q.out)
 mutual
   unfolding part_of
 
-  pub part-things : (t : Bool) (e : Expr) (m : Map) (l b : ℕ) → (part_of t e m l b).things ≤ length (part_of t e m l b).out
+  pub part-things : (t : Half) (e : Expr) (m : Map) (l b : ℕ) → (part_of t e m l b).things ≤ length (part_of t e m l b).out
   part-things t (var v) m l b = own-things t (node_of (var v)) m l
   part-things t (int c) m l b = own-things t (node_of (int c)) m l
   part-things t (boo c) m l b = own-things t (node_of (boo c)) m l
@@ -200,7 +176,7 @@ mutual
       (part-things t a m l b)
   part-things t (dep f a) m l b = part-things t a (map_after m f) l b
 
-  chosen-things : (t : Bool) (es : Exprs) (m : Map) (l b : ℕ) → (chosen_of t es m l b).things ≤ length (chosen_of t es m l b).out
+  chosen-things : (t : Half) (es : Exprs) (m : Map) (l b : ℕ) → (chosen_of t es m l b).things ≤ length (chosen_of t es m l b).out
   chosen-things t none m l b = omega arith
   chosen-things t (more e es) m l b = go (ltb b (count_of e)) (part-things t e m l b) (chosen-things t es m l (b - count_of e))
     where
@@ -211,9 +187,9 @@ mutual
       go true h g = h
       go false h g = g
 
-pub things_low : (dry : Bool) (pen : Pen) (out : List ℕ) {a : List ℕ} {y : Pen} (p : Part) → Wrote dry pen out a y p → pen.things ≤ pen.to →
+pub things_low : (mode : Mode) (pen : Pen) (out : List ℕ) {a : List ℕ} {y : Pen} (p : Part) → Wrote mode pen out a y p → pen.things ≤ pen.to →
     p.things ≤ length p.out → y.things ≤ y.to
-things_low dry pen out {y = y} p h low few =
+things_low mode pen out {y = y} p h low few =
     let to_is = ap (λ z. z.to) h.pen_is in
     let things-are = ap (λ z. z.things) h.pen_is in
     omega (arith)

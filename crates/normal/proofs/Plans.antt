@@ -10,30 +10,34 @@ use lib.ListN.{length, get_or, drop, length-append, get_or-eq_default, drop_of_l
 use lib.Seq.{drop-cons}
 use lib.Dec.{leb}
 use borrow.Author.Tests.{leb-true, le-leb}
+use Rattle.std.specs.Prelude.{Result, Ok, Err}
 use Rattle.alpha.specs.Pick.{ifb}
 use Rattle.alpha.specs.Answer.{Answer, accepted, refused, WIDE}
 use Rattle.alpha.specs.Field.{nat}
 use Rattle.alpha.specs.Read.{no_head, dimension}
 use Rattle.alpha.specs.Holds.{no_variable, variable, is_input}
 use Rattle.alpha.specs.Written.{branch_count, bytes, all_bytes, node_count, node_counts, depth, depths}
+use Rattle.alpha.specs.Verdict.{number_of, place_of}
+use Rattle.alpha.specs.declared.Refusal.{Refusal}
+use Rattle.alpha.specs.declared.Refusal.TheVariants.{Wide}
 use Rattle.alpha.specs.Normal.{Branch, norm, as_exprs, body_case}
 use Rattle.alpha.specs.Normalise.{dims, branches_of, normal_body, narrow, keeps_limits, Body, written, write_bodies}
 use Rattle.laws.specs.Sheets.{heads_of, vars_of, sheet_of}
 use Rattle.laws.proofs.Rewritten.{limits}
 use Rattle.laws.proofs.Tests.{&&-left, &&-right, &&-true}
 use Rattle.affine.proofs.Several.{lt-or-le}
-use Rattle.tree.specs.Standing.{Standing}
 use Rattle.tree.specs.Formed.{BodyStands, Formed}
+use Rattle.normal.specs.declared.Mode.TheVariants.{Measure}
 use Rattle.normal.specs.declared.Taken.{Taken}
-use Rattle.normal.specs.declared.Plan.{Plan}
-use Rattle.normal.specs.declared.Plan.TheVariants.{Total, WideAt}
+use Rattle.normal.specs.declared.Totals.{Totals}
 use Rattle.normal.specs.Count.{capped}
 use Rattle.normal.specs.Counted.{Counts}
-use Rattle.normal.specs.Body.{nothing, total, branches_in, BodyAt, IsBody, TakesFrom}
-use Rattle.normal.specs.Plan.{Size, front_of, sized, Small, Grows, PlansFrom}
+use Rattle.normal.specs.Body.{both, total, branches_in, BodyAt, IsBody, PutsFrom}
+use Rattle.normal.specs.Plan.{front_of, sized, Grows, PlansFrom}
 use Rattle.normal.proofs.Numbered.{count-is}
-use Rattle.normal.proofs.Bodies.{nothing-both}
+use Rattle.normal.proofs.Bodies.{bytes_are}
 use Rattle.normal.proofs.Laying.{two-long}
+use Rattle.sheet.specs.declared.table.Table.{Table}
 
 -- ---- branches together
 
@@ -42,11 +46,6 @@ module _ (n : ℕ) where
   unfolding node_counts
   nodes_are [] = refl
   nodes_are (x ∷ xs) = omega (arith, nodes_are xs)
-
-  bytes_are : (xs : List Branch) → length (all_bytes (as_exprs n xs)) ≡ (total n xs).bytes
-  unfolding all_bytes
-  bytes_are [] = refl
-  bytes_are (x ∷ xs) = length-append (bytes (Rattle.normal.specs.Body.written n x)) (all_bytes (as_exprs n xs)) ∙ omega (arith, bytes_are xs)
 
   narrow-yes : (xs : List Branch) → (total n xs).limits ≤ 64 → narrow xs ≡ true
   narrow-yes [] h = refl
@@ -79,7 +78,7 @@ module _ (n : ℕ) where
   unfolding bytes
   body_bytes xs =
       length-append (nat 6 ++ nat (branch_count (as_exprs n xs))) (all_bytes (as_exprs n xs))
-      ∙ omega (arith, two-long 6 (branch_count (as_exprs n xs)), bytes_are xs)
+      ∙ omega (arith, two-long 6 (branch_count (as_exprs n xs)), bytes_are n xs)
 
   body-depth : (xs : List Branch) → depth (body_case n xs) ≡ suc (depths (as_exprs n xs))
   unfolding depth
@@ -109,7 +108,7 @@ module _ (n : ℕ) where
 
 -- ---- a body of the sheet
 
-module _ (bs tab : List ℕ) (f : Formed bs tab) where
+module _ (bs : List ℕ) (tab : Table) (f : Formed bs tab) where
   dims-are : dims (sheet_of bs) ≡ (λ v. dimension (heads_of bs) v)
   dims-are = fun_ext (λ v. ⊎_elim (λ lt. ap (λ h. length h.box) (f.placed.head_is v lt)) (λ le. past v le) (lt-or-le v (vars_of bs)))
     where
@@ -123,21 +122,12 @@ module _ (bs tab : List ℕ) (f : Formed bs tab) where
     stands = f.placed.body v lt body
 
     -- its place and its dimension, as the code has them
-    module _ (at n : ℕ) (place : at ≡ get_or tab (69 + v) 0) (dim : n ≡ dimension (heads_of bs) v) where
+    module _ (at n : ℕ) (place : at ≡ get_or tab.bodies v 0) (dim : n ≡ dimension (heads_of bs) v) where
       start_is : at ≡ (variable (sheet_of bs) v).start
       start_is = place ∙ f.placed.starts v lt
 
       dim-is : n ≡ length (variable (sheet_of bs) v).head.box
       dim-is = dim ∙ ap (λ h. length h.box) (sym (f.placed.head_is v lt))
-
-      pub body-standing : Standing (vars_of bs) bs at 2048
-      body-standing = record {
-        tree = (variable (sheet_of bs) v).body;
-        end = (variable (sheet_of bs) v).end;
-        at = rw start_is stands.at;
-        few = stands.few;
-        most = omega arith;
-      }
 
       pub branches-are : branches_in bs (variable (sheet_of bs) v).body ≡ branches_of (sheet_of bs) (variable (sheet_of bs) v)
       branches-are = ap (norm (variable (sheet_of bs) v).body) (sym dims-are)
@@ -177,14 +167,14 @@ module _ (bs tab : List ℕ) (f : Formed bs tab) where
           wide_at : keeps_limits (branches_of (sheet_of bs) (variable (sheet_of bs) v)) (normal_body (sheet_of bs) (variable (sheet_of bs) v))
               (nodes + node_count (normal_body (sheet_of bs) (variable (sheet_of bs) v)))
               (size + length (bytes (normal_body (sheet_of bs) (variable (sheet_of bs) v)))) ≡ false →
-              Grows bs v nodes size (WideAt v)
+              Grows bs v nodes size (Err (Wide v))
           wide_at e = record { is = rw e refl; small = tt }
 
           breaks-at : ((nodes + node_count (normal_body (sheet_of bs) (variable (sheet_of bs) v)) ≤ 2048) →
               (length (branches_of (sheet_of bs) (variable (sheet_of bs) v)) ≤ 64) →
               ((total n (branches_of (sheet_of bs) (variable (sheet_of bs) v))).limits ≤ 64) →
               ((total n (branches_of (sheet_of bs) (variable (sheet_of bs) v))).deep ≤ 30) →
-              (size + length (bytes (normal_body (sheet_of bs) (variable (sheet_of bs) v))) ≤ 65536) → ⊥) → Grows bs v nodes size (WideAt v)
+              (size + length (bytes (normal_body (sheet_of bs) (variable (sheet_of bs) v))) ≤ 65536) → ⊥) → Grows bs v nodes size (Err (Wide v))
           breaks-at bad =
               wide_at (subst (λ e. keeps_limits (branches_of (sheet_of bs) (variable (sheet_of bs) v)) e
               (nodes + node_count (normal_body (sheet_of bs) (variable (sheet_of bs) v)))
@@ -192,63 +182,68 @@ module _ (bs tab : List ℕ) (f : Formed bs tab) where
               (breaks n (branches_of (sheet_of bs) (variable (sheet_of bs) v)) (nodes + node_count (normal_body (sheet_of bs) (variable (sheet_of bs) v)))
               (size + length (bytes (normal_body (sheet_of bs) (variable (sheet_of bs) v)))) bad))
 
-          pub many-way : 64 < many → Grows bs v nodes size (WideAt v)
+          pub many-way : 64 < many → Grows bs v nodes size (Err (Wide v))
           many-way h = breaks-at (λ a c d e g. omega (arith, count-capped))
 
-          module _ (low : many ≤ 64) (few : n ≤ 4) (all : Taken) (took : TakesFrom bs at n many 0 nothing all) where
-            all-is : all ≡ total n (branches_of (sheet_of bs) (variable (sheet_of bs) v))
-            all-is =
-                took.is (variable (sheet_of bs) v).body (body_is low)
-                ∙ sym (nothing-both (total n (branches_in bs (variable (sheet_of bs) v).body)))
-                ∙ ap (total n) branches-are
+          -- the branches are added to the totals so far, with the case's own node and numbers
+          module _ (low : many ≤ 64) (few : n ≤ 4) (l d : List ℕ) (all : Taken)
+              (put : PutsFrom bs at n many 0 Measure (record { nodes = nodes + 1; bytes = size + 16; limits = 0; deep = 0 }) l d all) where
+            sums : all ≡ both (record { nodes = nodes + 1; bytes = size + 16; limits = 0; deep = 0 })
+                (total n (branches_of (sheet_of bs) (variable (sheet_of bs) v)))
+            sums =
+                (put (variable (sheet_of bs) v).body (body_is low)).taken_is
+                ∙ ap (λ xs. both (record { nodes = nodes + 1; bytes = size + 16; limits = 0; deep = 0 }) (total n xs)) branches-are
 
-            body-size : (node_count (normal_body (sheet_of bs) (variable (sheet_of bs) v)) ≡ 1 + all.nodes)
-                × (length (bytes (normal_body (sheet_of bs) (variable (sheet_of bs) v))) ≡ 16 + all.bytes)
-            body-size = (
-              ap node_count (sym normal-is) ∙ body-nodes n (branches_of (sheet_of bs) (variable (sheet_of bs) v)) ∙ ap (λ z. 1 + z.nodes) (sym all-is),
-              ap (λ e. length (bytes e)) (sym normal-is) ∙ body_bytes n (branches_of (sheet_of bs) (variable (sheet_of bs) v))
-                  ∙ ap (λ z. 16 + z.bytes) (sym all-is),
-            )
+            all-nodes : nodes + node_count (normal_body (sheet_of bs) (variable (sheet_of bs) v)) ≡ all.nodes
+            all-nodes =
+                omega (
+                  arith,
+                  ap node_count normal-is,
+                  body-nodes n (branches_of (sheet_of bs) (variable (sheet_of bs) v)),
+                  ap (λ z. z.nodes) sums,
+                )
 
-            pub wide-way : ((nodes + 1 + all.nodes ≤ 2048) → (all.limits ≤ 64) → (all.deep ≤ 30) → (size + 16 + all.bytes ≤ 65536) → ⊥) →
-                Grows bs v nodes size (WideAt v)
+            all-bytes : size + length (bytes (normal_body (sheet_of bs) (variable (sheet_of bs) v))) ≡ all.bytes
+            all-bytes =
+                omega (
+                  arith,
+                  ap (λ e. length (bytes e)) normal-is,
+                  body_bytes n (branches_of (sheet_of bs) (variable (sheet_of bs) v)),
+                  ap (λ z. z.bytes) sums,
+                )
+
+            pub wide-way : ((all.nodes ≤ 2048) → (all.limits ≤ 64) → (all.deep ≤ 30) → (all.bytes ≤ 65536) → ⊥) → Grows bs v nodes size (Err (Wide v))
             wide-way bad =
                 breaks-at (λ a c d e g.
-                let z = body-size in
-                let limits-are = ap (λ t. t.limits) all-is in
-                let deep_is = ap (λ t. t.deep) all-is in
-                bad (omega (arith, z.0)) (omega arith) (omega arith) (omega (arith, z.1)))
+                let limits-are = ap (λ z. z.limits) sums in
+                let deep_is = ap (λ z. z.deep) sums in
+                bad (omega (arith, all-nodes)) (omega arith) (omega arith) (omega (arith, all-bytes)))
 
-            pub fits-way : nodes + 1 + all.nodes ≤ 2048 → all.limits ≤ 64 → all.deep ≤ 30 → size + 16 + all.bytes ≤ 65536 →
-                Grows bs v nodes size (Total (nodes + 1 + all.nodes) (size + 16 + all.bytes))
+            pub fits-way : all.nodes ≤ 2048 → all.limits ≤ 64 → all.deep ≤ 30 → all.bytes ≤ 65536 →
+                Grows bs v nodes size (Ok (record { nodes = all.nodes; bytes = all.bytes }))
             fits-way a b c d =
-                let z = body-size in
-                let limits-are = ap (λ t. t.limits) all-is in
-                let deep_is = ap (λ t. t.deep) all-is in
-                let kn : nodes + node_count (normal_body (sheet_of bs) (variable (sheet_of bs) v)) ≡ nodes + 1 + all.nodes = omega (arith, z.0) in
-                let kb : size + length (bytes (normal_body (sheet_of bs) (variable (sheet_of bs) v))) ≡ size + 16 + all.bytes = omega (arith, z.1) in
+                let limits-are = ap (λ z. z.limits) sums in
+                let deep_is = ap (λ z. z.deep) sums in
                 let short : length (branches_of (sheet_of bs) (variable (sheet_of bs) v)) ≤ 64 = omega (arith, count-capped) in
                 let kept =
-                subst (λ e. keeps_limits (branches_of (sheet_of bs) (variable (sheet_of bs) v)) e (nodes + 1 + all.nodes) (size + 16 + all.bytes)
-                ≡ true) normal-is
-                (keeps n (branches_of (sheet_of bs) (variable (sheet_of bs) v)) (nodes + 1 + all.nodes) (size + 16 + all.bytes) a short
-                (omega (arith, b)) (omega (arith, c)) d) in
-                record { is = rw (kn, kb, kept) refl; small = (a, d) }
+                subst (λ e. keeps_limits (branches_of (sheet_of bs) (variable (sheet_of bs) v)) e all.nodes all.bytes ≡ true) normal-is
+                (keeps n (branches_of (sheet_of bs) (variable (sheet_of bs) v)) all.nodes all.bytes a short (omega (arith, b)) (omega (arith, c)) d) in
+                record { is = rw (all-nodes, all-bytes, kept) refl; small = (a, d) }
 
 -- ---- the variables one after another
 
-abbrev IsRefused : Answer Size → Type 0
+abbrev IsRefused : Answer Totals → Type 0
 IsRefused (accepted z) = ⊥
 IsRefused (refused i j) = Unit {0}
 
-told-apart : {i j : ℕ} {z : Size} → ◌≡◌ {A = Answer Size} (refused i j) (accepted z) → ⊥
+told-apart : {i j : ℕ} {z : Totals} → ◌≡◌ {A = Answer Totals} (refused i j) (accepted z) → ⊥
 told-apart p = subst IsRefused p tt
 
-abbrev size_in : Answer Size → Size
+abbrev size_in : Answer Totals → Totals
 size_in (accepted z) = z
 size_in (refused i j) = record { nodes = 0; bytes = 0 }
 
-module _ (bs tab : List ℕ) (f : Formed bs tab) (v nodes size : ℕ) where
+module _ (bs : List ℕ) (tab : Table) (f : Formed bs tab) (v nodes size : ℕ) where
   -- the first of those from number v on
   pub split-variables : v < vars_of bs → drop v (sheet_of bs) ≡ variable (sheet_of bs) v ∷ drop (v + 1) (sheet_of bs)
   split-variables lt =
@@ -258,7 +253,7 @@ module _ (bs tab : List ℕ) (f : Formed bs tab) (v nodes size : ℕ) where
   pub no-variables : vars_of bs ≤ v → drop v (sheet_of bs) ≡ []
   no-variables le = drop_of_length-le (sheet_of bs) {i = v} (omega (arith, f.placed.many))
 
-  pub plan-none : vars_of bs ≤ v → nodes ≤ 2048 → size ≤ 65536 → PlansFrom bs v nodes size (Total nodes size)
+  pub plan-none : vars_of bs ≤ v → nodes ≤ 2048 → size ≤ 65536 → PlansFrom bs v nodes size (Ok (record { nodes = nodes; bytes = size }))
   unfolding write_bodies
   plan-none le a b = record {
     is = λ w n s. ap₂ (λ i j. accepted (record { nodes = i; bytes = j })) (sym n) (sym s)
@@ -283,7 +278,7 @@ module _ (bs tab : List ℕ) (f : Formed bs tab) (v nodes size : ℕ) where
         (λ _. write_bodies (sheet_of bs) (front_of bs) k (drop (v + 1) (sheet_of bs)) (written w (normal_body (sheet_of bs) (variable (sheet_of bs) v))))
         (λ _. refused WIDE v))) e
 
-    pub plan-input : (r : Plan) → is_input (variable (sheet_of bs) v) ≡ true → PlansFrom bs (v + 1) nodes size r → PlansFrom bs v nodes size r
+    pub plan-input : (r : Result Totals Refusal) → is_input (variable (sheet_of bs) v) ≡ true → PlansFrom bs (v + 1) nodes size r → PlansFrom bs v nodes size r
     plan-input r i h = record {
       is = λ w n s. h.is w n s ∙ ap (sized (front_of bs)) (sym (skipped w));
       small = h.small;
@@ -307,37 +302,38 @@ module _ (bs tab : List ℕ) (f : Formed bs tab) (v nodes size : ℕ) where
           let long : front_of bs + length (w.out ++ bytes x) ≡ size + length (bytes x) = omega (arith, length-append w.out (bytes x)) in
           ap (λ l. write_bodies (sheet_of bs) (front_of bs) v l w) (split-variables lt) ∙ step w ∙ rw (body, n, long, e) refl
 
-      pub plan-wide : (u : ℕ) → Grows bs v nodes size (WideAt u) → PlansFrom bs v nodes size (WideAt u)
-      plan-wide u g = go (keeps_limits (branches_of (sheet_of bs) (variable (sheet_of bs) v)) (normal_body (sheet_of bs) (variable (sheet_of bs) v))
+      pub plan-wide : (k : Refusal) → Grows bs v nodes size (Err k) → PlansFrom bs v nodes size (Err k)
+      plan-wide k g = go (keeps_limits (branches_of (sheet_of bs) (variable (sheet_of bs) v)) (normal_body (sheet_of bs) (variable (sheet_of bs) v))
           (nodes + node_count (normal_body (sheet_of bs) (variable (sheet_of bs) v)))
           (size + length (bytes (normal_body (sheet_of bs) (variable (sheet_of bs) v))))) refl g.is
         where
           go : (t : Bool) → keeps_limits (branches_of (sheet_of bs) (variable (sheet_of bs) v)) (normal_body (sheet_of bs) (variable (sheet_of bs) v))
               (nodes + node_count (normal_body (sheet_of bs) (variable (sheet_of bs) v)))
               (size + length (bytes (normal_body (sheet_of bs) (variable (sheet_of bs) v)))) ≡ t →
-              ◌≡◌ {A = Answer Size} (refused WIDE u) (ifb t (λ _. accepted (record {
+              ◌≡◌ {A = Answer Totals} (refused (number_of k) (place_of k)) (ifb t (λ _. accepted (record {
                 nodes = nodes + node_count (normal_body (sheet_of bs) (variable (sheet_of bs) v));
                 bytes = size + length (bytes (normal_body (sheet_of bs) (variable (sheet_of bs) v)));
-              })) (λ _. refused WIDE v)) → PlansFrom bs v nodes size (WideAt u)
+              })) (λ _. refused WIDE v)) → PlansFrom bs v nodes size (Err k)
           go true e h = absurd (told-apart h)
           go false e h = record { is = λ w n s. h ∙ sym (ap (sized (front_of bs)) (grown-is w n s false e)); small = tt }
 
-      pub plan-more : (x y : ℕ) (r : Plan) → Grows bs v nodes size (Total x y) → PlansFrom bs (v + 1) x y r → PlansFrom bs v nodes size r
-      plan-more x y r g rest = go (keeps_limits (branches_of (sheet_of bs) (variable (sheet_of bs) v)) (normal_body (sheet_of bs) (variable (sheet_of bs) v))
+      pub plan-more : (sum : Totals) (r : Result Totals Refusal) → Grows bs v nodes size (Ok sum) → PlansFrom bs (v + 1) sum.nodes sum.bytes r →
+          PlansFrom bs v nodes size r
+      plan-more sum r g rest = go (keeps_limits (branches_of (sheet_of bs) (variable (sheet_of bs) v)) (normal_body (sheet_of bs) (variable (sheet_of bs) v))
           (nodes + node_count (normal_body (sheet_of bs) (variable (sheet_of bs) v)))
           (size + length (bytes (normal_body (sheet_of bs) (variable (sheet_of bs) v))))) refl g.is
         where
           go : (t : Bool) → keeps_limits (branches_of (sheet_of bs) (variable (sheet_of bs) v)) (normal_body (sheet_of bs) (variable (sheet_of bs) v))
               (nodes + node_count (normal_body (sheet_of bs) (variable (sheet_of bs) v)))
               (size + length (bytes (normal_body (sheet_of bs) (variable (sheet_of bs) v)))) ≡ t →
-              ◌≡◌ {A = Answer Size} (accepted (record { nodes = x; bytes = y })) (ifb t (λ _. accepted (record {
+              ◌≡◌ {A = Answer Totals} (accepted sum) (ifb t (λ _. accepted (record {
                 nodes = nodes + node_count (normal_body (sheet_of bs) (variable (sheet_of bs) v));
                 bytes = size + length (bytes (normal_body (sheet_of bs) (variable (sheet_of bs) v)));
               })) (λ _. refused WIDE v)) → PlansFrom bs v nodes size r
           go true e h =
               let z = normal_body (sheet_of bs) (variable (sheet_of bs) v) in
-              let xs : x ≡ nodes + node_count z = ap (λ a. (size_in a).nodes) h in
-              let ys : y ≡ size + length (bytes z) = ap (λ a. (size_in a).bytes) h in
+              let xs : sum.nodes ≡ nodes + node_count z = ap (λ a. (size_in a).nodes) h in
+              let ys : sum.bytes ≡ size + length (bytes z) = ap (λ a. (size_in a).bytes) h in
               record {
                 is =
                     λ w n s. rest.is (written w z) (omega arith) (omega (arith, length-append w.out (bytes z)))
@@ -345,14 +341,3 @@ module _ (bs tab : List ℕ) (f : Formed bs tab) (v nodes size : ℕ) where
                 small = rest.small;
               }
           go false e h = absurd (told-apart (sym h))
-
-      -- as the code has the answer
-      pub plan-stops : (p : Plan) (u : ℕ) → p ≡ WideAt u → Grows bs v nodes size p → PlansFrom bs v nodes size p
-      plan-stops p u e g = subst (PlansFrom bs v nodes size) (sym e) (plan-wide u (subst (Grows bs v nodes size) e g))
-
-      pub plan-goes : (p : Plan) (x y : ℕ) (r : Plan) → p ≡ Total x y → Grows bs v nodes size p → PlansFrom bs (v + 1) x y r →
-          PlansFrom bs v nodes size r
-      plan-goes p x y r e g rest = plan-more x y r (subst (Grows bs v nodes size) e g) rest
-
-pub small-total : (p : Plan) (x y : ℕ) → p ≡ Total x y → Small p → (x ≤ 2048) × (y ≤ 65536)
-small-total p x y e h = subst Small e h

@@ -4,7 +4,7 @@ use mathlib.Core.Path.{◌≡◌, refl, sym, ap, ap₂, ◌∙◌, subst}
 use Prim.Native.Nat.{ℕ, suc, ◌+◌, ◌*◌, ◌-◌, ◌/◌, ◌%◌, ◌≤◌, ◌<◌}
 use native.Mathlib.Nat.{le_trans, mod-lt, div-lt_iff_lt-mul}
 use native.Mathlib.Omega.{arith}
-use mathlib.Core.Bool.{Bool, true, ◌&&◌}
+use mathlib.Core.Bool.{true, ◌&&◌}
 use mathlib.Core.List.{List, [], ◌∷◌}
 use lib.ListN.{length, length-append}
 use lib.IntN.{nat_abs}
@@ -40,6 +40,8 @@ use Rattle.tree.specs.Standing.{Standing}
 use Rattle.tree.proofs.Classes.{operator-tree, leaf-at, operator-at, case_at, restriction-at, dependence-at}
 use Rattle.tree.proofs.Standings.{standing-noded, standing-some, children-few, children-at, children-counted, one_more}
 use Rattle.normal.specs.declared.Chosen.{Chosen}
+use Rattle.normal.specs.declared.Half.{Half}
+use Rattle.normal.specs.declared.Mode.{Mode}
 use Rattle.normal.specs.declared.Pen.{Pen}
 use Rattle.normal.specs.declared.Split.{Split}
 use Rattle.normal.specs.Count.{count_of, sum_of, product_of, pick}
@@ -49,7 +51,8 @@ use Rattle.normal.specs.Rows.{AllComposable}
 use Rattle.normal.specs.Spot.{Limits, Stop}
 use Rattle.normal.specs.Followed.{room_of, Composes, Lowers, Route, RouteAll, Wrote, Visits, Follows, FollowsAll}
 use Rattle.normal.proofs.Counting.{operator-count, case_count, Factors, factors, only-split}
-use Rattle.normal.proofs.Parts.{beside_nothing, leaf-part, operator-part, pick-kept, wrote_nothing, wrote_then, room-same, things_low, part-things}
+use Rattle.normal.proofs.Parts.{beside_nothing, leaf-part, operator-part, pick-kept, wrote_then, room-same, things_low, part-things}
+use Rattle.normal.proofs.Laid.{wrote_nothing}
 use Rattle.normal.proofs.Spots.{own_out, own-things}
 
 -- ---- reaches
@@ -79,7 +82,7 @@ operands_same n r =
     operator-tree (λ e. (wanted (node_of e) n ≡ n) × (reach_below (node_of e) r ≡ r)) (λ o a. (refl, refl)) (λ o a b. (refl, refl)) (λ a b c. (refl, refl))
 
 module _ (bs : List ℕ) where
-  module _ (p left : ℕ) (m : Map) (b of : ℕ) (t : Bool) (level : ℕ) (pen : Pen) (room : ℕ) (h : Route bs p left m b of t level pen room) where
+  module _ (p left : ℕ) (m : Map) (b of : ℕ) (t : Half) (level : ℕ) (pen : Pen) (room : ℕ) (h : Route bs p left m b of t level pen room) where
     pub route-standing : Standing (vars_of bs) bs p left
     route-standing = record { tree = h.tree; end = h.end; at = h.at; few = h.few; most = h.left_low }
 
@@ -129,7 +132,7 @@ module _ (bs : List ℕ) where
           some = h.some;
         }
 
-        pub route-chosen : (r : Chosen) → Picks bs k n b of r → Route bs r.at (left - 1) m r.b r.of t level pen room
+        pub route-chosen : (r : Chosen) → Picks bs k n b of r → Route bs r.at (left - 1) m r.choice.number r.choice.of t level pen room
         route-chosen r picks =
             let some : b < sum_of cases.branches = omega (arith, h.some, h.branches, branches-are) in
             let found = picks cases.branches h.end below-case case-many (sym branches-are ∙ h.branches) in
@@ -286,19 +289,19 @@ module _ (bs : List ℕ) where
       }
 
       -- the pen, after the visit
-      module _ (dry : Bool) (after : Pen) (out out' : List ℕ) (visited : Visits bs p m t level dry pen out out' after) where
-        own-wrote : Wrote dry pen out out' after (own t (node_of h.tree) (map_of m) level)
-        own-wrote = subst (λ nd. Wrote dry pen out out' after (own t nd (map_of m) level)) read_is visited
+      module _ (mode : Mode) (after : Pen) (out out' : List ℕ) (visited : Visits bs p m t level mode pen out out' after) where
+        own-wrote : Wrote mode pen out out' after (own t (node_of h.tree) (map_of m) level)
+        own-wrote = subst (λ nd. Wrote mode pen out out' after (own t nd (map_of m) level)) read_is visited
 
         own-low : after.things ≤ after.to
         own-low =
-            things_low dry pen out (own t (node_of h.tree) (map_of m) level) own-wrote h.things_low (own-things t (node_of h.tree) (map_of m) level)
+            things_low mode pen out (own t (node_of h.tree) (map_of m) level) own-wrote h.things_low (own-things t (node_of h.tree) (map_of m) level)
 
         own-fits : after.to + length rest.out ≤ room
         own-fits = omega (arith, h.fits_room, lengths, ap (λ z. z.to) own-wrote.pen_is)
 
-        own_room : room ≡ room_of dry out → room ≡ room_of dry out'
-        own_room e = e ∙ sym (room-same dry pen out (own t (node_of h.tree) (map_of m) level) own-wrote)
+        own_room : room ≡ room_of mode out → room ≡ room_of mode out'
+        own_room e = e ∙ sym (room-same mode pen out (own t (node_of h.tree) (map_of m) level) own-wrote)
 
     -- ---- a leaf
 
@@ -320,9 +323,9 @@ module _ (bs : List ℕ) where
       pub route-operator : Stop bs p m t level pen room
       route-operator = stop (parts_of t (children_of h.tree) (map_of m) (level + 1) b) operands
 
-      module _ (k n : ℕ) (next : k ≡ node_end (vars_of bs) bs p) (many : n ≡ arity (node_read (vars_of bs) bs p)) (dry : Bool) (after : Pen)
+      module _ (k n : ℕ) (next : k ≡ node_end (vars_of bs) bs p) (many : n ≡ arity (node_read (vars_of bs) bs p)) (mode : Mode) (after : Pen)
           (out out' : List ℕ)
-          (visited : Visits bs p m t level dry pen out out' after) where
+          (visited : Visits bs p m t level mode pen out out' after) where
         route-children : RouteAll bs k (left - 1) n m b of t (level + 1) after room
         route-children =
             let e = h.tree in
@@ -349,14 +352,14 @@ module _ (bs : List ℕ) where
               combinations = sym (operator-count e operates) ∙ h.branches;
               low = h.low;
               some = h.some;
-              things_low = own-low all operands dry after out out' visited;
-              fits_room = own-fits all operands dry after out out' visited;
+              things_low = own-low all operands mode after out out' visited;
+              fits_room = own-fits all operands mode after out out' visited;
             }
 
-        pub route-operands : room ≡ room_of dry out → RouteAll bs k (left - 1) n m b of t (level + 1) after (room_of dry out')
+        pub route-operands : room ≡ room_of mode out → RouteAll bs k (left - 1) n m b of t (level + 1) after (room_of mode out')
         route-operands e =
             subst (RouteAll bs k (left - 1) n m b of t (level + 1) after)
-            (own_room (parts_of t (children_of h.tree) (map_of m) (level + 1) b) operands dry after out out' visited e) route-children
+            (own_room (parts_of t (children_of h.tree) (map_of m) (level + 1) b) operands mode after out out' visited e) route-children
 
     -- ---- a restriction
 
@@ -382,8 +385,8 @@ module _ (bs : List ℕ) where
       unfolding count_of
       limited-count = ap count_of limited.is
 
-      module _ (k : ℕ) (next : k ≡ node_end (vars_of bs) bs p) (dry : Bool) (after : Pen) (out out' : List ℕ)
-          (visited : Visits bs p m t level dry pen out out' after) where
+      module _ (k : ℕ) (next : k ≡ node_end (vars_of bs) bs p) (mode : Mode) (after : Pen) (out out' : List ℕ)
+          (visited : Visits bs p m t level mode pen out out' after) where
         route-child : Route bs k (left - 1) m b of t level after room
         route-child = record {
           tree = limited.child;
@@ -399,18 +402,18 @@ module _ (bs : List ℕ) where
           branches = sym limited-count ∙ h.branches;
           low = h.low;
           some = h.some;
-          things_low = own-low (part_of t limited.child (map_of m) level b) inside dry after out out' visited;
-          fits_room = own-fits (part_of t limited.child (map_of m) level b) inside dry after out out' visited;
+          things_low = own-low (part_of t limited.child (map_of m) level b) inside mode after out out' visited;
+          fits_room = own-fits (part_of t limited.child (map_of m) level b) inside mode after out out' visited;
         }
 
-        pub route-inside : room ≡ room_of dry out → Route bs k (left - 1) m b of t level after (room_of dry out')
+        pub route-inside : room ≡ room_of mode out → Route bs k (left - 1) m b of t level after (room_of mode out')
         route-inside e =
             subst (Route bs k (left - 1) m b of t level after)
-            (own_room (part_of t limited.child (map_of m) level b) inside dry after out out' visited e) route-child
+            (own_room (part_of t limited.child (map_of m) level b) inside mode after out out' visited e) route-child
 
   -- ---- so many operands
 
-  module _ (p left many : ℕ) (m : Map) (b of : ℕ) (t : Bool) (level : ℕ) (pen : Pen) (room : ℕ) (some : 1 ≤ many)
+  module _ (p left many : ℕ) (m : Map) (b of : ℕ) (t : Half) (level : ℕ) (pen : Pen) (room : ℕ) (some : 1 ≤ many)
       (h : RouteAll bs p left many m b of t level pen room) where
     split : MoreAt h.trees (vars_of bs) bs p h.end (many - 1)
     split = one_more (vars_of bs) bs h.trees p h.end many some h.at h.count
@@ -463,7 +466,7 @@ module _ (bs : List ℕ) where
       after_first : AllAt split.rest (vars_of bs) bs r.next h.end
       after_first = subst (λ i. AllAt split.rest (vars_of bs) bs i h.end) (sym taken.ends) split.after
 
-      route-part : Route bs p left m r.b r.of t level pen room
+      route-part : Route bs p left m r.first.number r.first.of t level pen room
       route-part = record {
         tree = split.first;
         end = split.middle;
@@ -484,14 +487,14 @@ module _ (bs : List ℕ) where
             (omega (arith, h.fits_room, both_long));
       }
 
-      module _ (dry : Bool) (after : Pen) (out out' : List ℕ)
-          (followed : Follows bs p m r.b r.of t level dry pen out out' after) where
-        wrote : Wrote dry pen out out' after (part_of t split.first (map_of m) level r.b)
+      module _ (mode : Mode) (after : Pen) (out out' : List ℕ)
+          (followed : Follows bs p m r.first.number r.first.of t level mode pen out out' after) where
+        wrote : Wrote mode pen out out' after (part_of t split.first (map_of m) level r.first.number)
         wrote = followed split.first split.middle split.before taken.first_count
 
-        route-rest : RouteAll bs r.next left (many - 1) m r.rest r.among t level after room
+        route-rest : RouteAll bs r.next left (many - 1) m r.rest.number r.rest.of t level after room
         route-rest =
-            let first = part_of t split.first (map_of m) level r.b in
+            let first = part_of t split.first (map_of m) level r.first.number in
             let to_is = ap (λ z. z.to) wrote.pen_is in
             let first-long = ap (λ i. length (part_of t split.first (map_of m) level i).out) taken.first_branch in
             record {
@@ -510,16 +513,16 @@ module _ (bs : List ℕ) where
               combinations = taken.rest_count;
               low = omega (arith, taken.rest_count, each.right-low, h.low);
               some = rw (taken.rest_branch, ← taken.rest_count) (mod-lt b each.right-some);
-              things_low = things_low dry pen out first wrote h.things_low (part-things t split.first (map_of m) level r.b);
+              things_low = things_low mode pen out first wrote h.things_low (part-things t split.first (map_of m) level r.first.number);
               fits_room =
                   subst (λ i. after.to + length (parts_of t split.rest (map_of m) level i).out ≤ room) (sym taken.rest_branch)
                   (omega (arith, h.fits_room, both_long));
             }
 
-        rest-after : room ≡ room_of dry out → RouteAll bs r.next left (many - 1) m r.rest r.among t level after (room_of dry out')
+        rest-after : room ≡ room_of mode out → RouteAll bs r.next left (many - 1) m r.rest.number r.rest.of t level after (room_of mode out')
         rest-after e =
-            subst (RouteAll bs r.next left (many - 1) m r.rest r.among t level after)
-            (e ∙ sym (room-same dry pen out (part_of t split.first (map_of m) level r.b) wrote)) route-rest
+            subst (RouteAll bs r.next left (many - 1) m r.rest.number r.rest.of t level after)
+            (e ∙ sym (room-same mode pen out (part_of t split.first (map_of m) level r.first.number) wrote)) route-rest
 
     -- one operand alone has the branch that the combination has
     pub route-only : many < 2 → Route bs p left m b of t level pen room
@@ -532,46 +535,46 @@ module _ (bs : List ℕ) where
       first_taken : SplitsOf split.first split.rest split.middle b r
       first_taken = splits split.first split.rest split.middle split.before product
 
-      pub route-first : Route bs p left m r.b r.of t level pen room
+      pub route-first : Route bs p left m r.first.number r.first.of t level pen room
       route-first = route-part r first_taken
 
-      module _ (dry : Bool) (after : Pen) (out out' : List ℕ)
-          (followed : Follows bs p m r.b r.of t level dry pen out out' after) where
-        pub route-next : room ≡ room_of dry out → RouteAll bs r.next left (many - 1) m r.rest r.among t level after (room_of dry out')
-        route-next = rest-after r first_taken dry after out out' followed
+      module _ (mode : Mode) (after : Pen) (out out' : List ℕ)
+          (followed : Follows bs p m r.first.number r.first.of t level mode pen out out' after) where
+        pub route-next : room ≡ room_of mode out → RouteAll bs r.next left (many - 1) m r.rest.number r.rest.of t level after (room_of mode out')
+        route-next = rest-after r first_taken mode after out out' followed
 
 -- ---- the ways through the walk
 
-module _ (bs : List ℕ) (p : ℕ) (m : Map) (b of : ℕ) (t : Bool) (level : ℕ) (dry : Bool) (pen : Pen) (out : List ℕ) where
-  own-visited : (e : Expr) (q : ℕ) → At e (vars_of bs) bs p q → {a : List ℕ} {y : Pen} → Visits bs p m t level dry pen out a y →
-      Wrote dry pen out a y (own t (node_of e) (map_of m) level)
-  own-visited e q h {a} {y} visited = subst (λ nd. Wrote dry pen out a y (own t nd (map_of m) level)) (at_read (vars_of bs) bs e p q h) visited
+module _ (bs : List ℕ) (p : ℕ) (m : Map) (b of : ℕ) (t : Half) (level : ℕ) (mode : Mode) (pen : Pen) (out : List ℕ) where
+  own-visited : (e : Expr) (q : ℕ) → At e (vars_of bs) bs p q → {a : List ℕ} {y : Pen} → Visits bs p m t level mode pen out a y →
+      Wrote mode pen out a y (own t (node_of e) (map_of m) level)
+  own-visited e q h {a} {y} visited = subst (λ nd. Wrote mode pen out a y (own t nd (map_of m) level)) (at_read (vars_of bs) bs e p q h) visited
 
   -- a leaf: its own part
-  pub leaf-way : {out' : List ℕ} {z : Pen} → class_at bs p ≡ Leaf → Visits bs p m t level dry pen out out' z →
-      Follows bs p m b of t level dry pen out out' z
+  pub leaf-way : {out' : List ℕ} {z : Pen} → class_at bs p ≡ Leaf → Visits bs p m t level mode pen out out' z →
+      Follows bs p m b of t level mode pen out out' z
   leaf-way {out'} {z} class_is visited e q h has =
-      subst (Wrote dry pen out out' z) (sym (leaf-part t (map_of m) level b e (leaf-at bs e p q h class_is).class_is)) (own-visited e q h visited)
+      subst (Wrote mode pen out out' z) (sym (leaf-part t (map_of m) level b e (leaf-at bs e p q h class_is).class_is)) (own-visited e q h visited)
 
   -- the next place is k
   module _ (k : ℕ) (next : k ≡ node_end (vars_of bs) bs p) where
     module _ (n : ℕ) (many : n ≡ arity (node_read (vars_of bs) bs p)) where
       -- an operator: its own part, and then its operands'
-      pub operator-way : {a out' : List ℕ} {y z : Pen} → class_at bs p ≡ Operator → Visits bs p m t level dry pen out a y →
-          FollowsAll bs k n m b of t (level + 1) dry y a out' z → Follows bs p m b of t level dry pen out out' z
+      pub operator-way : {a out' : List ℕ} {y z : Pen} → class_at bs p ≡ Operator → Visits bs p m t level mode pen out a y →
+          FollowsAll bs k n m b of t (level + 1) mode y a out' z → Follows bs p m b of t level mode pen out out' z
       operator-way {a} {out'} {y} {z} class_is visited followed e q h has =
           let is = (operator-at bs e p q h class_is).class_is in
           let rest =
           followed (children_of e) q (children-at (vars_of bs) bs p k n next many e q h) (children-counted (vars_of bs) bs p k n next many e q h)
           (sym (operator-count e is) ∙ has) in
           let both =
-          wrote_then dry pen out (own t (node_of e) (map_of m) level) (parts_of t (children_of e) (map_of m) (level + 1) b) (own-visited e q h visited) rest in
-          subst (Wrote dry pen out out' z) (sym (operator-part t (map_of m) level b e is)) both
+          wrote_then mode pen out (own t (node_of e) (map_of m) level) (parts_of t (children_of e) (map_of m) (level + 1) b) (own-visited e q h visited) rest in
+          subst (Wrote mode pen out out' z) (sym (operator-part t (map_of m) level b e is)) both
 
       -- a case: the branch of the child that it picks
       pub case-way : (r : Chosen) {out' : List ℕ} {z : Pen} → class_at bs p ≡ Case → b < of → Picks bs k n b of r →
-          Follows bs r.at m r.b r.of t level dry pen out out' z →
-          Follows bs p m b of t level dry pen out out' z
+          Follows bs r.at m r.choice.number r.choice.of t level mode pen out out' z →
+          Follows bs p m b of t level mode pen out out' z
       case-way r {out'} {z} class_is low picks followed e q h has =
           let x = case_at bs e p q h class_is in
           let es = x.branches in
@@ -582,20 +585,20 @@ module _ (bs : List ℕ) (p : ℕ) (m : Map) (b of : ℕ) (t : Bool) (level : �
           let kept = pick-kept es b some in
           let part =
           ap (part_of t (pick es b).child (map_of m) level) found.branch ∙ sym (kept.part-is t (map_of m) level) ∙ sym (parted es x.is) in
-          subst (Wrote dry pen out out' z) part
+          subst (Wrote mode pen out out' z) part
           (followed (pick es b).child found.end found.at found.count)
         where
           parted : (es : Exprs) → e ≡ kase es → part_of t e (map_of m) level b ≡ chosen_of t es (map_of m) level b
           parted es i = unfold part_of in ap (λ f. part_of t f (map_of m) level b) i
 
     -- a restriction: its own part, and then the child's
-    pub restriction-way : {a out' : List ℕ} {y z : Pen} → class_at bs p ≡ Restriction → Visits bs p m t level dry pen out a y →
-        Follows bs k m b of t level dry y a out' z → Follows bs p m b of t level dry pen out out' z
+    pub restriction-way : {a out' : List ℕ} {y z : Pen} → class_at bs p ≡ Restriction → Visits bs p m t level mode pen out a y →
+        Follows bs k m b of t level mode y a out' z → Follows bs p m b of t level mode pen out out' z
     restriction-way {a} {out'} {y} {z} class_is visited followed e q h has =
         let x = restriction-at bs e p q h class_is in
         let rest = followed x.child q (rw next x.below) (sym (counts x) ∙ has) in
-        let both = wrote_then dry pen out (own t (node_of e) (map_of m) level) (part_of t x.child (map_of m) level b) (own-visited e q h visited) rest in
-        subst (Wrote dry pen out out' z) (sym (parted x)) both
+        let both = wrote_then mode pen out (own t (node_of e) (map_of m) level) (part_of t x.child (map_of m) level b) (own-visited e q h visited) rest in
+        subst (Wrote mode pen out out' z) (sym (parted x)) both
       where
         counts : (x : RestrAt e (vars_of bs) bs p q) → count_of e ≡ count_of x.child
         counts x = unfold count_of in ap count_of x.is
@@ -607,12 +610,12 @@ module _ (bs : List ℕ) (p : ℕ) (m : Map) (b of : ℕ) (t : Bool) (level : �
 
     -- a dependence: the child's branch, with the maps composed
     pub dependence-way : (w : Map) {out' : List ℕ} {z : Pen} → class_at bs p ≡ Dependence → Lowers bs (p + 8) m w →
-        Follows bs k w b of t level dry pen out out' z → Follows bs p m b of t level dry pen out out' z
+        Follows bs k w b of t level mode pen out out' z → Follows bs p m b of t level mode pen out out' z
     dependence-way w {out'} {z} class_is l followed e q h has =
         let x = dependence-at bs e p q h class_is in
         let by = l.read.is x.by x.fields.next x.fields.read in
         let part = ap (λ f. part_of t x.child f level b) (l.is ∙ ap (map_after (map_of m)) by) ∙ sym (parted x) in
-        subst (Wrote dry pen out out' z) part (followed x.child q (rw next x.below) (sym (counts x) ∙ has))
+        subst (Wrote mode pen out out' z) part (followed x.child q (rw next x.below) (sym (counts x) ∙ has))
       where
         counts : (x : DepAt e (vars_of bs) bs p q) → count_of e ≡ count_of x.child
         counts x = unfold count_of in ap count_of x.is
@@ -620,29 +623,29 @@ module _ (bs : List ℕ) (p : ℕ) (m : Map) (b of : ℕ) (t : Bool) (level : �
         parted : (x : DepAt e (vars_of bs) bs p q) → part_of t e (map_of m) level b ≡ part_of t x.child (map_after (map_of m) x.by) level b
         parted x = unfold part_of in ap (λ f. part_of t f (map_of m) level b) x.is
 
-  pub none-way : (many : ℕ) → many < 1 → FollowsAll bs p many m b of t level dry pen out out pen
+  pub none-way : (many : ℕ) → many < 1 → FollowsAll bs p many m b of t level mode pen out out pen
   none-way many l es q h c has =
       let x = all_at-none (vars_of bs) bs es p q h (omega arith) in
-      subst (Wrote dry pen out out pen) (parted x.is) (wrote_nothing dry pen out)
+      subst (Wrote mode pen out out pen) (parted x.is) (wrote_nothing mode pen out)
     where
       parted : es ≡ none → nothing ≡ parts_of t es (map_of m) level b
       parted i = unfold parts_of in ap (λ f. parts_of t f (map_of m) level b) (sym i)
 
   -- the first operand, and then the others from where it ends
   split-way : (es : Exprs) (many q : ℕ) (x : MoreAt es (vars_of bs) bs p q (many - 1)) (r : Split) {a out' : List ℕ} {y z : Pen} →
-      SplitsOf x.first x.rest x.middle b r → Follows bs p m r.b r.of t level dry pen out a y →
-      FollowsAll bs r.next (many - 1) m r.rest r.among t level dry y a out' z →
-      Wrote dry pen out out' z (parts_of t es (map_of m) level b)
+      SplitsOf x.first x.rest x.middle b r → Follows bs p m r.first.number r.first.of t level mode pen out a y →
+      FollowsAll bs r.next (many - 1) m r.rest.number r.rest.of t level mode y a out' z →
+      Wrote mode pen out out' z (parts_of t es (map_of m) level b)
   split-way es many q x r {out' = out'} {z = z} taken first rest =
       let e = x.first in
       let fs = x.rest in
       let after = subst (λ i. AllAt fs (vars_of bs) bs i q) (sym taken.ends) x.after in
       let one = first e x.middle x.before taken.first_count in
       let others = rest fs q after x.many taken.rest_count in
-      let both = wrote_then dry pen out (part_of t e (map_of m) level r.b) (parts_of t fs (map_of m) level r.rest) one others in
+      let both = wrote_then mode pen out (part_of t e (map_of m) level r.first.number) (parts_of t fs (map_of m) level r.rest.number) one others in
       let same =
       ap₂ (λ i j. beside (part_of t e (map_of m) level i) (parts_of t fs (map_of m) level j)) taken.first_branch taken.rest_branch ∙ sym parted in
-      subst (Wrote dry pen out out' z) same both
+      subst (Wrote mode pen out out' z) same both
     where
       parted : parts_of t es (map_of m) level b
           ≡ beside (part_of t x.first (map_of m) level (b / product_of x.rest)) (parts_of t x.rest (map_of m) level (b % product_of x.rest))
@@ -653,19 +656,19 @@ module _ (bs : List ℕ) (p : ℕ) (m : Map) (b of : ℕ) (t : Bool) (level : �
   products es n q x has = ap product_of (sym x.is) ∙ has
 
   pub more-way : (many : ℕ) (r : Split) {a out' : List ℕ} {y z : Pen} → 1 ≤ many → Splits bs p b of r →
-      Follows bs p m r.b r.of t level dry pen out a y → FollowsAll bs r.next (many - 1) m r.rest r.among t level dry y a out' z →
-      FollowsAll bs p many m b of t level dry pen out out' z
+      Follows bs p m r.first.number r.first.of t level mode pen out a y → FollowsAll bs r.next (many - 1) m r.rest.number r.rest.of t level mode y a out' z →
+      FollowsAll bs p many m b of t level mode pen out out' z
   more-way many r some splits first rest es q h c has =
       let x = one_more (vars_of bs) bs es p q many some h c in
       split-way es many q x r (splits x.first x.rest x.middle x.before (products es (many - 1) q x has)) first rest
 
-module _ (bs : List ℕ) (p : ℕ) (m : Map) (b of : ℕ) (t : Bool) (level : ℕ) (dry : Bool) (pen : Pen) (out : List ℕ) where
+module _ (bs : List ℕ) (p : ℕ) (m : Map) (b of : ℕ) (t : Half) (level : ℕ) (mode : Mode) (pen : Pen) (out : List ℕ) where
   -- one operand alone: its branch of the combination's number
-  pub one_way : (many : ℕ) {out' : List ℕ} {z : Pen} → 1 ≤ many → many < 2 → Follows bs p m b of t level dry pen out out' z →
-      FollowsAll bs p many m b of t level dry pen out out' z
+  pub one_way : (many : ℕ) {out' : List ℕ} {z : Pen} → 1 ≤ many → many < 2 → Follows bs p m b of t level mode pen out out' z →
+      FollowsAll bs p many m b of t level mode pen out out' z
   one_way many {out'} {z} some few only es q h c has =
       let x = one_more (vars_of bs) bs es p q many some h c in
       let last = all_at-none (vars_of bs) bs x.rest x.middle q x.after (omega (arith, x.many)) in
-      let product = products bs p m b of t level dry pen out es (many - 1) q x has in
-      split-way bs p m b of t level dry pen out es many q x _ (only-split x.first x.rest x.middle b of last.is product) only
-      (none-way bs x.middle m 0 1 t level dry z out' (many - 1) (omega arith))
+      let product = products bs p m b of t level mode pen out es (many - 1) q x has in
+      split-way bs p m b of t level mode pen out es many q x _ (only-split x.first x.rest x.middle b of last.is product) only
+      (none-way bs x.middle m 0 1 t level mode z out' (many - 1) (omega arith))

@@ -1,6 +1,6 @@
 -- The bodies of the normal form, stored one after another: the ways through. Assumes nothing.
 use mathlib.Core.Path.{◌≡◌, refl, sym, ap, ◌∙◌, subst}
-use Prim.Native.Nat.{ℕ, ◌+◌, ◌^◌, ◌≤◌, ◌<◌, min}
+use Prim.Native.Nat.{ℕ, ◌+◌, ◌^◌, ◌≤◌, ◌<◌}
 use native.Mathlib.Omega.{arith}
 use mathlib.Core.Bool.{true, false}
 use mathlib.Core.List.{List, ◌++◌}
@@ -17,13 +17,19 @@ use Rattle.laws.specs.Sheets.{heads_of, vars_of, sheet_of}
 use Rattle.laws.specs.Normal.{body_bytes}
 use Rattle.laws.proofs.Trees.{at-unique}
 use Rattle.laws.proofs.NormalWritable.{branch_count-as_exprs}
+use Rattle.tree.specs.Formed.{Formed}
 use Rattle.normal.specs.Counted.{Counts}
-use Rattle.normal.specs.Body.{branches_in, IsBody, RoomFrom, StoresFrom}
+use Rattle.normal.specs.declared.Mode.TheVariants.{Store}
+use Rattle.normal.specs.declared.Taken.{Taken}
+use Rattle.normal.specs.Followed.{room_of}
+use Rattle.normal.specs.Body.{branches_in, IsBody, PutsFrom, BodyFits}
 use Rattle.normal.specs.Stored.{Room, Stored, body_of, bodies_from, Writes, WritesFrom}
 use Rattle.normal.proofs.Laying.{sets-after, length-nat, two-long}
+use Rattle.normal.proofs.Bodies.{bytes_are}
 use Rattle.normal.proofs.Plans.{body_is, count-capped, branches-are, normal-is, split-variables, no-variables}
+use Rattle.sheet.specs.declared.table.Table.{Table}
 
-module _ (bs tab : List ℕ) (v : ℕ) (h : Writes bs tab v) (at n : ℕ) (place : at ≡ get_or tab (69 + v) 0) (dim : n ≡ dimension (heads_of bs) v) (many : ℕ)
+module _ (bs : List ℕ) (tab : Table) (v : ℕ) (h : Writes bs tab v) (at n : ℕ) (place : at ≡ get_or tab.bodies v 0) (dim : n ≡ dimension (heads_of bs) v) (many : ℕ)
     (counted : Counts bs at many) where
   x : List Branch
   x = branches_of (sheet_of bs) (variable (sheet_of bs) v)
@@ -51,14 +57,15 @@ module _ (bs tab : List ℕ) (v : ℕ) (h : Writes bs tab v) (at n : ℕ) (place
   here : IsBody bs at n many (variable (sheet_of bs) v).body
   here = body_is bs tab h.formed v h.known h.body at n place dim many counted few-branches
 
-  pub body-stored : (l : List ℕ) (to : ℕ) {a b d : List ℕ} {r : ℕ} → a ≡ sets l to (nat 6) → b ≡ sets a (to + 8) (nat many) →
-      StoresFrom bs at n many 0 (to + 16) b d r → Stored (body_of bs v) to l d r
-  body-stored l to first second rest =
-      let tail = all_bytes (as_exprs n (branches_in bs (variable (sheet_of bs) v).body)) in
-      let stored = rest (variable (sheet_of bs) v).body here in (
-        sets-after l to 16 (nat 6 ++ nat many) tail (two-long 6 many) (sets-after l to 8 (nat 6) (nat many) (length-nat 6) first second) stored.0
+  pub body-stored : (l : List ℕ) (to : ℕ) {a b d : List ℕ} {r : Taken} → a ≡ sets l to (nat 6) → b ≡ sets a (to + 8) (nat many) →
+      PutsFrom bs at n many 0 Store (record { nodes = 0; bytes = to + 16; limits = 0; deep = 0 }) b d r → Stored (body_of bs v) to l d r.bytes
+  body-stored l to first second put =
+      let xs = branches_in bs (variable (sheet_of bs) v).body in
+      let stored = put (variable (sheet_of bs) v).body here in (
+        sets-after l to 16 (nat 6 ++ nat many) (all_bytes (as_exprs n xs)) (two-long 6 many)
+            (sets-after l to 8 (nat 6) (nat many) (length-nat 6) first second) stored.out_is
             ∙ ap (sets l to) (sym body-cut),
-        omega (arith, stored.1, body-long),
+        omega (arith, ap (λ z. z.bytes) stored.taken_is, bytes_are n xs, body-long),
       )
 
   pub head-room : (l : List ℕ) (to : ℕ) → Room (body_of bs v) to l → (to + 16 ≤ 2 ^ 40) × (to + 16 ≤ length l)
@@ -66,24 +73,21 @@ module _ (bs tab : List ℕ) (v : ℕ) (h : Writes bs tab v) (at n : ℕ) (place
 
   -- room for all of its branches, whatever tree the code may take it for
   pub branch-rooms : (l b : List ℕ) (to : ℕ) → length b ≡ length l → Room (body_of bs v) to l →
-      RoomFrom bs at n many 0 (to + 16) (min (2 ^ 40) (length b))
+      BodyFits bs at n many 0 (record { nodes = 0; bytes = to + 16; limits = 0; deep = 0 }) (room_of Store b)
   branch-rooms l b to same room e i =
       let one = (at-unique (vars_of bs) bs at e (variable (sheet_of bs) v).body i.end here.end i.at here.at).tree_is in
       let long = ap (λ t. length (all_bytes (as_exprs n (branches_in bs t)))) one in
-      omega (arith, room, body-long)
+      record { nodes_low = omega arith; fits_room = omega (arith, room, body-long) }
 
 -- ---- the variables one after another
 
-module _ (bs tab : List ℕ) (v : ℕ) (h : WritesFrom bs tab v) where
-  pub bodies-none : (l : List ℕ) (to : ℕ) → vars_of bs ≤ v → Stored (bodies_from bs v) to l l to
-  bodies-none l to le =
-      let none = ap (body_bytes (sheet_of bs)) (no-variables bs tab h.formed v 0 0 le) in
-      (ap (sets l to) (sym none), omega (arith, ap length none))
+pub bodies-none : (bs : List ℕ) (tab : Table) → Formed bs tab → (v : ℕ) (l : List ℕ) (to : ℕ) → vars_of bs ≤ v → Stored (bodies_from bs v) to l l to
+bodies-none bs tab formed v l to le =
+    let none = ap (body_bytes (sheet_of bs)) (no-variables bs tab formed v 0 0 le) in
+    (ap (sets l to) (sym none), omega (arith, ap length none))
 
+module _ (bs : List ℕ) (tab : Table) (v : ℕ) (h : WritesFrom bs tab v) where
   module _ (lt : v < vars_of bs) where
-    pub next-writes : WritesFrom bs tab (v + 1)
-    next-writes = record { formed = h.formed; known = omega arith; few = h.few }
-
     bodies_are : bodies_from bs v ≡ ifb (is_input (variable (sheet_of bs) v)) (λ _. bodies_from bs (v + 1)) (λ _. body_of bs v ++ bodies_from bs (v + 1))
     bodies_are = ap (body_bytes (sheet_of bs)) (split-variables bs tab h.formed v 0 0 lt)
 

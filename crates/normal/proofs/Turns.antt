@@ -1,18 +1,16 @@
 -- The branches of a body in turn: those of a case are its children's, those of trees one after another the first one's and then the
 -- others'. Assumes nothing.
 use mathlib.Core.Path.{◌≡◌, refl, sym, ap, ◌∙◌, subst}
-use Prim.Native.Nat.{ℕ, suc, ◌+◌, ◌-◌, ◌^◌, ◌≤◌, ◌<◌, min}
+use Prim.Native.Nat.{ℕ, suc, ◌+◌, ◌-◌, ◌≤◌, ◌<◌}
 use native.Mathlib.Omega.{arith}
 use mathlib.Core.Bool.{true, ◌&&◌}
-use mathlib.Core.List.{List, [], ◌∷◌, ◌++◌, append_assoc}
-use lib.ListN.{length, length-append}
-use lib.Seq.{sets, length-sets}
-use Rattle.alpha.specs.Sheet.{Node.n_case, Expr, Expr.kase, Expr.restr, Exprs, Exprs.more}
+use mathlib.Core.List.{List, [], ◌++◌}
+use Rattle.alpha.specs.Sheet.{Node.n_case, Expr, Expr.kase, Exprs, Exprs.more}
 use Rattle.alpha.specs.Read.{got, dimension}
 use Rattle.alpha.specs.Shape.{fits, all_fit}
 use Rattle.alpha.specs.Reach.{top_reach, reach, reach_all}
-use Rattle.alpha.specs.Written.{bytes, all_bytes, branch_count, node_count, node_counts}
-use Rattle.alpha.specs.Normal.{Branch, norm, norms, as_exprs}
+use Rattle.alpha.specs.Written.{bytes, branch_count, node_count, node_counts}
+use Rattle.alpha.specs.Normal.{norm, norms}
 use Rattle.laws.specs.At.{node_of, node_read, node_end, At, AllAt}
 use Rattle.laws.specs.Children.{children_of, arity}
 use Rattle.laws.specs.Sheets.{heads_of, vars_of}
@@ -23,29 +21,16 @@ use Rattle.tree.specs.declared.Class.TheVariants.{Case}
 use Rattle.tree.specs.Classes.{class_at}
 use Rattle.tree.proofs.Classes.{case_at}
 use Rattle.tree.proofs.Standings.{children-at, children-counted, one_more}
+use Rattle.normal.specs.declared.Mode.{Mode}
 use Rattle.normal.specs.declared.Taken.{Taken}
 use Rattle.normal.specs.Count.{count_of, sum_of}
 use Rattle.tree.specs.Ends.{EndsAt}
 use Rattle.tree.specs.Standing.{StandingAll}
 use Rattle.normal.specs.Counted.{Counts}
-use Rattle.normal.specs.Body.{taken_by, both, total, branches_in, all_branches_in, BodyAt, IsBody, BodiesAt, AreBodies}
-use Rattle.normal.specs.Body.{TakesFrom, TakesAll, RoomFrom, RoomAll, StoresFrom, StoresAll}
+use Rattle.normal.specs.Followed.{room_of}
+use Rattle.normal.specs.Body.{branches_in, all_branches_in, BodyAt, IsBody, BodiesAt, AreBodies, AddedAll, PutsFrom, PutsAll, BodyFits, BodiesFit}
 use Rattle.normal.proofs.Counting.{sum-none, sum_more}
-use Rattle.normal.proofs.Laying.{sets-after}
-use Rattle.normal.proofs.Bodies.{both-assoc, both-nothing, nothing-both, is_body}
-
--- ---- sums over branches one after another
-
-total-append : (n : ℕ) (xs ys : List Branch) → total n (xs ++ ys) ≡ both (total n xs) (total n ys)
-total-append n [] ys = nothing-both (total n ys)
-total-append n (x ∷ xs) ys = ap (both (taken_by n x)) (total-append n xs ys) ∙ sym (both-assoc (taken_by n x) (total n xs) (total n ys))
-
-bytes-append : (n : ℕ) (xs ys : List Branch) → all_bytes (as_exprs n (xs ++ ys)) ≡ all_bytes (as_exprs n xs) ++ all_bytes (as_exprs n ys)
-unfolding bytes
-bytes-append n [] ys = refl
-bytes-append n (x ∷ xs) ys =
-    let first = bytes (restr n x.given x.term) in
-    ap (λ l. first ++ l) (bytes-append n xs ys) ∙ sym (append_assoc first (all_bytes (as_exprs n xs)) (all_bytes (as_exprs n ys)))
+use Rattle.normal.proofs.Bodies.{is_body, added_nothing, added-append, append-fits, first-append}
 
 -- ---- a case, of k bytes and so many children
 
@@ -81,17 +66,8 @@ module _ (bs : List ℕ) (p n of k many : ℕ) (class_is : class_at bs p ≡ Cas
   unfolding norm
   branches-are e i = ap (λ f. norm f (dimension (heads_of bs))) (opened-is e i)
 
-  pub case-takes : (sofar r : Taken) → TakesAll bs k n many of sofar r → TakesFrom bs p n of 0 sofar r
-  case-takes sofar r took = record {
-    few = (omega (arith, took.few), omega (arith, took.few));
-    is = λ e i. took.is (opened e i) (children-are e i) ∙ ap (λ l. both sofar (total n l)) (sym (branches-are e i));
-  }
-
-  pub case-stores : (to : ℕ) (l d : List ℕ) (r : ℕ) → StoresAll bs k n many of to l d r → StoresFrom bs p n of 0 to l d r
-  case-stores to l d r stored e i =
-      let here = stored (opened e i) (children-are e i) in
-      let same = sym (branches-are e i) in
-      (here.0 ∙ ap (λ x. sets l to (all_bytes (as_exprs n x))) same, here.1 ∙ ap (λ x. to + length (all_bytes (as_exprs n x))) same)
+  pub case-puts : (mode : Mode) (sofar : Taken) (l d : List ℕ) (r : Taken) → PutsAll bs k n many of mode sofar l d r → PutsFrom bs p n of 0 mode sofar l d r
+  case-puts mode sofar l d r put e i = subst (AddedAll mode sofar l d r n) (sym (branches-are e i)) (put (opened e i) (children-are e i))
 
   module _ (left : ℕ) (h : BodyAt bs p left n of) where
     case-some : 1 ≤ many
@@ -135,9 +111,9 @@ module _ (bs : List ℕ) (p n of k many : ℕ) (class_is : class_at bs p ≡ Cas
           count = i.sum;
         }
 
-    pub case-room : (to room : ℕ) → RoomFrom bs p n of 0 to room → RoomAll bs k n many of to room
+    pub case-fits : (sofar : Taken) (room : ℕ) → BodyFits bs p n of 0 sofar room → BodiesFit bs k n many of sofar room
     unfolding norm
-    case-room to room there es i = there (kase es) (kase-there es i)
+    case-fits sofar room there es i = there (kase es) (kase-there es i)
 
 -- ---- no trees
 
@@ -146,17 +122,9 @@ module _ (bs : List ℕ) (p n many of : ℕ) (few : many < 1) where
   unfolding norm
   no-branches es i = ap (λ f. norms f (dimension (heads_of bs))) (all_at-none (vars_of bs) bs es p i.end i.at (omega (arith, i.count))).is
 
-  none-takes : (sofar : Taken) → TakesAll bs p n many of sofar sofar
-  none-takes sofar = record {
-    few = (omega arith, omega arith);
-    is = λ es i. both-nothing sofar ∙ ap (λ l. both sofar (total n l)) (sym (no-branches es i));
-  }
-
-  none-stores : (to : ℕ) (l : List ℕ) → StoresAll bs p n many of to l l to
+  none-puts : (mode : Mode) (sofar : Taken) (l : List ℕ) → PutsAll bs p n many of mode sofar l l sofar
   unfolding bytes
-  none-stores to l es i =
-      let none = no-branches es i in
-      (ap (λ x. sets l to (all_bytes (as_exprs n x))) (sym none), omega (arith, ap (λ x. length (all_bytes (as_exprs n x))) none))
+  none-puts mode sofar l es i = subst (AddedAll mode sofar l l sofar n) (sym (no-branches es i)) (added_nothing mode sofar l)
 
 -- ---- trees one after another
 
@@ -262,58 +230,25 @@ module _ (bs : List ℕ) (p left n many of : ℕ) (h : BodiesAt bs p left n many
       low = omega (arith, h.low);
     }
 
-    pub more-takes : (sofar taken r : Taken) → TakesFrom bs p n k 0 sofar taken → TakesAll bs next n (many - 1) (of - k) taken r →
-        TakesAll bs p n many of sofar r
-    more-takes sofar taken r first rest = record {
-      few = (omega (arith, first.few, rest.few, first-low), omega (arith, first.few, rest.few, first-low));
-      is = λ es i.
-          let x = in_turns es i in
-          let mine = total n (branches_in bs x.first) in
-          let others = total n (all_branches_in bs x.others) in
-          rest.is x.others x.are-others ∙ ap (λ z. both z others) (first.is x.first x.is-first) ∙ both-assoc sofar mine others
-          ∙ ap (both sofar) (sym (total-append n (branches_in bs x.first) (all_branches_in bs x.others)) ∙ ap (total n) (sym x.in-turn));
-    }
-
-    -- ---- stored
-
-    all-long : (xs ys : List Branch) →
-        length (all_bytes (as_exprs n (xs ++ ys))) ≡ length (all_bytes (as_exprs n xs)) + length (all_bytes (as_exprs n ys))
-    all-long xs ys = ap length (bytes-append n xs ys) ∙ length-append (all_bytes (as_exprs n xs)) (all_bytes (as_exprs n ys))
-
-    together-long : (e : Expr) (es : Exprs) → length (all_bytes (as_exprs n (all_branches_in bs (more e es))))
-        ≡ length (all_bytes (as_exprs n (branches_in bs e))) + length (all_bytes (as_exprs n (all_branches_in bs es)))
+    pub first-fits : (sofar : Taken) (room : ℕ) → BodiesFit bs p n many of sofar room → BodyFits bs p n k 0 sofar room
     unfolding norm
-    together-long e es = all-long (branches_in bs e) (all_branches_in bs es)
+    first-fits sofar room there e i =
+        let others = whole.others in
+        first-append sofar n (branches_in bs e) (all_branches_in bs others) room (there (more e others) (together e others i whole.are-others))
 
-    module _ (to : ℕ) (l : List ℕ) where
-      pub first-room : (room : ℕ) → RoomAll bs p n many of to room → RoomFrom bs p n k 0 to room
-      first-room room there e i =
-          let others = whole.others in
-          omega (arith, there (more e others) (together e others i whole.are-others), together-long e others)
+    module _ (mode : Mode) (sofar taken : Taken) (l a : List ℕ) (put : PutsFrom bs p n k 0 mode sofar l a taken) where
+      pub rest-fit : BodiesFit bs p n many of sofar (room_of mode l) → BodiesFit bs next n (many - 1) (of - k) taken (room_of mode a)
+      unfolding norm
+      rest-fit there es i =
+          let first = whole.first in
+          append-fits mode sofar l n (branches_in bs first) (all_branches_in bs es) (put first whole.is-first)
+          (there (more first es) (together first es whole.is-first i))
 
-      module _ (end : ℕ) (a : List ℕ) (stored : StoresFrom bs p n k 0 to l a end) where
-        pub stored-long : length a ≡ length l
-        stored-long =
-            ap length (stored whole.first whole.is-first).0 ∙ length-sets l to (all_bytes (as_exprs n (branches_in bs whole.first)))
-
-        pub rest-room : RoomAll bs p n many of to (min (2 ^ 40) (length l)) →
-            RoomAll bs next n (many - 1) (of - k) end (min (2 ^ 40) (length a))
-        rest-room there es i =
-            let first = whole.first in
-            let here = stored first whole.is-first in
-            omega (arith, there (more first es) (together first es whole.is-first i), together-long first es, here.1, stored-long)
-
-        pub more-stores : (d : List ℕ) (r : ℕ) → StoresAll bs next n (many - 1) (of - k) end a d r → StoresAll bs p n many of to l d r
-        more-stores d r rest es i =
-            let x = in_turns es i in
-            let mine = all_bytes (as_exprs n (branches_in bs x.first)) in
-            let others = all_bytes (as_exprs n (all_branches_in bs x.others)) in
-            let here = stored x.first x.is-first in
-            let then = rest x.others x.are-others in
-            let cut = ap (λ y. all_bytes (as_exprs n y)) x.in-turn ∙ bytes-append n (branches_in bs x.first) (all_branches_in bs x.others) in (
-              sets-after l to (length mine) mine others refl here.0 (then.0 ∙ ap (λ j. sets a j others) here.1) ∙ ap (sets l to) (sym cut),
-              omega (arith, then.1, here.1, ap length cut, length-append mine others),
-            )
+      pub more-puts : (d : List ℕ) (r : Taken) → PutsAll bs next n (many - 1) (of - k) mode taken a d r → PutsAll bs p n many of mode sofar l d r
+      more-puts d r rest es i =
+          let x = in_turns es i in
+          subst (AddedAll mode sofar l d r n) (sym x.in-turn)
+          (added-append mode sofar l n (branches_in bs x.first) (all_branches_in bs x.others) (put x.first x.is-first) (rest x.others x.are-others))
 
   -- the last has the branches that are left
   module _ (few : many < 2) where
@@ -331,15 +266,10 @@ module _ (bs : List ℕ) (p left n many of : ℕ) (h : BodiesAt bs p left n many
     pub last-body : BodyAt bs p left n of
     last-body = first_body of split.middle last-exact last-ends
 
-    pub last-takes : (sofar r : Taken) → TakesFrom bs p n of 0 sofar r → TakesAll bs p n many of sofar r
-    last-takes sofar r took =
-        more-takes of split.middle last-exact last-ends sofar r r took (none-takes bs split.middle n (many - 1) (of - of) (omega arith) r)
+    pub last-fits : (sofar : Taken) (room : ℕ) → BodiesFit bs p n many of sofar room → BodyFits bs p n of 0 sofar room
+    last-fits = first-fits of split.middle last-exact last-ends
 
-    module _ (to : ℕ) (l : List ℕ) where
-      pub last-room : (room : ℕ) → RoomAll bs p n many of to room → RoomFrom bs p n of 0 to room
-      last-room = first-room of split.middle last-exact last-ends to l
-
-      pub last-stores : (r : ℕ) (d : List ℕ) → StoresFrom bs p n of 0 to l d r → StoresAll bs p n many of to l d r
-      last-stores r d stored =
-          more-stores of split.middle last-exact last-ends to l r d stored d r
-          (none-stores bs split.middle n (many - 1) (of - of) (omega arith) r d)
+    pub last-puts : (mode : Mode) (sofar r : Taken) (l d : List ℕ) → PutsFrom bs p n of 0 mode sofar l d r → PutsAll bs p n many of mode sofar l d r
+    last-puts mode sofar r l d put =
+        more-puts of split.middle last-exact last-ends mode sofar r l d put d r
+        (none-puts bs split.middle n (many - 1) (of - of) (omega arith) mode r d)

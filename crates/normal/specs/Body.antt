@@ -1,7 +1,7 @@
--- What the branches of a body take in the normal form: nodes, bytes, constraints and depth, of one branch and of all of them; and the body,
--- or the children of a case, that stand at a place. Assumes nothing.
-use Rattle.std.specs.Prelude.{◌≡◌, ℕ, ◌+◌, ◌*◌, ◌-◌, ◌^◌, ◌≤◌, ◌<◌, max, true, List, [], ◌∷◌, length, get_or, drop}
-use Rattle.std.proofs.lemmas.List.Edits.{sets}
+-- What the branches of a body take in the normal form: nodes, bytes, constraints and depth, of one branch and of all of them; the body, or
+-- the children of a case, that stand at a place; and how their branches are added to those so far, measured or stored. Assumes nothing.
+use Rattle.std.specs.Prelude.{◌≡◌, ℕ, ◌+◌, ◌≤◌, ◌<◌, max, true, List, [], ◌∷◌, length, get_or, drop}
+use Rattle.alpha.specs.Field.{nat}
 use Rattle.alpha.specs.Sheet.{Expr, Exprs, Expr.restr, Expr.kase, Exprs.none}
 use Rattle.alpha.specs.Read.{dimension}
 use Rattle.alpha.specs.Shape.{fits, all_fit}
@@ -10,8 +10,16 @@ use Rattle.alpha.specs.Written.{bytes, all_bytes, branch_count, node_count, node
 use Rattle.alpha.specs.Normal.{Branch, norm, norms, as_exprs}
 use Rattle.laws.specs.At.{At, AllAt}
 use Rattle.laws.specs.Sheets.{heads_of, vars_of}
+use Rattle.normal.specs.declared.Body.{Body}
+use Rattle.normal.specs.declared.Choice.{Choice}
+use Rattle.normal.specs.declared.Half.{Half}
+use Rattle.normal.specs.declared.Half.TheVariants.{Constraints, Tree}
+use Rattle.normal.specs.declared.Mode.{Mode}
+use Rattle.normal.specs.declared.Pen.{Pen}
 use Rattle.normal.specs.declared.Taken.{Taken}
 use Rattle.normal.specs.Count.{count_of, sum_of}
+use Rattle.normal.specs.Part.{Part, tree_part, given_part}
+use Rattle.normal.specs.Followed.{laid, room_of, Wrote}
 
 -- ---- sizes
 
@@ -56,15 +64,10 @@ pub record BodyAt (bs : List ℕ) (p left n many : ℕ) : Type 0 where
   pub count : count_of tree ≡ many
   pub low : many ≤ 64
 
--- b is the number of a branch of it
-pub record BranchAt (bs : List ℕ) (p left n many b : ℕ) : Type 0 where
-  pub body : BodyAt bs p left n many
-  pub some : b < many
-
--- the branches of it from number b on, or none where b is how many there are
-pub record BranchesAt (bs : List ℕ) (p left n many b : ℕ) : Type 0 where
-  pub body : BodyAt bs p left n many
-  pub start : b ≤ many
+-- the branch is one of it
+pub record BranchAt (bs : List ℕ) (p left n : ℕ) (x : Choice) : Type 0 where
+  pub body : BodyAt bs p left n x.of
+  pub some : x.number < x.of
 
 -- any tree at p is such a body
 pub record IsBody (bs : List ℕ) (p n many : ℕ) (e : Expr) : Type 0 where
@@ -73,47 +76,58 @@ pub record IsBody (bs : List ℕ) (p n many : ℕ) (e : Expr) : Type 0 where
   pub fitting : fits e (heads_of bs) n ≡ true
   pub count : count_of e ≡ many
 
--- ---- what they take
+-- ---- what is added
 
--- so many branches can be added to z, each of at most 2^24 bytes and nodes
-abbrev pub Spare : ℕ → Taken → Type 0
-Spare many z = (z.bytes + many * 2 ^ 24 ≤ 2 ^ 31) × (z.nodes + many * 2 ^ 24 ≤ 2 ^ 31)
+-- so much more, of the bytes l, is added to what is taken so far, and stored after it or only measured
+pub record Added (mode : Mode) (sofar : Taken) (out out' : List ℕ) (r more : Taken) (l : List ℕ) : Type 0 where
+  pub taken_is : r ≡ both sofar more
+  pub out_is : out' ≡ laid mode out sofar.bytes l
 
--- and r has no more than z with them
-abbrev pub Within : ℕ → Taken → Taken → Type 0
-Within many z r = (r.bytes ≤ z.bytes + many * 2 ^ 24) × (r.nodes ≤ z.nodes + many * 2 ^ 24)
+-- branch b is added
+abbrev pub PutsBranch : List ℕ → ℕ → ℕ → Choice → Mode → Taken → List ℕ → List ℕ → Taken → Type 0
+PutsBranch bs p n x mode sofar out out' r =
+    (e : Expr) → IsBody bs p n x.of e →
+    Added mode sofar out out' r (taken_by n (branch_in bs e x.number)) (bytes (written n (branch_in bs e x.number)))
 
--- what branch b takes
-pub record TakesBranch (bs : List ℕ) (p n many b : ℕ) (r : Taken) : Type 0 where
-  pub few_bytes : r.bytes ≤ 2 ^ 24
-  pub few_nodes : r.nodes ≤ 2 ^ 24
-  pub is : (e : Expr) → IsBody bs p n many e → r ≡ taken_by n (branch_in bs e b)
+-- the branches xs are added
+abbrev pub AddedAll : Mode → Taken → List ℕ → List ℕ → Taken → ℕ → List Branch → Type 0
+AddedAll mode sofar out out' r n xs = Added mode sofar out out' r (total n xs) (all_bytes (as_exprs n xs))
 
--- the branches from number b on are added to those so far
-pub record TakesFrom (bs : List ℕ) (p n many b : ℕ) (sofar r : Taken) : Type 0 where
-  pub few : Within (many - b) sofar r
-  pub is : (e : Expr) → IsBody bs p n many e → r ≡ both sofar (total n (drop b (branches_in bs e)))
+-- the branches from number b on are added
+abbrev pub PutsFrom : List ℕ → ℕ → ℕ → ℕ → ℕ → Mode → Taken → List ℕ → List ℕ → Taken → Type 0
+PutsFrom bs p n many b mode sofar out out' r = (e : Expr) → IsBody bs p n many e → AddedAll mode sofar out out' r n (drop b (branches_in bs e))
 
--- ---- where they are stored
+-- ---- room for it
 
--- branch b is stored at `to`, up to r
-abbrev pub StoresBranch : List ℕ → ℕ → ℕ → ℕ → ℕ → ℕ → List ℕ → List ℕ → ℕ → Type 0
-StoresBranch bs p n many b to out out' r =
-    (e : Expr) → IsBody bs p n many e →
-    (out' ≡ sets out to (bytes (written n (branch_in bs e b)))) × (r ≡ to + length (bytes (written n (branch_in bs e b))))
+-- there are few more nodes than bytes so far, and l keeps within the room
+pub record Fits (sofar : Taken) (l : List ℕ) (room : ℕ) : Type 0 where
+  pub nodes_low : sofar.nodes ≤ 4096 + sofar.bytes
+  pub fits_room : sofar.bytes + length l ≤ room
 
--- room for branch b, and for the branches from number b on
-abbrev pub RoomFor : List ℕ → ℕ → ℕ → ℕ → ℕ → ℕ → ℕ → Type 0
-RoomFor bs p n many b to room = (e : Expr) → IsBody bs p n many e → to + length (bytes (written n (branch_in bs e b))) ≤ room
+-- branch b does, and the branches from number b on
+abbrev pub BranchFits : List ℕ → ℕ → ℕ → Choice → Taken → ℕ → Type 0
+BranchFits bs p n x sofar room = (e : Expr) → IsBody bs p n x.of e → Fits sofar (bytes (written n (branch_in bs e x.number))) room
 
-abbrev pub RoomFrom : List ℕ → ℕ → ℕ → ℕ → ℕ → ℕ → ℕ → Type 0
-RoomFrom bs p n many b to room = (e : Expr) → IsBody bs p n many e → to + length (all_bytes (as_exprs n (drop b (branches_in bs e)))) ≤ room
+abbrev pub BodyFits : List ℕ → ℕ → ℕ → ℕ → ℕ → Taken → ℕ → Type 0
+BodyFits bs p n many b sofar room = (e : Expr) → IsBody bs p n many e → Fits sofar (all_bytes (as_exprs n (drop b (branches_in bs e)))) room
 
--- the branches from number b on are stored from `to` on, up to r
-abbrev pub StoresFrom : List ℕ → ℕ → ℕ → ℕ → ℕ → ℕ → List ℕ → List ℕ → ℕ → Type 0
-StoresFrom bs p n many b to out out' r =
-    (e : Expr) → IsBody bs p n many e →
-    (out' ≡ sets out to (all_bytes (as_exprs n (drop b (branches_in bs e))))) × (r ≡ to + length (all_bytes (as_exprs n (drop b (branches_in bs e)))))
+-- ---- one half of a branch
+
+-- a half of the branch x, as it is written
+abbrev pub half_of : Half → Branch → Part
+half_of Tree x = tree_part x.term 0
+half_of Constraints x = given_part x.given
+
+-- it can be followed from the place `to` on
+-- it can be followed from the place `to` on
+pub record HalfAt (bs : List ℕ) (p left n : ℕ) (x : Choice) (half : Half) (to room : ℕ) : Type 0 where
+  pub at : BranchAt bs p left n x
+  pub fits_room : (e : Expr) → IsBody bs p n x.of e → to + length (half_of half (branch_in bs e x.number)).out ≤ room
+
+-- and is, to its end
+abbrev pub PutsHalf : List ℕ → ℕ → ℕ → Choice → Half → Mode → ℕ → List ℕ → List ℕ → Pen → Type 0
+PutsHalf bs p n x half mode to out out' r =
+    (e : Expr) → IsBody bs p n x.of e → Wrote mode (record { to = to; things = 0; deep = 0 }) out out' r (half_of half (branch_in bs e x.number))
 
 -- ---- the children of a case
 
@@ -140,17 +154,48 @@ pub record BodiesAt (bs : List ℕ) (p left n many of : ℕ) : Type 0 where
   pub narrow : n ≤ 4
   pub low : of ≤ 64
 
--- their branches are added to those so far
-pub record TakesAll (bs : List ℕ) (p n many of : ℕ) (sofar r : Taken) : Type 0 where
-  pub few : Within of sofar r
-  pub is : (es : Exprs) → AreBodies bs p n many of es → r ≡ both sofar (total n (all_branches_in bs es))
+-- there is room for their branches
+abbrev pub BodiesFit : List ℕ → ℕ → ℕ → ℕ → ℕ → Taken → ℕ → Type 0
+BodiesFit bs p n many of sofar room = (es : Exprs) → AreBodies bs p n many of es → Fits sofar (all_bytes (as_exprs n (all_branches_in bs es))) room
 
--- there is room for them
-abbrev pub RoomAll : List ℕ → ℕ → ℕ → ℕ → ℕ → ℕ → ℕ → Type 0
-RoomAll bs p n many of to room = (es : Exprs) → AreBodies bs p n many of es → to + length (all_bytes (as_exprs n (all_branches_in bs es))) ≤ room
+-- which are added
+abbrev pub PutsAll : List ℕ → ℕ → ℕ → ℕ → ℕ → Mode → Taken → List ℕ → List ℕ → Taken → Type 0
+PutsAll bs p n many of mode sofar out out' r = (es : Exprs) → AreBodies bs p n many of es → AddedAll mode sofar out out' r n (all_branches_in bs es)
 
--- and are stored from `to` on, up to r
-abbrev pub StoresAll : List ℕ → ℕ → ℕ → ℕ → ℕ → ℕ → List ℕ → List ℕ → ℕ → Type 0
-StoresAll bs p n many of to out out' r =
-    (es : Exprs) → AreBodies bs p n many of es →
-    (out' ≡ sets out to (all_bytes (as_exprs n (all_branches_in bs es)))) × (r ≡ to + length (all_bytes (as_exprs n (all_branches_in bs es))))
+-- ---- of a body of the sheet, where `out` is lent: what is required, and what is answered
+
+-- where a number goes
+abbrev pub MayPut : Body → List ℕ → ℕ → Type 0
+MayPut b out to = to + 8 ≤ room_of b.mode out
+
+abbrev pub Put : Body → List ℕ → List ℕ → ℕ → ℕ → Type 0
+Put b out out' to n = out' ≡ laid b.mode out to (nat n)
+
+-- one half of a branch of the tree at p
+abbrev pub MayHalve : Body → Half → ℕ → ℕ → Choice → List ℕ → ℕ → Type 0
+MayHalve b half p left x out to = HalfAt b.sheet.now p left b.dimension x half to (room_of b.mode out)
+
+abbrev pub Halved : Body → Half → ℕ → Choice → List ℕ → List ℕ → ℕ → Pen → Type 0
+Halved b half p x out out' to r = PutsHalf b.sheet.now p b.dimension x half b.mode to out out' r
+
+-- the branch
+abbrev pub MayBranch : Body → ℕ → ℕ → Choice → List ℕ → Taken → Type 0
+MayBranch b p left x out sofar = BranchAt b.sheet.now p left b.dimension x × BranchFits b.sheet.now p b.dimension x sofar (room_of b.mode out)
+
+abbrev pub Branched : Body → ℕ → Choice → List ℕ → List ℕ → Taken → Taken → Type 0
+Branched b p x out out' sofar r = PutsBranch b.sheet.now p b.dimension x b.mode sofar out out' r
+
+-- all branches of the tree
+abbrev pub MayTurn : Body → ℕ → ℕ → ℕ → List ℕ → Taken → Type 0
+MayTurn b p left of out sofar = BodyAt b.sheet.now p left b.dimension of × BodyFits b.sheet.now p b.dimension of 0 sofar (room_of b.mode out)
+
+abbrev pub Turned : Body → ℕ → ℕ → List ℕ → List ℕ → Taken → Taken → Type 0
+Turned b p of out out' sofar r = PutsFrom b.sheet.now p b.dimension of 0 b.mode sofar out out' r
+
+-- those of so many trees
+abbrev pub MayTurnAll : Body → ℕ → ℕ → ℕ → ℕ → List ℕ → Taken → Type 0
+MayTurnAll b p left many of out sofar =
+    BodiesAt b.sheet.now p left b.dimension many of × BodiesFit b.sheet.now p b.dimension many of sofar (room_of b.mode out)
+
+abbrev pub TurnedAll : Body → ℕ → ℕ → ℕ → List ℕ → List ℕ → Taken → Taken → Type 0
+TurnedAll b p many of out out' sofar r = PutsAll b.sheet.now p b.dimension many of b.mode sofar out out' r

@@ -1,7 +1,9 @@
 -- How many branches the normal form of an expression has, and which branch of which child a branch of a case is. The laws that tie these
 -- to the normal form are in proofs/Numbered.antt. Assumes nothing.
-use Rattle.std.specs.Prelude.{ℕ, ◌+◌, ◌*◌, ◌-◌, min, Bool, true, false, ltb}
+use Rattle.std.specs.Prelude.{ℕ, ◌+◌, ◌*◌, ◌-◌, min, ltb}
 use Rattle.alpha.specs.Pick.{ifb}
+use Rattle.normal.specs.declared.Group.{Group}
+use Rattle.normal.specs.declared.Group.TheVariants.{Children, Operands}
 use Rattle.alpha.specs.Sheet.{Expr, Exprs}
 use Rattle.alpha.specs.Sheet.{Expr.var, Expr.int, Expr.boo, Expr.un, Expr.bin, Expr.ite, Expr.kase, Expr.restr, Expr.dep, Exprs.none, Exprs.more}
 
@@ -27,15 +29,15 @@ unfoldable pub product_of : Exprs → ℕ
 product_of none = 1
 product_of (more e es) = count_of e * product_of es
 
--- ---- as the code counts: children of a case (true) or operands (false), one after another, and nothing above 65
+-- ---- as the code counts: children of a case or operands, one after another, and nothing above 65
 
-abbrev pub joined : Bool → ℕ → ℕ → ℕ
-joined true a b = a + b
-joined false a b = a * b
+abbrev pub joined : Group → ℕ → ℕ → ℕ
+joined Children a b = a + b
+joined Operands a b = a * b
 
-abbrev pub counts_of : Bool → Exprs → ℕ
-counts_of true es = sum_of es
-counts_of false es = product_of es
+abbrev pub counts_of : Group → Exprs → ℕ
+counts_of Children es = sum_of es
+counts_of Operands es = product_of es
 
 abbrev pub capped : ℕ → ℕ
 capped n = min 65 n

@@ -1,10 +1,11 @@
 -- What counting and choosing answer of the tree that stands at a place. Assumes nothing.
-use Rattle.std.specs.Prelude.{◌≡◌, ℕ, ◌*◌, ◌/◌, ◌%◌, ◌≤◌, ◌<◌, Bool, List}
+use Rattle.std.specs.Prelude.{◌≡◌, ℕ, ◌*◌, ◌/◌, ◌%◌, ◌≤◌, ◌<◌, List}
 use Rattle.alpha.specs.Sheet.{Expr, Exprs}
 use Rattle.alpha.specs.Written.{branch_count, node_count, node_counts}
 use Rattle.laws.specs.At.{At, AllAt}
 use Rattle.laws.specs.Sheets.{vars_of}
 use Rattle.normal.specs.declared.Chosen.{Chosen}
+use Rattle.normal.specs.declared.Group.{Group}
 use Rattle.normal.specs.declared.Split.{Split}
 use Rattle.normal.specs.Count.{count_of, sum_of, product_of, counts_of, joined, capped, pick}
 
@@ -13,10 +14,10 @@ abbrev pub Counts : List ℕ → ℕ → ℕ → Type 0
 Counts bs p r = (r ≤ 65) × ((e : Expr) (q : ℕ) → At e (vars_of bs) bs p q → r ≡ capped (count_of e))
 
 -- r is that of so many trees from p on, after others of which there are `sofar`
-abbrev pub CountsAll : List ℕ → ℕ → ℕ → Bool → ℕ → ℕ → Type 0
-CountsAll bs p many branches sofar r =
+abbrev pub CountsAll : List ℕ → ℕ → ℕ → Group → ℕ → ℕ → Type 0
+CountsAll bs p many group sofar r =
     (r ≤ 65) × ((es : Exprs) (q : ℕ) → AllAt es (vars_of bs) bs p q → branch_count es ≡ many →
-    r ≡ capped (joined branches sofar (counts_of branches es)))
+    r ≡ capped (joined group sofar (counts_of group es)))
 
 -- ---- a branch of a case
 
@@ -36,8 +37,8 @@ pub record ChildrenAt (bs : List ℕ) (p left many b of : ℕ) : Type 0 where
 pub record PicksOf (bs : List ℕ) (es : Exprs) (b : ℕ) (r : Chosen) : Type 0 where
   pub end : ℕ
   pub at : At (pick es b).child (vars_of bs) bs r.at end
-  pub branch : r.b ≡ (pick es b).branch
-  pub count : count_of (pick es b).child ≡ r.of
+  pub branch : r.choice.number ≡ (pick es b).branch
+  pub count : count_of (pick es b).child ≡ r.choice.of
 
 abbrev pub Picks : List ℕ → ℕ → ℕ → ℕ → ℕ → Chosen → Type 0
 Picks bs p many b of r = (es : Exprs) (q : ℕ) → AllAt es (vars_of bs) bs p q → branch_count es ≡ many → sum_of es ≡ of → PicksOf bs es b r
@@ -59,10 +60,10 @@ pub record OperandAt (bs : List ℕ) (p left b of : ℕ) : Type 0 where
 -- r is what combination b takes of the operand e, which ends at q, and of the others: which branch or combination, and among how many
 pub record SplitsOf (e : Expr) (others : Exprs) (q b : ℕ) (r : Split) : Type 0 where
   pub ends : r.next ≡ q
-  pub first_count : count_of e ≡ r.of
-  pub rest_count : product_of others ≡ r.among
-  pub first_branch : r.b ≡ b / product_of others
-  pub rest_branch : r.rest ≡ b % product_of others
+  pub first_count : count_of e ≡ r.first.of
+  pub rest_count : product_of others ≡ r.rest.of
+  pub first_branch : r.first.number ≡ b / product_of others
+  pub rest_branch : r.rest.number ≡ b % product_of others
 
 abbrev pub Splits : List ℕ → ℕ → ℕ → ℕ → Split → Type 0
 Splits bs p b of r =

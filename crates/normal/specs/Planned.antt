@@ -6,8 +6,9 @@ use Rattle.alpha.specs.Normalise.{Body, write_bodies}
 use Rattle.laws.specs.Sheets.{sheet_of}
 use Rattle.tree.specs.Formed.{Formed}
 use Rattle.normal.specs.Plan.{front_of}
+use Rattle.sheet.specs.declared.table.Table.{Table}
 
-pub record Planned (bs tab : List ℕ) (nodes size : ℕ) : Type 0 where
+pub record Planned (bs : List ℕ) (tab : Table) (nodes size : ℕ) : Type 0 where
   pub formed : Formed bs tab
   pub sheet_is : check bs ≡ accepted (sheet_of bs)
   pub whole : Body

@@ -2,64 +2,62 @@
 ghost use Rattle.normal.specs.Counted.{ChildrenAt, Picks, OperandAt, Splits};
 
 use super::count::count_tree;
-use super::{Chosen, Split};
+use super::{Choice, Chosen, Split};
 use tree::skip::skip;
 
-// Branch b of a case whose `many` children stand from `at` on and have `of` branches: the branches of the first child come first. The last
-// child has those that are left.
-pub fn choose(s: &[u8], at: usize, left: usize, many: usize, b: usize, of: usize) -> Chosen
-    requires { ChildrenAt s.now at left many b of }
-    ensures { Picks s.now at many b of result }
+// A branch of a case whose `many` children stand from `at` on: the branches of the first child come first. The last child has those that are
+// left.
+pub fn choose(s: &[u8], at: usize, left: usize, many: usize, choice: Choice) -> Chosen
+    requires { ChildrenAt s.now at left many choice.number choice.of }
+    ensures { Picks s.now at many choice.number choice.of result }
 {
-    let mut p = at;
-    let mut more = many;
-    let mut i = b;
-    let mut rest = of;
-    while more > 1 {
-        let first = count_tree(s, p, left);
-        let n = first.many;
-        if i < n {
-            return Chosen { at: p, b: i, of: n };
+    let mut next = at;
+    let mut rest = choice;
+    for _child in 1..many {
+        let first = count_tree(s, next, left);
+        if rest.number < first.many {
+            return Chosen {
+                at: next,
+                choice: Choice {
+                    number: rest.number,
+                    of: first.many,
+                },
+            };
         }
-        p = first.next;
-        i -= n;
-        rest -= n;
-        more -= 1;
+        rest.number -= first.many;
+        rest.of -= first.many;
+        next = first.next;
     }
     Chosen {
-        at: p,
-        b: i,
-        of: rest,
+        at: next,
+        choice: rest,
     }
 }
 
-// Combination b of operands that have `of`, the first of them at `at`: the first one's branch changes slowest. Where they have one, each
-// operand has one branch, and nothing is counted.
-pub fn split(s: &[u8], at: usize, left: usize, b: usize, of: usize) -> Split
-    requires { OperandAt s.now at left b of }
-    ensures { Splits s.now at b of result }
+// A combination of operands, the first of them at `at`: the first one's branch changes slowest. Where they have one, each operand has one
+// branch, and nothing is counted.
+pub fn split(s: &[u8], at: usize, left: usize, choice: Choice) -> Split
+    requires { OperandAt s.now at left choice.number choice.of }
+    ensures { Splits s.now at choice.number choice.of result }
 {
-    if of < 2 {
-        let next = skip(s, at, left);
+    if choice.of < 2 {
         return Split {
-            b,
-            of,
-            next,
-            rest: b,
-            among: of,
+            first: choice,
+            next: skip(s, at, left),
+            rest: choice,
         };
     }
     let first = count_tree(s, at, left);
-    let n = first.many;
-    let next = first.next;
-    let among = of / n;
-    let branch = b / among;
-    let rest = b % among;
+    let among = choice.of / first.many;
     Split {
-        b: branch,
-        of: n,
-        next,
-        rest,
-        among,
+        first: Choice {
+            number: choice.number / among,
+            of: first.many,
+        },
+        next: first.next,
+        rest: Choice {
+            number: choice.number % among,
+            of: among,
+        },
     }
 }

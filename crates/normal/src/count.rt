@@ -7,27 +7,20 @@ ghost use Rattle.tree.specs.Ends.{EndsAt, AllEnd};
 ghost use Rattle.normal.specs.Count as Count;
 ghost use Rattle.normal.specs.Counted.{Counts, CountsAll};
 
-use super::Branches;
+use super::{Branches, Group};
 use tree::Class;
 use tree::node::{children, class_of, node_end};
 
 const MANY: usize = 65;
 
-fn capped(n: usize) -> usize
-    ensures { result ≡ Count.capped n }
-{
-    if MANY < n { MANY } else { n }
-}
-
 // Two counts together: of children of a case, or of operands.
-fn joined(branches: bool, a: usize, b: usize) -> usize
+fn joined(group: Group, a: usize, b: usize) -> usize
     requires { (a ≤ 65) × (b ≤ 65) }
-    ensures { result ≡ Count.capped (Count.joined branches a b) }
+    ensures { result ≡ Count.capped (Count.joined group a b) }
 {
-    if branches {
-        capped(a + b)
-    } else {
-        capped(a * b)
+    match group {
+        Group::Children => (a + b).min(MANY),
+        Group::Operands => (a * b).min(MANY),
     }
 }
 
@@ -42,10 +35,9 @@ pub fn count_tree(s: &[u8], at: usize, left: usize) -> Branches
     let next = node_end(s, at);
     match class {
         Class::Leaf => Branches { many: 1, next },
-        Class::Operator => count_trees(s, next, left - 1, children(s, at), false, 1),
-        Class::Case => count_trees(s, next, left - 1, children(s, at), true, 0),
-        Class::Restriction => count_tree(s, next, left - 1),
-        Class::Dependence => count_tree(s, next, left - 1),
+        Class::Operator => count_trees(s, next, left - 1, children(s, at), Group::Operands, 1),
+        Class::Case => count_trees(s, next, left - 1, children(s, at), Group::Children, 0),
+        Class::Restriction | Class::Dependence => count_tree(s, next, left - 1),
     }
 }
 
@@ -56,21 +48,18 @@ fn count_trees(
     at: usize,
     left: usize,
     many: usize,
-    branches: bool,
+    group: Group,
     sofar: usize,
 ) -> Branches
     requires { StandingAll (vars_of s.now) s.now at left many × (sofar ≤ 65) }
-    ensures { CountsAll s.now at many branches sofar result.many × AllEnd (vars_of s.now) s.now at many result.next }
+    ensures { CountsAll s.now at many group sofar result.many × AllEnd (vars_of s.now) s.now at many result.next }
 {
     let mut sum = sofar;
     let mut next = at;
-    let mut more = many;
-    while more > 0 {
+    for _tree in 0..many {
         let one = count_tree(s, next, left);
-        let n = one.many;
-        sum = joined(branches, sum, n);
+        sum = joined(group, sum, one.many);
         next = one.next;
-        more -= 1;
     }
     Branches { many: sum, next }
 }

@@ -6,39 +6,79 @@
 ghost use Rattle.alpha.specs.Promise.{Normalises};
 
 use accept::judge;
-use alpha::{Refusal, Verdict};
-use sheet::table::third_place;
+use alpha::Refusal;
+use plan::plan;
+use sheet::table::Table;
 use sheet::too_long;
-use totals::plan_from;
 use write::write_all;
 
-mod body;
 mod choose;
 mod count;
 mod follow;
 mod node;
+mod plan;
 mod rows;
-mod totals;
 mod turn;
 mod write;
 
-// A branch of a case: where the child stands that it comes from, which of the child's branches it is, and how many the child has.
+// Which of a tree's branches, or which combination of operands: its number, and how many there are.
 #[derive(Clone, Copy)]
-pub struct Chosen {
-    pub at: usize,
-    pub b: usize,
+pub struct Choice {
+    pub number: usize,
     pub of: usize,
 }
 
-// A combination of operands: which branch of the first, and how many that has; where the others start, which combination of them, and among
-// how many.
+// A branch of a case: where the child stands that it comes from, and which of the child's branches it is.
+#[derive(Clone, Copy)]
+pub struct Chosen {
+    pub at: usize,
+    pub choice: Choice,
+}
+
+// A combination of operands: which branch of the first; where the others start, and which combination of them.
 #[derive(Clone, Copy)]
 pub struct Split {
-    pub b: usize,
-    pub of: usize,
+    pub first: Choice,
     pub next: usize,
-    pub rest: usize,
-    pub among: usize,
+    pub rest: Choice,
+}
+
+// What a branch is made of: the constraints that it stands under, and its tree.
+#[derive(Clone, Copy)]
+pub enum Half {
+    Constraints,
+    Tree,
+}
+
+// What becomes of the bytes: they are only measured, or stored.
+#[derive(Clone, Copy)]
+pub enum Mode {
+    Measure,
+    Store,
+}
+
+// A walk along a branch: over which sheet, for which half of the branch, and what becomes of its bytes. A place and how many nodes stand from
+// it on at most stay two numbers, as in the walks of crate tree: as a pair they would be made anew at each call.
+#[derive(Clone, Copy)]
+pub struct Walk<'a> {
+    pub sheet: &'a [u8],
+    pub half: Half,
+    pub mode: Mode,
+}
+
+// The bodies of a sheet in normal form, as restrictions of so many dimensions: what becomes of their bytes.
+#[derive(Clone, Copy)]
+pub struct Body<'a> {
+    pub sheet: &'a [u8],
+    pub dimension: usize,
+    pub mode: Mode,
+}
+
+// Trees one after another: the children of a case, whose branches are added, or operands, whose branches are combined.
+#[derive(Clone, Copy)]
+pub enum Group {
+    Children,
+    Operands,
 }
 
 // How many branches a tree has, or several have, up to 65; and where they end.
@@ -48,7 +88,8 @@ pub struct Branches {
     pub next: usize,
 }
 
-// How far writing has come: the place, how many things are written (constraints, or nodes), and how deep the deepest lies.
+// How far writing has come: the place, how many things are written (constraints, or nodes), and how deep the deepest lies. What is lent stays
+// beside the pen, since a pen that only measures writes on nothing.
 #[derive(Clone, Copy)]
 pub struct Pen {
     pub to: usize,
@@ -56,7 +97,8 @@ pub struct Pen {
     pub deep: usize,
 }
 
-// What a branch, or several, take in the normal form: sums of nodes and bytes, and the most constraints and levels.
+// What the branches so far take in the normal form, with what stands before them: sums of nodes and bytes, and the most constraints and
+// levels of one.
 #[derive(Clone, Copy)]
 pub struct Taken {
     pub nodes: usize,
@@ -65,28 +107,26 @@ pub struct Taken {
     pub deep: usize,
 }
 
-// The totals of the normal form: nodes, and bytes with the first two sections and the node count; or WIDE at a variable.
+// The totals of the normal form: nodes, and bytes with the first two sections and the node count.
 #[derive(Clone, Copy)]
-pub enum Plan {
-    Total { nodes: usize, bytes: usize },
-    WideAt(usize),
+pub struct Totals {
+    pub nodes: usize,
+    pub bytes: usize,
 }
 
 // The length written, and the normal form's bytes from the start of `out`; or the sheet's refusals, then WIDE, then ROOM.
-pub fn normalise(s: &[u8], out: &mut [u8]) -> Verdict
+pub fn normalise(s: &[u8], out: &mut [u8]) -> Result<usize, Refusal>
     ensures { Normalises s.now out.old out.new result }
 {
     if too_long(s) {
-        return Verdict::Refused(Refusal::Long);
+        return Err(Refusal::Long);
     }
-    let mut tab = [0usize; 102];
-    let r = judge(s, &mut tab);
-    let Verdict::Accepted(_) = r else {
-        return r;
+    let mut tab = Table::new();
+    judge(s, &mut tab)?;
+    let front = Totals {
+        nodes: 0,
+        bytes: tab.third_place() + 8,
     };
-    let plan = plan_from(s, &tab, 0, 0, third_place(&tab) + 8);
-    match plan {
-        Plan::Total { nodes, bytes } => write_all(s, &tab, nodes, bytes, out),
-        Plan::WideAt(v) => Verdict::Refused(Refusal::Wide(v)),
-    }
+    let totals = plan(s, &tab, front)?;
+    write_all(s, &tab, totals, out)
 }

@@ -1,119 +1,127 @@
-// The branches of a body in turn: a case has those of its children one after another, any other tree has its own by their numbers.
-// Assumes nothing.
-ghost use Rattle.std.specs.Prelude.{◌^◌, min, length};
-ghost use Rattle.normal.specs.Body as Body;
+// The branches of a body in turn, measured or stored: a case has those of its children one after another, any other tree has its own by their
+// numbers. Assumes nothing.
+ghost use Rattle.normal.specs.Body.{MayPut, Put, MayHalve, Halved, MayBranch, Branched, MayTurn, Turned, MayTurnAll, TurnedAll};
 
-use super::Taken;
-use super::body::{measure_from, put_from};
 use super::count::count_tree;
+use super::{Body, Choice, Half, Mode, Pen, Taken, Walk};
+use affine::identity;
+use integer::put_nat;
 use tree::Class;
 use tree::node::{children, class_of, node_end};
 
-// ---- measured
-
-// What the `of` branches of the tree at `at`, of at most `left` nodes, take, with those so far.
-#[cycle(measure_children_measure_tree)]
-pub fn measure_tree(s: &[u8], at: usize, left: usize, n: usize, of: usize, sofar: Taken) -> Taken
-    requires { Body.BodyAt s.now at left n of × Body.Spare of sofar }
-    ensures { Body.TakesFrom s.now at n of 0 sofar result }
-{
-    let class = class_of(s, at);
-    match class {
-        Class::Leaf | Class::Operator | Class::Restriction | Class::Dependence => {
-            measure_from(s, at, left, n, of, 0, sofar)
-        }
-        Class::Case => {
-            let next = node_end(s, at);
-            let many = children(s, at);
-            measure_children(s, next, left - 1, many, n, of, sofar)
+impl Body<'_> {
+    // A number, where the body is stored.
+    fn put(&self, out: &mut [u8], to: usize, n: usize)
+        requires { MayPut self.now out.old to }
+        ensures { Put self.now out.old out.new to n }
+    {
+        match self.mode {
+            Mode::Measure => {}
+            Mode::Store => put_nat(out, to, n),
         }
     }
-}
 
-// What those of `many` children of a case take. The last child has the branches that are left.
-#[cycle(measure_children_measure_tree)]
-fn measure_children(
-    s: &[u8],
-    at: usize,
-    left: usize,
-    many: usize,
-    n: usize,
-    of: usize,
-    sofar: Taken,
-) -> Taken
-    requires { Body.BodiesAt s.now at left n many of × Body.Spare of sofar }
-    ensures { Body.TakesAll s.now at n many of sofar result }
-{
-    let mut sum = sofar;
-    let mut next = at;
-    let mut more = many;
-    let mut rest = of;
-    while more > 1 {
-        let one = count_tree(s, next, left);
-        let k = one.many;
-        sum = measure_tree(s, next, left, n, k, sum);
-        next = one.next;
-        rest -= k;
-        more -= 1;
+    // One half of a branch of the tree at `at`, from the place `to` on.
+    fn half(
+        &self,
+        half: Half,
+        at: usize,
+        left: usize,
+        choice: Choice,
+        out: &mut [u8],
+        to: usize,
+    ) -> Pen
+        requires { MayHalve self.now half at left choice out.old to }
+        ensures { Halved self.now half at choice out.old out.new to result }
+    {
+        let walk = Walk {
+            sheet: self.sheet,
+            half,
+            mode: self.mode,
+        };
+        let pen = Pen {
+            to,
+            things: 0,
+            deep: 0,
+        };
+        walk.follow(at, left, choice, &identity(self.dimension), 0, out, pen)
     }
-    measure_tree(s, next, left, n, rest, sum)
-}
 
-// ---- stored
-
-// The `of` branches of the tree at `at`, of at most `left` nodes, one after another.
-#[cycle(put_children_put_tree)]
-pub fn put_tree(
-    s: &[u8],
-    at: usize,
-    left: usize,
-    n: usize,
-    of: usize,
-    out: &mut [u8],
-    to: usize,
-) -> usize
-    requires { Body.BodyAt s.now at left n of × Body.RoomFrom s.now at n of 0 to (min (2 ^ 40) (length out.old)) }
-    ensures { Body.StoresFrom s.now at n of 0 to out.old out.new result }
-{
-    let class = class_of(s, at);
-    match class {
-        Class::Leaf | Class::Operator | Class::Restriction | Class::Dependence => {
-            put_from(s, at, left, n, of, 0, out, to)
-        }
-        Class::Case => {
-            let next = node_end(s, at);
-            let many = children(s, at);
-            put_children(s, next, left - 1, many, n, of, out, to)
+    // A branch of the tree at `at`: a restriction with its constraints, above its tree. How many constraints there are is stored once they
+    // stand.
+    fn branch(&self, at: usize, left: usize, choice: Choice, out: &mut [u8], sofar: Taken) -> Taken
+        requires { MayBranch self.now at left choice out.old sofar }
+        ensures { Branched self.now at choice out.old out.new sofar result }
+    {
+        let to = sofar.bytes;
+        self.put(out, to, 7);
+        self.put(out, to + 8, self.dimension);
+        let given = self.half(Half::Constraints, at, left, choice, out, to + 24);
+        self.put(out, to + 16, given.things);
+        let term = self.half(Half::Tree, at, left, choice, out, given.to);
+        Taken {
+            nodes: sofar.nodes + 1 + term.things,
+            bytes: term.to,
+            limits: sofar.limits.max(given.things),
+            deep: sofar.deep.max(term.deep),
         }
     }
-}
 
-// Those of `many` children of a case. The last child has the branches that are left.
-#[cycle(put_children_put_tree)]
-fn put_children(
-    s: &[u8],
-    at: usize,
-    left: usize,
-    many: usize,
-    n: usize,
-    of: usize,
-    out: &mut [u8],
-    to: usize,
-) -> usize
-    requires { Body.BodiesAt s.now at left n many of × Body.RoomAll s.now at n many of to (min (2 ^ 40) (length out.old)) }
-    ensures { Body.StoresAll s.now at n many of to out.old out.new result }
-{
-    let mut p = to;
-    let mut next = at;
-    let mut more = many;
-    let mut rest = of;
-    while more > 1 {
-        let one = count_tree(s, next, left);
-        let k = one.many;
-        p = put_tree(s, next, left, n, k, out, p);
-        next = one.next;
-        rest -= k;
-        more -= 1;
+    // The `of` branches of the tree at `at` by their numbers.
+    fn branches(&self, at: usize, left: usize, of: usize, out: &mut [u8], sofar: Taken) -> Taken
+        requires { MayTurn self.now at left of out.old sofar }
+        ensures { Turned self.now at of out.old out.new sofar result }
+    {
+        let mut sum = sofar;
+        for number in 0..of {
+            sum = self.branch(at, left, Choice { number, of }, out, sum);
+        }
+        sum
     }
-    put_tree(s, next, left, n, rest, out, p)
+
+    // The `of` branches of the tree at `at`, of at most `left` nodes, after those so far.
+    #[cycle(turn_turn_all)]
+    pub fn turn(&self, at: usize, left: usize, of: usize, out: &mut [u8], sofar: Taken) -> Taken
+        requires { MayTurn self.now at left of out.old sofar }
+        ensures { Turned self.now at of out.old out.new sofar result }
+    {
+        let s = self.sheet;
+        let class = class_of(s, at);
+        match class {
+            Class::Leaf | Class::Operator | Class::Restriction | Class::Dependence => {
+                self.branches(at, left, of, out, sofar)
+            }
+            Class::Case => {
+                let next = node_end(s, at);
+                let many = children(s, at);
+                self.turn_all(next, left - 1, many, of, out, sofar)
+            }
+        }
+    }
+
+    // Those of `many` children of a case. The last child has the branches that are left.
+    #[cycle(turn_turn_all)]
+    fn turn_all(
+        &self,
+        at: usize,
+        left: usize,
+        many: usize,
+        of: usize,
+        out: &mut [u8],
+        sofar: Taken,
+    ) -> Taken
+        requires { MayTurnAll self.now at left many of out.old sofar }
+        ensures { TurnedAll self.now at many of out.old out.new sofar result }
+    {
+        let mut sum = sofar;
+        let mut next = at;
+        let mut rest = of;
+        for _child in 1..many {
+            let one = count_tree(self.sheet, next, left);
+            sum = self.turn(next, left, one.many, out, sum);
+            next = one.next;
+            rest -= one.many;
+        }
+        self.turn(next, left, rest, out, sum)
+    }
 }

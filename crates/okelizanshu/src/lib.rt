@@ -2,26 +2,30 @@
 // (specs/Packed.antt). Crate okelizanshu_c exports them to C.
 #![tactic(auto)]
 
-ghost use Rattle.std.specs.Prelude.{ℕ, ◌≡◌};
+ghost use Rattle.std.specs.Prelude.{ℕ, ◌≡◌, ◌+◌, ◌*◌, ◌%◌, ◌<◌};
 ghost use Rattle.alpha.specs.Ask.{element_number, body_part};
 ghost use Rattle.alpha.specs.Check.{check};
 ghost use Rattle.alpha.specs.Promise.{total_of};
 ghost use Rattle.alpha.specs.Verdict.{told};
 ghost use Rattle.okelizanshu.specs.Packed.{packed, packed_part, RunsPacked, NormalisesPacked};
 
-use alpha::Verdict;
+use alpha::Refusal;
 
-// The refusal's number in the upper 32 bits, 0 where accepted; the place or the answer in the lower 32.
-fn pack(v: Verdict) -> u64
-    ensures { result ≡ packed (told v) }
+// One number of 64 bits, which is what the C interface answers: a number in the upper 32, the low 32 bits of another in the lower.
+fn halves(upper: u64, lower: u64) -> u64
+    requires { upper < 4294967296 }
+    ensures { result ≡ upper * 4294967296 + lower % 4294967296 }
 {
-    match v {
-        Verdict::Accepted(n) => n as u64 % 4294967296,
-        Verdict::Refused(why) => {
-            let number = alpha::number(why);
-            let place = alpha::place(why);
-            number * 4294967296 + place as u64 % 4294967296
-        }
+    upper * 4294967296 + lower % 4294967296
+}
+
+// The refusal's number above its place, or 0 above the answer.
+fn pack(answer: Result<usize, Refusal>) -> u64
+    ensures { result ≡ packed (told answer) }
+{
+    match answer {
+        Ok(n) => halves(0, n as u64),
+        Err(why) => halves(why.number(), why.place() as u64),
     }
 }
 
@@ -57,6 +61,6 @@ pub fn okelizanshu_element(sheet: &[u8], variable: u64, point: &[i64]) -> u64
 pub fn okelizanshu_body(sheet: &[u8], variable: u64) -> u64
     ensures { result ≡ packed_part (body_part sheet.now variable) }
 {
-    let p = accept::find_body(sheet, variable);
-    p.start as u64 % 4294967296 * 4294967296 + p.len as u64 % 4294967296
+    let part = accept::find_body(sheet, variable).unwrap_or(0..0);
+    halves(part.start as u64 % 4294967296, part.len() as u64)
 }

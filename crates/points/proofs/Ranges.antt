@@ -11,6 +11,7 @@ use Rattle.laws.proofs.Order.{le_z-trans}
 use Rattle.laws.proofs.Boxes.{size-bound}
 use Rattle.integer.proofs.Order.{within-true}
 use Rattle.sheet.specs.Record.{dimension_at, Ranges, Recorded}
+use Rattle.sheet.proofs.Boxes.{low-size}
 use Rattle.points.specs.Number.{box_of, Boxed}
 
 -- the range after k others
@@ -36,6 +37,6 @@ within-small bs p h x e =
     (le_z-trans (neg_ℤ (pos 32768)) (field bs p) x low.0 inside.0)
     (le_z-trans x (field bs (p + 8)) (pos 32767) inside.1 high.1)
 
--- the box of a record that stands there
-pub record-boxed : {bs : List ℕ} {p : ℕ} → Recorded bs p → size (box_of bs p) ≤ 4096 → Boxed bs (p + 32) (dimension_at bs p)
-record-boxed h small = record { few = h.small; ranges = h.ranges; small = small }
+-- so is its least number
+pub least-small : (bs : List ℕ) (p : ℕ) → Ranges bs p 1 → nat_abs (field bs p) ≤ 32768
+least-small bs p h = let here : p + 16 * 0 ≡ p = omega arith in low-size (field bs p) (rw here at (h.low 0 (omega arith)))

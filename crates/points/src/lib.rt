@@ -9,68 +9,47 @@ ghost use Rattle.affine.specs.Value.{point_of};
 ghost use Rattle.sheet.specs.Record.{range_at, box_at, dimension_at, Recorded, Ranges};
 ghost use Rattle.points.specs.Number.{box_of, digit_in, number_in, Boxed, PointIn, PointAt};
 
-use alpha::Int;
+use integer::{number_at, size_at};
 use sheet::range::side;
-
-// The number of a point in a box, or that it is not in the box.
-#[derive(Clone, Copy)]
-pub enum Found {
-    At(usize),
-    Off,
-}
 
 // How many dimensions the record at `place` has.
 pub fn dimension(s: &[u8], place: usize) -> usize
     requires { Recorded s.now place }
     ensures { result ≡ dimension_at s.now place }
 {
-    integer::to_usize(integer::number_at(s, place + 24))
+    size_at(s, place + 24)
 }
 
 // Where x stands in the range at p.
-fn digit(s: &[u8], p: usize, x: Int) -> Found
+fn digit(s: &[u8], p: usize, x: i64) -> Option<usize>
     requires { Ranges s.now p 1 }
-    ensures { result ≡ digit_in (range_at s.now p) x.v }
+    ensures { result ≡ digit_in (range_at s.now p) x }
 {
-    let lo = integer::number_at(s, p);
-    let hi = integer::number_at(s, p + 8);
-    if integer::within(x, lo, hi) {
-        Found::At(integer::to_usize(integer::sub(x, lo)))
+    let lo = number_at(s, p);
+    let hi = number_at(s, p + 8);
+    if lo <= x && x <= hi {
+        Some((x - lo).unsigned_abs() as usize)
     } else {
-        Found::Off
+        None
     }
 }
 
-// The number of z in the box of the n ranges from `at` on. x0 is the next coordinate, and the later ones move up one by one: z is read at
-// fixed places only, so that the compiler keeps the coordinates in registers and does not copy z in memory.
-pub fn index_in(s: &[u8], at: usize, n: usize, z: [Int; 4]) -> Found
+// The number of z in the box of the n ranges from `at` on.
+pub fn index_in(s: &[u8], at: usize, n: usize, z: [i64; 4]) -> Option<usize>
     requires { Boxed s.now at n }
     ensures { result ≡ number_in (box_at s.now at n) (point_of n z) }
 {
-    let mut left = n;
-    let mut p = at;
-    let mut e: usize = 0;
-    let mut x0 = z[0];
-    let mut x1 = z[1];
-    let mut x2 = z[2];
-    let x3 = z[3];
-    while left > 0 {
-        let d = digit(s, p, x0);
-        let Found::At(i) = d else {
-            return Found::Off;
-        };
-        e = e * side(s, p) + i;
-        x0 = x1;
-        x1 = x2;
-        x2 = x3;
-        p += 16;
-        left -= 1;
+    let mut e = 0;
+    for i in 0..n {
+        let p = at + 16 * i;
+        let d = digit(s, p, z[i])?;
+        e = e * side(s, p) + d;
     }
-    Found::At(e)
+    Some(e)
 }
 
 // The number of z in the box of the record at `place`.
-pub fn index(s: &[u8], place: usize, z: [Int; 4]) -> Found
+pub fn index(s: &[u8], place: usize, z: [i64; 4]) -> Option<usize>
     requires { Recorded s.now place × (size (box_of s.now place) ≤ 4096) }
     ensures { result ≡ number_in (box_of s.now place) (point_of (dimension_at s.now place) z) }
 {
@@ -78,44 +57,31 @@ pub fn index(s: &[u8], place: usize, z: [Int; 4]) -> Found
 }
 
 // The number that lies n above the least of the range at p.
-fn nth(s: &[u8], p: usize, n: usize) -> Int
+fn nth(s: &[u8], p: usize, n: usize) -> i64
     requires { Ranges s.now p 1 × (n ≤ 4096) }
-    ensures { result.v ≡ field s.now p +ℤ pos n }
+    ensures { result ≡ field s.now p +ℤ pos n }
 {
-    integer::add(integer::number_at(s, p), integer::of_usize(n))
+    number_at(s, p) + n as i64
 }
 
-// The point with the number i in the box of the n ranges from `at` on, from its last coordinate to its first. x0 is the one found last, and
-// those found before move down one by one: the compiler keeps them in registers.
-pub fn point_in(s: &[u8], at: usize, n: usize, i: usize) -> [Int; 4]
+// The point with the number i in the box of the n ranges from `at` on, from its last coordinate to its first.
+pub fn point_in(s: &[u8], at: usize, n: usize, i: usize) -> [i64; 4]
     requires { Boxed s.now at n × (i < size (box_at s.now at n)) }
     ensures { PointIn s.now at n i result }
 {
-    let zero = integer::of(0);
-    let mut left = n;
-    let mut p = at + 16 * n;
+    let mut z = [0; 4];
     let mut j = i;
-    let mut x0 = zero;
-    let mut x1 = zero;
-    let mut x2 = zero;
-    let mut x3 = zero;
-    while left > 0 {
-        p -= 16;
+    for k in (0..n).rev() {
+        let p = at + 16 * k;
         let w = side(s, p);
-        x3 = x2;
-        x2 = x1;
-        x1 = x0;
-        let low = j % w;
-        let high = j / w;
-        x0 = nth(s, p, low);
-        j = high;
-        left -= 1;
+        z[k] = nth(s, p, j % w);
+        j = j / w;
     }
-    [x0, x1, x2, x3]
+    z
 }
 
 // The point with the number i in the box of the record at `place`.
-pub fn point(s: &[u8], place: usize, i: usize) -> [Int; 4]
+pub fn point(s: &[u8], place: usize, i: usize) -> [i64; 4]
     requires { Recorded s.now place × (size (box_of s.now place) ≤ 4096) × (i < size (box_of s.now place)) }
     ensures { PointAt s.now place i result }
 {

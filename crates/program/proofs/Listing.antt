@@ -1,54 +1,64 @@
 -- The values of the input: how the code lists them, and what INPUT says of the list. A list that no sheet asks for is refused with the
 -- length that the sheet needs, whether a value is broken or there are too many. Assumes nothing.
 use mathlib.Core.Path.{◌≡◌, refl, sym, ap, ◌∙◌}
-use Prim.Native.Nat.{ℕ, zero, suc, ◌+◌, ◌-◌, ◌/◌, ◌%◌, ◌≤◌, ◌<◌}
+use Prim.Native.Nat.{ℕ, zero, suc, ◌+◌, ◌*◌, ◌/◌, ◌%◌, ◌≤◌, ◌<◌}
 use native.Mathlib.Omega.{arith}
 use native.Mathlib.Decide.{dec_lt}
 use mathlib.Core.Bool.{Bool, true, false}
-use mathlib.Core.List.{List, [], ◌∷◌}
-use lib.ListN.{length, take, drop}
-use lib.Seq.{sets, sets-eq, take_at}
+use mathlib.Core.List.{List, [], ◌∷◌, ◌++◌}
+use lib.ListN.{length, get_or, take, drop}
+use lib.Seq.{drop-drop, get_or-take, get_or-drop}
 use lib.IntN.{ℤ}
+use mir.Syntax.{w32}
+use mir.Val.{to_z}
+use Rattle.std.specs.Int.{from_le_bytes}
+use Rattle.std.specs.Simd.{first_chunks}
 use lib.Dec.{eqb}
 use borrow.Author.Tests.{eq-eqb, ne_eqb, eqb-true, eqb-false}
 use Rattle.alpha.specs.Answer.{Answer, accepted, refused, next, INPUT}
 use Rattle.alpha.specs.Sheet.{Sheet}
 use Rattle.alpha.specs.Run.{input_count, inputs}
 use Rattle.alpha.specs.Program.{word4, value4, values_at, inputs_from, report}
+use Rattle.alpha.specs.Field.{byte}
+use Rattle.integer.proofs.Complement.{to_z-value4}
 use Rattle.program.specs.Given.{Lists}
 
 -- ---- the list that the code makes
 
-pub values-more : (n : ℕ) (bs : List ℕ) (p : ℕ) → 0 < n → values_at n bs p ≡ value4 (word4 bs p) ∷ values_at (n - 1) bs (p + 4)
+-- the first values of all, and the next one
+pub values-next : (n : ℕ) (bs : List ℕ) (p : ℕ) → values_at (suc n) bs p ≡ values_at n bs p ++ (value4 (word4 bs (p + 4 * n)) ∷ [])
 unfolding values_at
-values-more zero bs p h = absurd (omega arith)
-values-more (suc n) bs p h = let e : suc n - 1 ≡ n = omega arith in rw e
-
-pub values-none : (n : ℕ) (bs : List ℕ) (p : ℕ) → n ≡ 0 → values_at n bs p ≡ []
-unfolding values_at
-values-none n bs p e = rw e
+values-next zero bs p = let e : p + 4 * 0 ≡ p = omega arith in rw e
+values-next (suc n) bs p =
+    let e : p + 4 + 4 * n ≡ p + 4 * suc n = omega arith in
+    ap (λ vs. value4 (word4 bs p) ∷ vs) (rw e at (values-next n bs (p + 4)))
 
 length-values : (n : ℕ) (bs : List ℕ) (p : ℕ) → length (values_at n bs p) ≡ n
 unfolding values_at
 length-values zero bs p = refl
 length-values (suc n) bs p = ap suc (length-values n bs (p + 4))
 
--- the values stored from the start are the first entries
-pub values-taken : (l : List ℤ) (n : ℕ) (bs : List ℕ) → n ≤ length l → take n (sets l 0 (values_at n bs 0)) ≡ values_at n bs 0
-values-taken l n bs h =
-    let vs = values_at n bs 0 in
-    let fits : 0 + length vs ≤ length l = omega (arith, length-values n bs 0) in
-    ap (take n) (sets-eq vs l 0 fits) ∙ take_at vs (drop (0 + length vs) l) n (length-values n bs 0)
+-- the bytes in fours, and a value read from its four
+chunk-at : (k n : ℕ) (bs : List ℕ) → k < n → get_or (first_chunks 4 n bs) k [] ≡ take 4 (drop (4 * k) bs)
+chunk-at k zero bs h = absurd (omega arith)
+chunk-at zero (suc n) bs h = refl
+chunk-at (suc k) (suc n) bs h =
+    let e : 4 + 4 * k ≡ 4 * suc k = omega arith in
+    chunk-at k n (drop 4 bs) (omega arith) ∙ ap (take 4) (drop-drop (4 * k) 4 bs ∙ ap (λ m. drop m bs) e)
 
-module _ (rest : List ℕ) (ins : List ℤ) where
-  pub lists-long : 16384 < length rest → length ins ≡ 4097 → Lists rest ins
-  lists-long h e = record { whole = λ w l. absurd (omega arith); broken = λ b. e; long = λ l. e }
+byte-at : (bs : List ℕ) (p k : ℕ) → k < 4 → get_or (take 4 (drop p bs)) k 0 ≡ get_or bs (p + k) 0
+byte-at bs p k h = get_or-take 4 (drop p bs) k 0 h ∙ get_or-drop p bs k 0
 
-  pub lists-broken : (length rest % 4 ≡ 0 → ⊥) → length ins ≡ 4097 → Lists rest ins
-  lists-broken h e = record { whole = λ w l. absurd (h w); broken = λ b. e; long = λ l. e }
-
-  pub lists-whole : length rest % 4 ≡ 0 → length rest ≤ 16384 → ins ≡ values_at (length rest / 4) rest 0 → Lists rest ins
-  lists-whole w h e = record { whole = λ _ _. e; broken = λ b. absurd (b w); long = λ l. absurd (omega arith) }
+pub value-read : (bs : List ℕ) (k n : ℕ) → k < n → to_z w32 (from_le_bytes w32 (get_or (first_chunks 4 n bs) k [])) ≡ value4 (word4 bs (4 * k))
+value-read bs k n h =
+    let four = take 4 (drop (4 * k) bs) in
+    let z : 4 * k + 0 ≡ 4 * k = omega arith in
+    let a : get_or four 0 0 ≡ byte bs (4 * k) = byte-at bs (4 * k) 0 (omega arith) ∙ ap (byte bs) z in
+    let b = byte-at bs (4 * k) 1 (omega arith) in
+    let c = byte-at bs (4 * k) 2 (omega arith) in
+    let d = byte-at bs (4 * k) 3 (omega arith) in
+    let word : from_le_bytes w32 four ≡ word4 bs (4 * k) = omega (arith, a, b, c, d) in
+    ap (λ xs. to_z w32 (from_le_bytes w32 xs)) (chunk-at k n bs h) ∙ ap (to_z w32) word ∙ to_z-value4 (word4 bs (4 * k))
 
 -- ---- INPUT
 

@@ -1,5 +1,6 @@
 -- What the run's answer says of the program's: a refusal is the program's, and where it accepts, its tables give the report.
 -- Assumes nothing.
+use Rattle.std.specs.Prelude.{Result, Ok, Err}
 use mathlib.Core.Path.{◌≡◌, refl, sym, ap, ◌∙◌}
 use Prim.Native.Nat.{ℕ, ◌≤◌}
 use native.Mathlib.Omega.{arith}
@@ -15,26 +16,13 @@ use Rattle.alpha.specs.Program.{inputs_from, report, framed}
 use Rattle.alpha.specs.Promise.{total_of, lent_after, Runs}
 use Rattle.alpha.specs.Verdict.{number_of, place_of, told}
 use Rattle.alpha.specs.declared.Refusal.{Refusal}
-use Rattle.alpha.specs.declared.Verdict.{Verdict}
-use Rattle.alpha.specs.declared.Verdict.TheVariants.{Accepted, Refused}
 use Rattle.laws.specs.Sheets.{sheet_of}
 use Rattle.laws.proofs.Checked.{check_accepts, accepted-total}
-use Rattle.accept.specs.Admits.{Admitted, Admits}
 use Rattle.run.proofs.Listing.{count-total}
 use Rattle.text.specs.Lines.{report_in}
 use Rattle.text.proofs.Lines.{report-told}
 use Rattle.program.specs.Given.{Lists}
 use Rattle.program.proofs.Listing.{from-listed}
-
--- ---- a sheet that was accepted is admitted again
-
-pub admitted-again : (bs tab inside : List ℕ) (n : ℕ) (r : Verdict) → accepted n ≡ total_of (check bs) → Admits bs tab inside r → Admitted bs tab inside
-admitted-again bs tab inside n (Accepted m) e a = a.admitted m refl
-admitted-again bs tab inside n (Refused why) e a =
-    let q = a.answer ∙ sym e in let z : ◌≡◌ {A = ℕ} 0 1 = cc in absurd (omega arith)
-
-pub total_is : (bs : List ℕ) (s : Sheet) (n : ℕ) → check bs ≡ accepted s → accepted n ≡ total_of (check bs) → n ≡ total s
-total_is bs s n c e = let q : accepted n ≡ accepted (total s) = e ∙ ap total_of c in cc
 
 -- ---- the run
 
@@ -122,18 +110,18 @@ module _ (sheet : List ℕ) (ins : List ℤ) where
 
 -- ---- the code's verdict
 
-module _ (sheet : List ℕ) (ins : List ℤ) (rest codes codes' : List ℕ) (values values' : List ℤ) (r : Verdict)
+module _ (sheet : List ℕ) (ins : List ℤ) (rest codes codes' : List ℕ) (values values' : List ℤ) (r : Result ℕ Refusal)
     (l : Lists rest ins) (c-many : length codes ≡ 4096) (v-many : length values ≡ 4096) (h : Runs sheet ins codes codes' values values' r) where
   answer-is : told r ≡ next (run sheet ins 4096 4096) (λ _. total_of (check sheet))
   answer-is = rw (c-many, v-many) at h.answer
 
-  pub refused-verdict : (why : Refusal) → r ≡ Refused why → framed sheet rest ≡ refused (number_of why) (place_of why)
+  pub refused-verdict : (why : Refusal) → r ≡ Err why → framed sheet rest ≡ refused (number_of why) (place_of why)
   refused-verdict why e = refused-framed sheet ins rest l (number_of why) (place_of why) (sym (ap told e) ∙ answer-is)
 
-  pub accepted-total-is : (n : ℕ) → r ≡ Accepted n → accepted n ≡ total_of (check sheet)
+  pub accepted-total-is : (n : ℕ) → r ≡ Ok n → accepted n ≡ total_of (check sheet)
   accepted-total-is n e = next_last (run sheet ins 4096 4096) (total_of (check sheet)) n (sym (ap told e) ∙ answer-is)
 
-  pub accepted-verdict : (n : ℕ) → r ≡ Accepted n → check sheet ≡ accepted (sheet_of sheet) →
+  pub accepted-verdict : (n : ℕ) → r ≡ Ok n → check sheet ≡ accepted (sheet_of sheet) →
       framed sheet rest ≡ accepted (report_in (sheet_of sheet) codes' values')
   accepted-verdict n e c =
       let k = rw (c-many, v-many) at h.codes_after in

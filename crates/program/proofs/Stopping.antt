@@ -4,13 +4,13 @@ use mathlib.Core.Path.{◌≡◌, refl, sym, ap, ◌∙◌}
 use Prim.Native.Nat.{ℕ, ◌+◌, ◌≤◌, ◌<◌}
 use native.Mathlib.Omega.{arith}
 use native.Mathlib.Decide.{dec_lt}
-use mathlib.Core.Bool.{Bool, true, false}
+use mathlib.Core.Bool.{Bool, true, false, true≢false}
 use mathlib.Core.List.{List}
 use lib.ListN.{length, take, drop, length-drop}
 use lib.Seq.{take_all, take-take, take-add, drop_at, get_or-take, length-take-le}
 use lib.IntN.{ℤ, pos, negsuc, nat_abs}
-use lib.Signed.{le_z, non_neg}
-use borrow.Author.Tests.{leb-true}
+use lib.Signed.{lt_z}
+use borrow.Author.Tests.{ltb-false}
 use Rattle.alpha.specs.Answer.{Answer, accepted, refused, next}
 use Rattle.alpha.specs.Field.{signed_of, field}
 use Rattle.alpha.specs.Sheet.{Sheet}
@@ -35,9 +35,9 @@ framed-long sheet rest other h g = go (check sheet) refl
         let few : input_count s ≤ 4096 = omega (arith, count-total s, accepted-total (check_accepts e).holds-all) in
         ap (λ a. next a (λ ins. accepted (report s ins))) (from-long s rest few h ∙ sym (from-long s other few g))
 
-small_size : (x : ℤ) → non_neg x ≡ true → le_z x (pos 65536) ≡ true → nat_abs x ≤ 65536
-small_size (pos n) p h = leb-true n 65536 h
-small_size (negsuc n) p h = let z : ◌≡◌ {A = ℕ} 0 1 = cc in absurd (omega arith)
+small_size : (x : ℤ) → lt_z (pos 65536) x ≡ false → lt_z x (pos 0) ≡ false → nat_abs x ≤ 65536
+small_size (pos n) h p = ltb-false 65536 n h
+small_size (negsuc n) h p = absurd (true≢false p)
 
 module _ (bs : List ℕ) (long : 81932 < length bs) where
   abbrev cut : List ℕ
@@ -65,23 +65,23 @@ module _ (bs : List ℕ) (long : 81932 < length bs) where
 
   -- the tests come out the same
   answered-cut : answered cut ≡ answered bs
-  answered-cut = go (le_z (field bs 0) (pos 65536)) (non_neg (field bs 0)) refl refl
+  answered-cut = go (lt_z (pos 65536) (field bs 0)) (lt_z (field bs 0) (pos 0)) refl refl
     where
       there : 8 ≤ length cut
       there = omega (arith, cut-length)
 
-      go : (small positive : Bool) → le_z (field bs 0) (pos 65536) ≡ small → non_neg (field bs 0) ≡ positive → answered cut ≡ answered bs
-      go false positive s p = (frame-long cut there (ap (λ x. le_z x (pos 65536)) field_cut ∙ s)).answer ∙ sym (frame-long bs (omega arith) s).answer
-      go true false s p =
-          (frame-negative cut there (ap (λ x. le_z x (pos 65536)) field_cut ∙ s) (ap non_neg field_cut ∙ p)).answer
-          ∙ sym (frame-negative bs (omega arith) s p).answer
-      go true true s p =
-          let few = small_size (field bs 0) p s in
+      go : (large negative : Bool) → lt_z (pos 65536) (field bs 0) ≡ large → lt_z (field bs 0) (pos 0) ≡ negative → answered cut ≡ answered bs
+      go true negative l n = frame-long cut there (ap (lt_z (pos 65536)) field_cut ∙ l) ∙ sym (frame-long bs (omega arith) l)
+      go false true l n =
+          frame-negative cut there (ap (lt_z (pos 65536)) field_cut ∙ l) (ap (λ x. lt_z x (pos 0)) field_cut ∙ n)
+          ∙ sym (frame-negative bs (omega arith) l n)
+      go false false l n =
+          let few = small_size (field bs 0) l n in
           let within : 8 + nat_abs (field cut 0) ≤ length cut = omega (arith, ap nat_abs field_cut, cut-length, few) in
-          answered-framed cut there (ap (λ x. le_z x (pos 65536)) field_cut ∙ s) (ap non_neg field_cut ∙ p) within
+          answered-framed cut there (ap (lt_z (pos 65536)) field_cut ∙ l) (ap (λ x. lt_z x (pos 0)) field_cut ∙ n) within
           ∙ ap (λ x. framed_at cut (nat_abs x)) field_cut
           ∙ framed-cut (nat_abs (field bs 0)) few
-          ∙ sym (answered-framed bs (omega arith) s p (omega (arith, few)))
+          ∙ sym (answered-framed bs (omega arith) l n (omega (arith, few)))
 
 -- what the program writes for an input that is cut off after 81,932 bytes is what it writes for the input
 pub program-stops : (bs : List ℕ) → program bs ≡ program (take 81932 bs)

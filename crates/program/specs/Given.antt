@@ -1,20 +1,14 @@
 -- What the code says of the program's input. Assumes nothing.
-use Rattle.std.specs.Prelude.{◌≡◌, ℕ, ◌-◌, ◌/◌, ◌%◌, ◌≤◌, ◌<◌, List, length, take, drop, ℤ}
-use Rattle.alpha.specs.Answer.{Answer, refused}
+use Rattle.std.specs.Prelude.{◌≡◌, ℕ, ◌/◌, ◌%◌, ◌≤◌, ◌<◌, List, length, ℤ, Result}
+use Rattle.alpha.specs.Answer.{next}
 use Rattle.alpha.specs.Program.{values_at, framed, answered}
-use Rattle.alpha.specs.Verdict.{number_of, place_of}
+use Rattle.alpha.specs.Verdict.{told}
+use Rattle.alpha.specs.declared.Refusal.{Refusal}
 use Rattle.program.specs.declared.input.Frame.{Frame}
-use Rattle.program.specs.declared.input.Frame.TheVariants.{Sheet, Refused}
 
--- what is answered to the input bs in that frame
-abbrev pub answer_in : List ℕ → Frame → Answer (List ℕ)
-answer_in bs (Sheet end) = framed (take (end - 8) (drop 8 bs)) (drop end bs)
-answer_in bs (Refused why) = refused (number_of why) (place_of why)
-
--- the frame of the input, and the sheet is within the input
-pub record Frames (bs : List ℕ) (r : Frame) : Type 0 where
-  pub answer : answered bs ≡ answer_in bs r
-  pub there : (end : ℕ) → r ≡ Sheet end → (8 ≤ end) × (end ≤ length bs)
+-- the frame of the input bs: what is answered is that of its parts, or a refusal
+abbrev pub Frames : List ℕ → Result Frame Refusal → Type 0
+Frames bs r = answered bs ≡ next (told r) (λ f. framed f.sheet.now f.values.now)
 
 -- a list that does for the values in these bytes: they themselves, or 4,097 entries where a value is broken or there are over 4,096
 pub record Lists (rest : List ℕ) (ins : List ℤ) : Type 0 where

@@ -1,41 +1,49 @@
 // What the program writes, for every input. Assumes nothing.
-ghost use Rattle.std.specs.Prelude.{◌≤◌, length};
-ghost use Rattle.alpha.specs.Program.{framed, printed};
-ghost use Rattle.text.specs.Wrote.{Wrote};
-ghost use Rattle.program.specs.Printed.{Prints};
+ghost use Rattle.alpha.specs.Program.{printed, answered};
+ghost use Rattle.text.specs.Wrote.{WroteFew, Room};
+ghost use Rattle.program.specs.Printed.{Prints, Reports};
 
-use super::input::{Frame, frame_of, values};
+use super::input::{frame_of, values};
 use super::output::report;
-use alpha::Verdict;
+use alpha::Refusal;
 use text::report::refusal;
+use text::writer::Writer;
 
-// The sheet's bytes, and those of the values.
-fn answer_framed(s: &[u8], rest: &[u8], out: &mut [u8]) -> usize
-    requires { 208910 ≤ length out.old }
-    ensures { Wrote out.old out.new 0 result (printed (framed s.now rest.now)) × (result ≤ 208910) }
+// The report of the run of the input's sheet on its values, or the refusal, with nothing written.
+fn reported(input: &[u8], w: &mut Writer<'_>) -> Result<(), Refusal>
+    requires { Room 208910 w.old }
+    ensures { Reports input.now w.old w.new result }
 {
-    let mut ins = [0i32; 4097];
-    let n = values(rest, &mut ins);
+    let frame = frame_of(input)?;
+    let mut list = [0i32; 4097];
+    let ins = values(frame.values, &mut list);
     let mut codes = [0u8; 4096];
     let mut numbers = [0i32; 4096];
-    let r = run::run(s, &ins[..n], &mut codes, &mut numbers);
-    match r {
-        Verdict::Refused(why) => refusal(why, out, 0),
-        Verdict::Accepted(total) => report(s, total, &codes, &numbers, out),
+    let total = run::run(frame.sheet, ins, &mut codes, &mut numbers)?;
+    report(frame.sheet, total, &codes, &numbers, w);
+    Ok(())
+}
+
+// The output to an input: the report, or the line of the refusal.
+fn respond(input: &[u8], w: &mut Writer<'_>)
+    requires { Room 208910 w.old }
+    ensures { WroteFew 208910 w.old w.new (printed (answered input.now)) }
+{
+    if let Err(why) = reported(input, w) {
+        refusal(why, w);
     }
 }
 
 // The output to an input, at the start of `out`, and how long it is. Where fewer than 208,910 bytes are lent nothing is written: no output
 // is longer.
+// A length and not the part of `out` itself is answered, since the promise speaks of what lies beyond it too.
 pub fn answer(input: &[u8], out: &mut [u8]) -> usize
     ensures { Prints input.now out.old out.new result }
 {
     if out.len() < 208910 {
         return 0;
     }
-    let f = frame_of(input);
-    match f {
-        Frame::Refused(why) => refusal(why, out, 0),
-        Frame::Sheet(end) => answer_framed(&input[8..end], &input[end..], out),
-    }
+    let mut w = Writer::new(out);
+    respond(input, &mut w);
+    w.written()
 }

@@ -1,25 +1,36 @@
 // The text of an accepted run. The sheet is checked once more for its table of places, which the run does not hand out.
 // Assumes nothing.
-ghost use Rattle.std.specs.Prelude.{◌≡◌, ◌≤◌, length};
+ghost use Rattle.std.specs.Prelude.{◌≡◌};
 ghost use Rattle.alpha.specs.Answer as Answer;
 ghost use Rattle.alpha.specs.Check.{check};
 ghost use Rattle.alpha.specs.Promise.{total_of};
 ghost use Rattle.laws.specs.Sheets.{sheet_of};
-ghost use Rattle.text.specs.Wrote.{Wrote};
+ghost use Rattle.text.specs.Wrote.{WroteFew, Room};
 ghost use Rattle.text.specs.Lines.{report_in};
+
+use sheet::table::Table;
+use text::report::Report;
+use text::writer::Writer;
 
 // The report of the run that answered `total` and filled the tables.
 pub fn report(
-    s: &[u8],
+    sheet: &[u8],
     total: usize,
     codes: &[u8; 4096],
     values: &[i32; 4096],
-    out: &mut [u8],
-) -> usize
-    requires { (Answer.accepted total ≡ total_of (check s.now)) × (208910 ≤ length out.old) }
-    ensures { Wrote out.old out.new 0 result (report_in (sheet_of s.now) codes.now values.now) × (result ≤ 208910) × (check s.now ≡ Answer.accepted (sheet_of s.now)) }
+    w: &mut Writer<'_>,
+)
+    requires { (Answer.accepted total ≡ total_of (check sheet.now)) × Room 208910 w.old }
+    ensures { WroteFew 208910 w.old w.new (report_in (sheet_of sheet.now) codes.now values.now) × (check sheet.now ≡ Answer.accepted (sheet_of sheet.now)) }
 {
-    let mut tab = [0usize; 102];
-    accept::judge(s, &mut tab);
-    text::report::report(s, &tab, total, codes, values, out, 0)
+    let mut tab = Table::new();
+    let _ = accept::judge(sheet, &mut tab);
+    let accepted = Report {
+        sheet,
+        tab: &tab,
+        total,
+        codes,
+        values,
+    };
+    accepted.write(w);
 }

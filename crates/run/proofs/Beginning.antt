@@ -1,15 +1,13 @@
--- The memo before the run: what is stored for an element by its byte, that the entries so far are those before the run, and that the
+-- The memo before the run: what is stored for an element, that the entries so far are those before the run, and that the
 -- memo is then ready and right. Assumes nothing.
-use mathlib.Core.Path.{◌≡◌, refl, sym, ap, ◌∙◌, subst}
+use mathlib.Core.Path.{◌≡◌, refl, sym, ap, ◌∙◌}
 use Prim.Native.Nat.{ℕ, zero, suc, ◌+◌, ◌≤◌, ◌<◌}
 use native.Mathlib.Decide.{ℕ_discrete}
 use native.Mathlib.Omega.{arith}
-use mathlib.Core.Bool.{Bool, true, false}
+use mathlib.Core.Bool.{Bool, true, false, ◌&&◌}
 use mathlib.Core.List.{List, [], ◌∷◌}
 use lib.ListN.{length, get_or, replicate, length-set, length-replicate}
 use lib.IntN.{ℤ, pos}
-use lib.Dec.{eqb}
-use borrow.Author.Tests.{eq-eqb, ne_eqb}
 use Rattle.alpha.specs.declared.Outcome.TheVariants.{Outside, Value}
 use Rattle.alpha.specs.Sheet.{Range, Sheet, Point}
 use Rattle.alpha.specs.Affine.{meets_all}
@@ -21,37 +19,23 @@ use Rattle.alpha.specs.Ask.{before, number_of}
 use Rattle.alpha.specs.Outcome.{Outcome, outside, value, inputs_before}
 use Rattle.laws.specs.Coded.{decoded}
 use Rattle.laws.specs.Sheets.{sheet_of}
-use Rattle.laws.proofs.Tests.{ifb-true, ifb-false}
 use Rattle.laws.proofs.Boxes.{index-point_at, point_at-in_box, read_box-ordered}
 use Rattle.laws.proofs.Elements.{element-at, number-of-element}
 use Rattle.laws.proofs.Growth.{outcome-outside, outcome-input}
 use Rattle.laws.proofs.Checked.{check_accepts}
 use Rattle.tree.specs.Ends.{EndsKept}
-use Rattle.domain.specs.Inside.{Inside, bit}
+use Rattle.domain.specs.Inside.{Inside}
 use Rattle.domain.specs.declared.Standing.TheVariants.{Holds}
 use Rattle.domain.specs.Standing.{standing}
 use Rattle.domain.proofs.Records.{VariableLaid}
-use Rattle.evaluate.specs.declared.Work.{Work}
-use Rattle.evaluate.specs.declared.Work.TheVariants.{Done, Deep}
-use Rattle.evaluate.specs.Memo.{element, Memo, code_in, code_at, saved_at, memo_of, sum, busy_one, count, Tells, Right, code_of, value_of, stored}
+use Rattle.std.specs.Prelude.{Ok, Err}
+use Rattle.evaluate.specs.Memo.{Work, element, Memo, code_in, code_at, saved_at, memo_of, sum, busy_one, count, Tells, Right, code_of, value_of, stored}
 use Rattle.evaluate.specs.Working.{element_at, outcomes, Bodied, Ready}
 use Rattle.evaluate.specs.Settling.{Idle}
 use Rattle.evaluate.proofs.Entries.{unmarked, answer-idle, answer-low, codes-many, values-many, entry-code}
 use Rattle.evaluate.proofs.Stores.{decide, code_same, code_other, value_same, value-other}
 use Rattle.run.specs.Starting.{first_answer, entry_place, start_answer, Started}
-
--- ---- by the byte
-
-module _ (byte : ℕ) (input : Bool) (x : ℤ) (m : ℕ) where
-  pub outside-first : (byte ≡ 1 → ⊥) → Done Outside ≡ first_answer (eqb byte 1) input x m
-  outside-first n = sym (ifb-false (eqb byte 1) _ _ (ne_eqb byte 1 n))
-
-  module _ (is : byte ≡ 1) where
-    pub input-first : input ≡ true → Done (Value (record { v = x })) ≡ first_answer (eqb byte 1) input x m
-    input-first b = sym (ifb-true (eqb byte 1) _ _ (eq-eqb byte 1 is) ∙ ifb-true input _ _ b)
-
-    pub other-first : input ≡ false → Deep m ≡ first_answer (eqb byte 1) input x m
-    other-first b = sym (ifb-true (eqb byte 1) _ _ (eq-eqb byte 1 is) ∙ ifb-false input _ _ b)
+use Rattle.sheet.specs.declared.table.Table.{Table}
 
 -- ---- tables of zeros
 
@@ -83,7 +67,7 @@ no-end-kept bs = record {
 
 -- ---- one element more
 
-module _ (bs tab : List ℕ) (v i : ℕ) (h : VariableLaid bs tab v) (low : i < size (variable (sheet_of bs) v).head.box) (inside : List ℕ)
+module _ (bs : List ℕ) (tab : Table) (v i : ℕ) (h : VariableLaid bs tab v) (low : i < size (variable (sheet_of bs) v).head.box) (inside : List Bool)
     (I : Inside (sheet_of bs) inside) where
   abbrev sheet : Sheet
   sheet = sheet_of bs
@@ -100,18 +84,14 @@ module _ (bs tab : List ℕ) (v i : ℕ) (h : VariableLaid bs tab v) (low : i < 
   in-box : in_box box (point_at box i) ≡ true
   in-box = point_at-in_box box i (read_box-ordered box h.box_read) low
 
-  -- its byte says whether it lies in its declared domain
-  domain-is : eqb (get_or inside e 0) 1 ≡ in_domain (variable sheet v) (point_at box i)
+  -- the table says whether it lies in its declared domain
+  domain-is : get_or inside e false ≡ in_domain (variable sheet v) (point_at box i)
   domain-is =
       let n : number_of sheet v (point_at box i) ≡ e = omega (arith, index-point_at box i low) in
-      ap (λ b. eqb b 1) (rw n at (I.says v (point_at box i) h.known in-box)) ∙ go (meets_all (variable sheet v).declared (point_at box i)) refl
-    where
-      go : (b : Bool) → meets_all (variable sheet v).declared (point_at box i) ≡ b → eqb (bit b) 1 ≡ in_domain (variable sheet v) (point_at box i)
-      go true m = sym (rw (in-box, m) refl)
-      go false m = sym (rw (in-box, m) refl)
+      rw n at (I.says v (point_at box i) h.known in-box) ∙ sym (ap (λ b. b && meets_all (variable sheet v).declared (point_at box i)) in-box)
 
   answer-is : (ins : List ℤ) →
-      first_answer (eqb (get_or inside e 0) 1) (is_input (variable sheet v)) (get_or ins (inputs_before sheet v + i) (pos 0)) e
+      first_answer (get_or inside e false) (is_input (variable sheet v)) (get_or ins (inputs_before sheet v + i) (pos 0)) e
       ≡ start_answer sheet ins (element_at sheet e) e
   answer-is ins =
       let place : inputs_before sheet v + i ≡ inputs_before sheet v + index box (point_at box i) =
@@ -122,10 +102,10 @@ module _ (bs tab : List ℕ) (v i : ℕ) (h : VariableLaid bs tab v) (low : i < 
 
   module _ (ins : List ℤ) (memo : Memo) (S : Started sheet ins memo e) (input : Bool) (same : input ≡ is_input (variable sheet v)) where
     abbrev answer : Work
-    answer = first_answer (eqb (get_or inside e 0) 1) input (get_or ins (inputs_before sheet v + i) (pos 0)) e
+    answer = first_answer (get_or inside e false) input (get_or ins (inputs_before sheet v + i) (pos 0)) e
 
     is-first : answer ≡ start_answer sheet ins (element_at sheet e) e
-    is-first = ap (λ b. first_answer (eqb (get_or inside e 0) 1) b (get_or ins (inputs_before sheet v + i) (pos 0)) e) same ∙ answer-is ins
+    is-first = ap (λ b. first_answer (get_or inside e false) b (get_or ins (inputs_before sheet v + i) (pos 0)) e) same ∙ answer-is ins
 
     in_codes : e < length memo.codes
     in_codes = omega (arith, S.codes_long, h.few)
@@ -155,9 +135,6 @@ module _ (bs tab : List ℕ) (v i : ℕ) (h : VariableLaid bs tab v) (low : i < 
           (λ other. value-other memo e (code_of answer) (value_of answer) m other ∙ S.value m (upto m l other));
     }
 
-pub started-at : (s : Sheet) (ins : List ℤ) (memo : Memo) (m n : ℕ) → m ≡ n → Started s ins memo m → Started s ins memo n
-started-at s ins memo m n e S = subst (Started s ins memo) e S
-
 -- ---- the memo before the run
 
 -- no entry is in progress
@@ -186,10 +163,11 @@ module _ (s : Sheet) (ins : List ℤ) (memo : Memo) (few : total s ≤ 4096) (S 
     here = element_at s m
 
     first-cases : (P : Work → Type 0) →
-        (in_domain (variable s here.who) here.at ≡ false → P (Done Outside)) →
+        (in_domain (variable s here.who) here.at ≡ false → P (Ok Outside)) →
         (in_domain (variable s here.who) here.at ≡ true → is_input (variable s here.who) ≡ true →
-        P (Done (Value (record { v = get_or ins (entry_place s here) (pos 0) })))) →
-        (in_domain (variable s here.who) here.at ≡ true → is_input (variable s here.who) ≡ false → P (Deep m)) → P (start_answer s ins here m)
+        P (Ok (Value (get_or ins (entry_place s here) (pos 0))))) →
+        (in_domain (variable s here.who) here.at ≡ true → is_input (variable s here.who) ≡ false →
+        P (Err (record { element = m }))) → P (start_answer s ins here m)
     first-cases P f g k = go (in_domain (variable s here.who) here.at) (is_input (variable s here.who)) refl refl
       where
         go : (d i : Bool) → in_domain (variable s here.who) here.at ≡ d → is_input (variable s here.who) ≡ i →

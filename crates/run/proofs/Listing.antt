@@ -7,14 +7,21 @@ use mathlib.Core.Bool.{Bool, true, false}
 use mathlib.Core.List.{List, [], ◌∷◌}
 use lib.ListN.{length, get_or, take, drop, length-drop, drop_of_length-le}
 use lib.Seq.{drop-cons, drop-drop, length-take-le}
-use lib.IntN.{ℤ, pos}
+use lib.IntN.{ℤ, pos, negsuc}
 use lib.Dec.{eqb}
-use borrow.Author.Tests.{eqb-true, eq-eqb}
+use lib.Signed.{lt_z}
+use borrow.Author.Tests.{eqb-true, eq-eqb, ltb-true, ltb-false, le-leb, lt-leb}
 use Rattle.alpha.specs.Pick.{ifb}
 use Rattle.alpha.specs.Answer.{Answer, accepted, refused, next, INPUT}
-use Rattle.alpha.specs.Sheet.{Sort.integer, Sort.boolean, Sheet}
+use Rattle.alpha.specs.Sheet.{Sort.boolean, Sheet}
 use Rattle.alpha.specs.Box.{within, size}
-use Rattle.alpha.specs.Read.{kind_of, sort_of}
+use Rattle.alpha.specs.declared.kind.Kind.{Kind}
+use Rattle.alpha.specs.declared.kind.Kind.TheVariants.{Input, Output, Local}
+use Rattle.alpha.specs.declared.kind.Sort.{Sort}
+use Rattle.alpha.specs.declared.kind.Sort.TheVariants.{Integer, Boolean}
+use Rattle.alpha.specs.contracts.kind.Kind.{the_type as the-kind}
+use Rattle.alpha.specs.Kinds.{kind_meant, sort_meant}
+use denote.Enum.Bare.{sameb}
 use Rattle.alpha.specs.Holds.{no_variable, variable, is_input, is_input_kind}
 use Rattle.alpha.specs.Check.{total}
 use Rattle.alpha.specs.Outcome.{inputs_before}
@@ -22,9 +29,6 @@ use Rattle.alpha.specs.Run.{input_count, bits, entries_of, entries, inputs}
 use Rattle.laws.proofs.Tests.{true-not-false, ifb-true, ifb-false}
 use Rattle.alpha.specs.Verdict.{number_of, place_of}
 use Rattle.alpha.specs.declared.Refusal.{Refusal}
-use Rattle.tree.specs.declared.Ruling.{Ruling}
-use Rattle.tree.specs.declared.Ruling.TheVariants.{Refused}
-use Rattle.tree.specs.Ruled.{ruled}
 use Rattle.run.specs.Entries.{input_size, entries_at}
 
 -- ---- how many entries
@@ -75,22 +79,17 @@ count-total (x ∷ s) = go (is_input x) (count-total s)
     go true e = omega (arith, e)
     go false e = omega (arith, e)
 
--- ---- an input's entries by its type's number
+-- ---- an input's entries by its type
 
-pub integer-sort : (t : ℕ) → t ≡ 0 → sort_of t ≡ integer
-integer-sort t e = rw e refl
+pub boolean-sort : (t : Sort) → (t ≡ Integer → ⊥) → sort_meant t ≡ boolean
+boolean-sort Integer n = absurd (n refl)
+boolean-sort Boolean n = refl
 
-pub boolean-sort : (t : ℕ) → t ≤ 1 → (t ≡ 0 → ⊥) → sort_of t ≡ boolean
-boolean-sort zero h n = absurd (n refl)
-boolean-sort (suc zero) h n = refl
-boolean-sort (suc (suc t)) h n = absurd (omega arith)
-
--- the test of a kind's number
-pub kind-test : (k : ℕ) → k ≤ 2 → is_input_kind (kind_of k) ≡ eqb k 0
-kind-test zero h = refl
-kind-test (suc zero) h = refl
-kind-test (suc (suc zero)) h = refl
-kind-test (suc (suc (suc k))) h = absurd (omega arith)
+-- the test of a kind
+pub kind-test : (k : Kind) (b : Bool) → b ≡ sameb the-kind k Input → is_input_kind (kind_meant k) ≡ b
+kind-test Input b e = sym e
+kind-test Output b e = sym e
+kind-test Local b e = sym e
 
 module _ (s : Sheet) (v : ℕ) where
   pub size-input : is_input (variable s v) ≡ true → size (variable s v).head.box ≡ input_size s v
@@ -100,14 +99,6 @@ module _ (s : Sheet) (v : ℕ) where
   size-other e = sym (ifb-false (is_input (variable s v)) _ _ e)
 
   module _ (ins : List ℤ) where
-    pub entries_none : is_input (variable s v) ≡ false → accepted tt ≡ entries_at s ins v
-    entries_none e = sym (ifb-false (is_input (variable s v)) _ _ e)
-
-    pub entries-integer : is_input (variable s v) ≡ true → (variable s v).head.sort ≡ integer → accepted tt ≡ entries_at s ins v
-    entries-integer e t =
-        sym (ifb-true (is_input (variable s v)) _ _ e
-        ∙ ap (λ k. entries_of k (inputs_before s v) (take (size (variable s v).head.box) (drop (inputs_before s v) ins))) t)
-
     pub entries-boolean : is_input (variable s v) ≡ true → (variable s v).head.sort ≡ boolean →
         bits (inputs_before s v) (take (size (variable s v).head.box) (drop (inputs_before s v) ins)) ≡ entries_at s ins v
     entries-boolean e t =
@@ -132,13 +123,23 @@ part-few a b n xs l h k = omega (arith, length-take-le (b - a) (drop a xs) (omeg
 abbrev pub BitsFrom : ℕ → List ℤ → ℕ → Type 0
 BitsFrom first part i = bits (first + i) (drop i part) ≡ bits first part
 
-pub bits-start : (first : ℕ) (part : List ℤ) → BitsFrom first part 0
-bits-start first part = let e : first + 0 ≡ first = omega arith in ap (λ n. bits n part) e
-
 bits-cons : (k i : ℕ) (part : List ℤ) → i < length part →
     bits k (drop i part) ≡ ifb (within (pos 0) (pos 1) (get_or part i (pos 0))) (λ _. bits (suc k) (drop (suc i) part)) (λ _. refused INPUT k)
 unfolding bits
 bits-cons k i part h = ap (bits k) (drop-cons part i (pos 0) h)
+
+-- the two tests of an entry
+pub under-bit : (x : ℤ) → lt_z x (pos 0) ≡ true → within (pos 0) (pos 1) x ≡ false
+under-bit (pos n) e = absurd (omega (arith, ltb-true n 0 e))
+under-bit (negsuc n) e = refl
+
+pub over-bit : (x : ℤ) → lt_z (pos 1) x ≡ true → within (pos 0) (pos 1) x ≡ false
+over-bit (pos n) e = rw (le-leb 0 n (omega arith), lt-leb n 1 (ltb-true 1 n e)) refl
+over-bit (negsuc n) e = refl
+
+pub one-bit : (x : ℤ) → lt_z x (pos 0) ≡ false → lt_z (pos 1) x ≡ false → within (pos 0) (pos 1) x ≡ true
+one-bit (pos n) e f = rw (le-leb 0 n (omega arith), le-leb n 1 (ltb-false 1 n f)) refl
+one-bit (negsuc n) e f = true-not-false {b = true} refl e
 
 module _ (first i : ℕ) (part : List ℤ) (h : i < length part) (inv : BitsFrom first part i) where
   pub bits-fail : within (pos 0) (pos 1) (get_or part i (pos 0)) ≡ false → refused INPUT (first + i) ≡ bits first part
@@ -159,9 +160,6 @@ bits-end first i part h inv = sym (ap (bits (first + i)) (drop_of_length-le part
 -- what the variables from v on say is what all say
 abbrev pub EntriesFrom : Sheet → List ℤ → ℕ → Type 0
 EntriesFrom s ins v = entries (drop v s) (inputs_before s v) (drop (inputs_before s v) ins) ≡ entries s 0 ins
-
-pub entries-start : (s : Sheet) (ins : List ℤ) → EntriesFrom s ins 0
-entries-start s ins = refl
 
 entries-cons : (s : Sheet) (v i : ℕ) (l : List ℤ) → v < length s → entries (drop v s) i l ≡
     ifb (is_input (variable s v))
@@ -206,8 +204,8 @@ module _ (s : Sheet) (ins : List ℤ) (v : ℕ) (h : v < length s) (inv : Entrie
       sym (entries-one s ins v h ∙ ap (λ r. next r (λ _. entries (drop (suc v) s) (inputs_before s (suc v)) (drop (inputs_before s (suc v)) ins))) e)
       ∙ inv
 
-  pub entries-fail : (r : Ruling) {why : Refusal} → r ≡ Refused why → ruled r ≡ entries_at s ins v → ruled r ≡ entries s 0 ins
-  entries-fail r {why} is e = ap ruled is ∙ failed (number_of why) (place_of why) (sym e ∙ ap ruled is)
+  pub entries-fail : (why : Refusal) → refused (number_of why) (place_of why) ≡ entries_at s ins v → refused (number_of why) (place_of why) ≡ entries s 0 ins
+  entries-fail why e = failed (number_of why) (place_of why) (sym e)
 
   pub entries-on : entries_at s ins v ≡ accepted tt → EntriesFrom s ins (v + 1)
   entries-on e =

@@ -1,4 +1,5 @@
 -- What the run promises, way by way: each refusal in its order, and both tables. Assumes nothing.
+use Rattle.std.specs.Prelude.{Result, Ok, Err}
 use mathlib.Core.Path.{◌≡◌, refl, sym, ap, ◌∙◌}
 use Prim.Native.Nat.{ℕ, ◌+◌, ◌-◌, ◌≤◌, ◌<◌}
 use native.Mathlib.Decide.{dec_lt}
@@ -15,8 +16,7 @@ use Rattle.alpha.specs.Check.{Element, check, elements, total}
 use Rattle.alpha.specs.Run.{inputs, room, code_of, value_of, outcome_at, Tables, tables, admitted, run}
 use Rattle.alpha.specs.Verdict.{told, number_of, place_of}
 use Rattle.alpha.specs.declared.Refusal.{Refusal}
-use Rattle.alpha.specs.declared.Verdict.{Verdict}
-use Rattle.alpha.specs.declared.Verdict.TheVariants.{Accepted, Refused}
+use Rattle.alpha.specs.declared.Refusal.TheVariants.{Room}
 use Rattle.alpha.specs.Promise.{total_of, lent_after, Runs}
 use Rattle.laws.proofs.Tests.{ifb-true, ifb-false}
 use Rattle.laws.proofs.Elements.{get_or-map_below, length-elements}
@@ -68,7 +68,7 @@ module _ (bs : List ℕ) (ins : List ℤ) (codes : List ℕ) (values : List ℤ)
   abbrev ran : Answer Tables
   ran = run bs ins (length codes) (length values)
 
-  refused-runs : (n p : ℕ) → ran ≡ refused n p → (r : Verdict) → told r ≡ refused n p → Runs bs ins codes codes values values r
+  refused-runs : (n p : ℕ) → ran ≡ refused n p → (r : Result ℕ Refusal) → told r ≡ refused n p → Runs bs ins codes codes values values r
   refused-runs n p is r e = record {
     answer = e ∙ sym (ap (λ a. next a (λ _. total_of (check bs))) is);
     codes_after = sym (ap (λ a. lent_after a (λ t. t.codes) codes) is);
@@ -76,32 +76,33 @@ module _ (bs : List ℕ) (ins : List ℤ) (codes : List ℕ) (values : List ℤ)
   }
 
   -- the sheet is refused
-  pub unread-runs : (r : Verdict) {why : Refusal} → r ≡ Refused why → told r ≡ total_of (check bs) → Runs bs ins codes codes values values r
-  unread-runs r {why} is e = go (check bs) refl (sym e ∙ ap told is)
+  pub unread-runs : (why : Refusal) → refused (number_of why) (place_of why) ≡ total_of (check bs) → Runs bs ins codes codes values values (Err why)
+  unread-runs why e = go (check bs) refl (sym e)
     where
-      go : (a : Answer Sheet) → check bs ≡ a → total_of a ≡ refused (number_of why) (place_of why) → Runs bs ins codes codes values values r
+      go : (a : Answer Sheet) → check bs ≡ a → total_of a ≡ refused (number_of why) (place_of why) → Runs bs ins codes codes values values (Err why)
       go (accepted s) q f = let x : ◌≡◌ {A = ℕ} 0 1 = cc in absurd (omega arith)
-      go (refused n p) q f = refused-runs n p (run-unread bs ins (length codes) (length values) n p q) r (ap told is ∙ sym f)
+      go (refused n p) q f = refused-runs n p (run-unread bs ins (length codes) (length values) n p q) (Err why) (sym f)
 
   module _ (s : Sheet) (is : check bs ≡ accepted s) where
-    pub inputs-runs : (why : Refusal) → refused (number_of why) (place_of why) ≡ inputs s ins → Runs bs ins codes codes values values (Refused why)
+    pub inputs-runs : (why : Refusal) → refused (number_of why) (place_of why) ≡ inputs s ins → Runs bs ins codes codes values values (Err why)
     inputs-runs why e =
         refused-runs (number_of why) (place_of why) (run-inputs bs ins (length codes) (length values) s is (number_of why) (place_of why) (sym e))
-        (Refused why) refl
+        (Err why) refl
 
     -- the total that the check answered
     pub total_is : (n : ℕ) → accepted n ≡ total_of (check bs) → n ≡ total s
     total_is n e = let f : accepted n ≡ accepted (total s) = e ∙ ap total_of is in cc
 
     module _ (taken : accepted tt ≡ inputs s ins) (n : ℕ) (many : n ≡ total s) where
-      pub codes-runs : length codes < n → (r : Verdict) → told r ≡ refused ROOM n → Runs bs ins codes codes values values r
-      codes-runs h r e =
-          refused-runs ROOM (total s) (run-codes bs ins (length codes) (length values) s is (sym taken) (omega (arith, many))) r (e ∙ ap (refused ROOM) many)
+      pub codes-runs : length codes < n → Runs bs ins codes codes values values (Err (Room n))
+      codes-runs h =
+          refused-runs ROOM (total s) (run-codes bs ins (length codes) (length values) s is (sym taken) (omega (arith, many))) (Err (Room n))
+          (ap (refused ROOM) many)
 
-      pub values-runs : n ≤ length codes → length values < n → (r : Verdict) → told r ≡ refused ROOM n → Runs bs ins codes codes values values r
-      values-runs h k r e =
+      pub values-runs : n ≤ length codes → length values < n → Runs bs ins codes codes values values (Err (Room n))
+      values-runs h k =
           refused-runs ROOM (total s) (run-values bs ins (length codes) (length values) s is (sym taken) (omega (arith, many)) (omega (arith, many)))
-          r (e ∙ ap (refused ROOM) many)
+          (Err (Room n)) (ap (refused ROOM) many)
 
       -- ---- both tables
 
@@ -149,7 +150,7 @@ module _ (bs : List ℕ) (ins : List ℤ) (codes : List ℕ) (values : List ℤ)
                     ∙ get_or-drop n old (m - n) d
                     ∙ ap (λ i. get_or old i d) at)
 
-        pub all_runs : Runs bs ins codes codes' values values' (Accepted n)
+        pub all_runs : Runs bs ins codes codes' values values' (Ok n)
         unfolding code number
         all_runs =
             let done = run-all bs ins (length codes) (length values) s is (sym taken) (omega (arith, many)) (omega (arith, many)) in

@@ -1,14 +1,11 @@
 -- The tables that a run fills from the memo: for every input list whose outcomes the memo's entries are right about. Assumes nothing.
 use Rattle.std.specs.Prelude.{◌≡◌, ℕ, ◌+◌, ◌≤◌, ◌<◌, List, length, get_or, ℤ, pos}
-use Rattle.alpha.specs.declared.Outcome as Declared
 use Rattle.alpha.specs.Sheet.{Sheet}
 use Rattle.alpha.specs.Box.{size}
 use Rattle.alpha.specs.Holds.{variable}
 use Rattle.alpha.specs.Check.{total}
 use Rattle.alpha.specs.Run.{code_of, value_of, outcome_at}
 use Rattle.alpha.specs.Ask.{before}
-use Rattle.laws.specs.Sheets.{vars_of, sheet_of}
-use Rattle.integer.specs.Range as Range
 use Rattle.evaluate.specs.Memo.{Memo, Right}
 use Rattle.evaluate.specs.Working.{element_at, outcomes, Ready}
 use Rattle.evaluate.specs.Settling.{Idle}
@@ -42,18 +39,12 @@ pub record FillsAll (s : Sheet) (memo : Memo) (n : ℕ) (codes codes' : List ℕ
 
 -- ---- what is required
 
--- an outcome is put at i of two tables, which have room there
-pub record Puts (o : Declared.Outcome) (codes : List ℕ) (values : List ℤ) (i : ℕ) : Type 0 where
-  pub small : Range.Small o
-  pub in_codes : i < length codes
-  pub in_values : i < length values
-
 -- the two parts are the stretch of variable v, and no element is in progress
-pub record Stretch (bs : List ℕ) (memo : Memo) (v : ℕ) (codes : List ℕ) (values : List ℤ) : Type 0 where
+pub record Stretch (s : Sheet) (memo : Memo) (v : ℕ) (codes : List ℕ) (values : List ℤ) : Type 0 where
   pub idle : Idle memo
-  pub known : v < vars_of bs
-  pub codes_long : length codes ≡ size (variable (sheet_of bs) v).head.box
-  pub values_long : length values ≡ size (variable (sheet_of bs) v).head.box
+  pub known : v < length s
+  pub codes_long : length codes ≡ size (variable s v).head.box
+  pub values_long : length values ≡ size (variable s v).head.box
 
 -- both tables have an entry for each element, and none is in progress
 pub record Room (s : Sheet) (memo : Memo) (codes : List ℕ) (values : List ℤ) : Type 0 where

@@ -1,5 +1,5 @@
 -- The memo before the run. Assumes nothing.
-use Rattle.std.specs.Prelude.{◌≡◌, ℕ, ◌+◌, ◌≤◌, ◌<◌, Bool, List, length, get_or, ℤ, pos}
+use Rattle.std.specs.Prelude.{◌≡◌, Ok, Err, ℕ, ◌+◌, ◌≤◌, ◌<◌, Bool, List, length, get_or, ℤ, pos}
 use Rattle.alpha.specs.declared.Outcome.TheVariants.{Outside, Value}
 use Rattle.alpha.specs.Pick.{ifb}
 use Rattle.alpha.specs.Sheet.{Sheet}
@@ -11,16 +11,14 @@ use Rattle.alpha.specs.Run.{input_count}
 use Rattle.alpha.specs.Outcome.{inputs_before}
 use Rattle.laws.specs.Sheets.{vars_of, sheet_of}
 use Rattle.tree.specs.Formed.{Formed}
-use Rattle.domain.specs.Inside.{Inside}
-use Rattle.evaluate.specs.declared.Work.{Work}
-use Rattle.evaluate.specs.declared.Work.TheVariants.{Done, Deep}
-use Rattle.evaluate.specs.Memo.{busy, unknown, Memo, code_at, value_at, code_of, value_of}
+use Rattle.domain.specs.declared.Ground.{Ground}
+use Rattle.evaluate.specs.Memo.{Work, busy, unknown, Memo, code_at, value_at, code_of, value_of}
 use Rattle.evaluate.specs.Working.{element_at}
 
 -- what is stored of element m, by whether it lies in its declared domain and whether it is an input's, whose entry of the list is x: any
 -- other has to be worked out
 abbrev pub first_answer : Bool → Bool → ℤ → ℕ → Work
-first_answer domain input x m = ifb domain (λ _. ifb input (λ _. Done (Value (record { v = x }))) (λ _. Deep m)) (λ _. Done Outside)
+first_answer domain input x m = ifb domain (λ _. ifb input (λ _. Ok (Value (x))) (λ _. Err (record { element = m }))) (λ _. Ok Outside)
 
 -- where an element's entry in the input list stands
 abbrev pub entry_place : Sheet → Element → ℕ
@@ -42,10 +40,9 @@ pub record Started (s : Sheet) (ins : List ℤ) (memo : Memo) (n : ℕ) : Type 0
 
 -- ---- what is required
 
-pub record Startable (bs tab inside : List ℕ) (ins : List ℤ) : Type 0 where
-  pub formed : Formed bs tab
-  pub inside_is : Inside (sheet_of bs) inside
-  pub many : length ins ≡ input_count (sheet_of bs)
+pub record Startable (g : Ground) (ins : List ℤ) : Type 0 where
+  pub formed : Formed g.sheet.now g.table.now
+  pub many : length ins ≡ input_count (sheet_of g.sheet.now)
 
 -- the entries of the variables before v are those before the run
 pub record StartedBefore (bs : List ℕ) (ins : List ℤ) (memo : Memo) (v : ℕ) : Type 0 where

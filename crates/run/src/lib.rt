@@ -4,12 +4,14 @@
 
 ghost use Rattle.alpha.specs.Promise.{Runs};
 
-use alpha::{Refusal, Verdict};
+use alpha::Refusal;
+use domain::Ground;
+use evaluate::Evaluator;
 use fill::fill_all;
 use inputs::inputs;
+use sheet::table::Table;
 use sheet::too_long;
 use start::start;
-use tree::Ruling;
 use tree::ends::keep_all;
 
 mod fill;
@@ -17,36 +19,34 @@ mod inputs;
 mod start;
 
 // The element total, with both tables filled from their start, or a refusal, with neither changed.
-pub fn run(s: &[u8], ins: &[i32], codes: &mut [u8], values: &mut [i32]) -> Verdict
+pub fn run(s: &[u8], ins: &[i32], codes: &mut [u8], values: &mut [i32]) -> Result<usize, Refusal>
     ensures { Runs s.now ins.now codes.old codes.new values.old values.new result }
 {
     if too_long(s) {
-        return Verdict::Refused(Refusal::Long);
+        return Err(Refusal::Long);
     }
-    let mut tab = [0usize; 102];
-    let formed = accept::form(s, &mut tab);
-    let Verdict::Accepted(count) = formed else {
-        return formed;
+    let mut tab = Table::new();
+    let count = accept::form(s, &mut tab)?;
+    let mut inside = [false; 4096];
+    let total = accept::admit(s, &tab, count, &mut inside)?;
+    let ground = Ground {
+        sheet: s,
+        table: &tab,
+        inside: &inside,
     };
-    let mut inside = [0u8; 4096];
-    let judged = accept::admit(s, &tab, count, &mut inside);
-    let Verdict::Accepted(total) = judged else {
-        return judged;
-    };
-    let r = inputs(s, &tab, ins);
-    if let Ruling::Refused(why) = r {
-        return Verdict::Refused(why);
-    }
-    if codes.len() < total {
-        return Verdict::Refused(Refusal::Room(total));
-    }
-    if values.len() < total {
-        return Verdict::Refused(Refusal::Room(total));
+    inputs(&ground, ins)?;
+    if codes.len() < total || values.len() < total {
+        return Err(Refusal::Room(total));
     }
     let mut ends = [0u16; 8192];
     keep_all(s, &tab, &mut ends);
     let mut memo = [0u64; 4096];
-    start(s, &tab, &inside, ins, &mut memo);
-    fill_all(s, &tab, &inside, &ends, &mut memo, codes, values);
-    Verdict::Accepted(total)
+    start(&ground, ins, &mut memo);
+    let mut evaluator = Evaluator {
+        ground,
+        ends: &ends,
+        memo: &mut memo,
+    };
+    fill_all(&mut evaluator, codes, values);
+    Ok(total)
 }

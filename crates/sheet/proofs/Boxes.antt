@@ -1,11 +1,11 @@
--- Boxes as they are read: the ranges that stand where a reader passed, the sizes of their numbers, and the number of points, which is
+-- Boxes as they are read: the ranges that stand where a reader told, the sizes of their numbers, and the number of points, which is
 -- multiplied up range by range and stopped over 4,096. Assumes nothing.
 use mathlib.Core.Path.{◌≡◌, sym, ap, ◌∙◌}
 use mathlib.Core.Bool.{true}
 use mathlib.Core.List.{List, [], ◌∷◌}
 use Prim.Native.Nat.{ℕ, zero, suc, ◌+◌, ◌-◌, ◌*◌, ◌≤◌, ◌<◌}
 use native.Mathlib.Omega.{arith}
-use native.Mathlib.Nat.{mul_assoc, mul-one, one-mul, le-mul_of_pos_right}
+use native.Mathlib.Nat.{mul_assoc, mul-one, le-mul_of_pos_right}
 use borrow.Author.Tests.{le-leb, lt-leb, leb-true}
 use lib.ListN.{length}
 use lib.IntN.{ℤ, pos, negsuc, neg_ℤ, nat_abs}
@@ -29,6 +29,14 @@ pub high-size : (lo hi : ℤ) → nat_abs lo ≤ 32768 → within lo (pos 32767)
 high-size lo (pos n) k e = let h = leb-true n 32767 (within-true lo (pos 32767) (pos n) e).1 in omega arith
 high-size (pos m) (negsuc n) k e = absurd (let z : ◌≡◌ {A = ℕ} 0 1 = cc in omega arith)
 high-size (negsuc m) (negsuc n) k e = let h = leb-true n m (within-true (negsuc m) (pos 32767) (negsuc n) e).0 in omega arith
+
+-- the ends of a range that stands at p
+pub ends_small : {bs : List ℕ} {p : ℕ} → Ranges bs p 1 → nat_abs (field bs (p + 8)) + nat_abs (field bs p) ≤ 65536
+ends_small {bs} {p} h =
+    let here : p + 16 * 0 ≡ p = omega arith in
+    let low = low-size (field bs p) (rw here at (h.low 0 (omega arith))) in
+    let high = high-size (field bs p) (field bs (p + 8)) low (rw here at (h.high 0 (omega arith))) in
+    omega arith
 
 -- ---- ranges that were read
 
@@ -130,12 +138,16 @@ ranges-first bs p n h r = record {
   high = λ i k. r.high i (omega arith);
 }
 
--- and its numbers
-pub first-sizes : (bs : List ℕ) (p : ℕ) → Ranges bs p 1 → (nat_abs (field bs p) ≤ 32768) × (nat_abs (field bs (p + 8)) ≤ 32768)
-first-sizes bs p r =
-    let e : p + 16 * 0 ≡ p = omega arith in
-    let lo = low-size (field bs p) (rw e at (r.low 0 (omega arith))) in
-    (lo, high-size (field bs p) (field bs (p + 8)) lo (rw e at (r.high 0 (omega arith))))
+-- the i-th of them
+pub ranges-nth : (bs : List ℕ) (p n i : ℕ) → i < n → Ranges bs p n → Ranges bs (p + 16 * i) 1
+ranges-nth bs p n i h r = record {
+  there = let t = r.there in omega arith;
+  low = λ j k. rw (same j k) (r.low i h);
+  high = λ j k. rw (same j k) (r.high i h);
+}
+  where
+    same : (j : ℕ) → j < 1 → p + 16 * i + 16 * j ≡ p + 16 * i
+    same j k = omega arith
 
 -- ---- the number of points
 
@@ -144,37 +156,37 @@ unfolding box_at
 box-size bs p zero h = absurd (omega arith)
 box-size bs p (suc n) h = let e : suc n - 1 ≡ n = omega arith in rw e
 
--- the product so far, of the ranges before p, times the points of the ranges left is the number of points
-pub record Product (bs : List ℕ) (at n p left product : ℕ) : Type 0 where
-  pub ranges : Ranges bs p left
-  pub times : product * size (box_at bs p left) ≡ size (box_at bs at n)
+-- the product so far, of the first i ranges, times the points of the ranges left is the number of points
+pub record Product (bs : List ℕ) (at n i product : ℕ) : Type 0 where
+  pub times : product * size (box_at bs (at + 16 * i) (n - i)) ≡ size (box_at bs at n)
   pub small : product ≤ 4096
 
-pub product-start : {bs : List ℕ} {at n : ℕ} → Ranges bs at n → Product bs at n at n 1
-product-start {bs} {at} {n} r = record { ranges = r; times = one-mul (size (box_at bs at n)); small = omega arith }
-
-module _ {bs : List ℕ} {at n p left product : ℕ} (inv : Product bs at n p left product) where
-  pub product-done : left ≡ 0 → product ≡ capped (size (box_at bs at n))
+module _ {bs : List ℕ} {at n i product : ℕ} (inv : Product bs at n i product) where
+  pub product-done : n ≤ i → product ≡ capped (size (box_at bs at n))
   unfolding box_at capped
   product-done e =
-      let all : product ≡ size (box_at bs at n) = sym (mul-one product) ∙ rw e at inv.times in
+      let none : n - i ≡ 0 = omega arith in
+      let all : product ≡ size (box_at bs at n) = sym (mul-one product) ∙ rw none at inv.times in
       let few = inv.small in
       rw (← all, le-leb product 4096 few)
 
-  module _ (h : 0 < left) {r : ℕ} (is : r ≡ side (range_at bs p)) where
-    stepped : product * r * size (box_at bs (p + 16) (left - 1)) ≡ size (box_at bs at n)
+  module _ (h : i < n) {r : ℕ} (is : r ≡ side (range_at bs (at + 16 * i))) where
+    stepped : product * r * size (box_at bs (at + 16 * (i + 1)) (n - (i + 1))) ≡ size (box_at bs at n)
     stepped =
-        mul_assoc product r (size (box_at bs (p + 16) (left - 1)))
-        ∙ ap (λ (x : ℕ). product * (x * size (box_at bs (p + 16) (left - 1)))) is
-        ∙ ap (λ (x : ℕ). product * x) (sym (box-size bs p left h))
-        ∙ inv.times
+        let p : at + 16 * (i + 1) ≡ at + 16 * i + 16 = omega arith in
+        let k : n - (i + 1) ≡ n - i - 1 = omega arith in
+        rw (p, k)
+        (mul_assoc product r (size (box_at bs (at + 16 * i + 16) (n - i - 1)))
+        ∙ ap (λ (x : ℕ). product * (x * size (box_at bs (at + 16 * i + 16) (n - i - 1)))) is
+        ∙ ap (λ (x : ℕ). product * x) (sym (box-size bs (at + 16 * i) (n - i) (omega arith)))
+        ∙ inv.times)
 
     pub product-over : 4096 < product * r → 4097 ≡ capped (size (box_at bs at n))
     unfolding capped
     product-over over =
-        let more = le-mul_of_pos_right (product * r) (size-pos (box_at bs (p + 16) (left - 1))) in
+        let more = le-mul_of_pos_right (product * r) (size-pos (box_at bs (at + 16 * (i + 1)) (n - (i + 1)))) in
         let all = stepped in
         sym (rw (lt-leb (size (box_at bs at n)) 4096 (omega arith)))
 
-    pub product-more : product * r ≤ 4096 → Product bs at n (p + 16) (left - 1) (product * r)
-    product-more few = record { ranges = ranges-rest bs p left h inv.ranges; times = stepped; small = few }
+    pub product-more : product * r ≤ 4096 → Product bs at n (i + 1) (product * r)
+    product-more few = record { times = stepped; small = few }

@@ -1,5 +1,6 @@
 -- The laws that this crate and those above it cite, by subject.
 pub mod Places
+pub mod Sequences
 pub mod Names
 pub mod Readers
 pub mod Heads

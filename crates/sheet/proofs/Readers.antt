@@ -5,16 +5,18 @@ use Prim.Native.Nat.{ℕ, ◌-◌}
 use native.Mathlib.Omega.{arith}
 use lib.ListN.{length, get_or}
 use lib.IntN.{ℤ, pos, neg_ℤ, nat_abs}
+use Rattle.std.specs.Prelude.{Result, Err}
+use Rattle.std.specs.Result.{IsErrAnd}
+use Rattle.std.proofs.lemmas.Result.{err_from_is_err_and}
 use Rattle.alpha.specs.Answer.{Answer, accepted, refused, next, NUMBER}
 use Rattle.alpha.specs.Field.{field}
 use Rattle.alpha.specs.Box.{within}
 use Rattle.alpha.specs.Sheet.{Head, Node.n_if}
-use Rattle.alpha.specs.Read.{Got, got, bad, after, repeat, pure, count, number, choice, free}
+use Rattle.alpha.specs.Read.{Got, got, bad, Reader, after, ◌>>=◌, repeat, pure, count, number, choice, free}
 use Rattle.alpha.specs.Read.{name_field, range, head_record, row_of, constraint, dimension, declared, restriction, dependence, nodes, node}
 use Rattle.alpha.specs.declared.Refusal.{Refusal}
-use Rattle.sheet.specs.declared.Pass.{Pass}
-use Rattle.sheet.specs.declared.Pass.TheVariants.{To, Refused}
-use Rattle.sheet.specs.Place.{place_after, passed}
+use Rattle.alpha.specs.Verdict.{told}
+use Rattle.sheet.specs.Place.{place_after}
 use Rattle.sheet.proofs.Places.{pure-after, passing-then, count-then, choice-then}
 
 -- ---- one reader after another, by places
@@ -45,13 +47,20 @@ module _ {B : Type 0} (bs : List ℕ) (p : ℕ) where
       ((q : ℕ) → place_after (k (nat_abs (field bs p)) q) ≡ j q) → place_after (after (choice hi bs p) k) ≡ next (place_after (choice hi bs p)) j
   choice-next hi k j h = known_next (choice hi bs p) (nat_abs (field bs p)) k j (choice-then hi bs p k) (λ q _. h q)
 
--- what a Pass says of the first reader decides whether the next one runs
-module _ {m : Answer ℕ} (r : Pass) (says : passed r ≡ m) where
-  pub goes_on : (j : ℕ → Answer ℕ) (q : ℕ) → r ≡ To q → next m j ≡ j q
-  goes_on j q e = ap (λ (a : Answer ℕ). next a j) (sym says ∙ ap passed e)
+-- what a result says of the first reader decides whether the next one runs
+module _ {m : Answer ℕ} (j : ℕ → Answer ℕ) where
+  pub goes_on : {q : ℕ} → accepted q ≡ m → j q ≡ next m j
+  goes_on e = ap (λ (a : Answer ℕ). next a j) e
 
-  pub stops : (j : ℕ → Answer ℕ) (e : Refusal) → r ≡ Refused e → next m j ≡ passed r
-  stops j e v = ap (λ (a : Answer ℕ). next a j) (sym says ∙ ap passed v) ∙ sym (ap passed v)
+  pub stops : {n p : ℕ} → refused n p ≡ m → refused n p ≡ next m j
+  stops e = ap (λ (a : Answer ℕ). next a j) e
+
+-- the refusal that a `?` hands on
+pub handed : (r : Result ℕ Refusal) (e : Refusal) → IsErrAnd r (λ y. y ≡ e) → r ≡ Err e
+handed r e is = let f = err_from_is_err_and r is in rw (f.1, f.2)
+
+pub handed-on : {m : Answer ℕ} (r : Result ℕ Refusal) (e : Refusal) → IsErrAnd r (λ y. y ≡ e) → told (Err e) ≡ m → told r ≡ m
+handed-on r e is says = ap told (handed r e is) ∙ says
 
 -- a sequence that came to a place came to one after its first part
 pub next-accepted : (m : Answer ℕ) (j : ℕ → Answer ℕ) {q : ℕ} → next m j ≡ accepted q → (t : ℕ) × (m ≡ accepted t) × (j t ≡ accepted q)
@@ -72,6 +81,13 @@ sort_place bs p = next (place_after (choice 1 bs p)) (dimension_place bs)
 
 abbrev pub kind_place : List ℕ → ℕ → Answer ℕ
 kind_place bs p = next (place_after (choice 2 bs p)) (sort_place bs)
+
+-- a value made of so many items changes no place
+counted_same : {A B : Type 0} (bs : List ℕ) (p most : ℕ) (item : Reader A) (f : ℕ → List A → B) →
+    place_after ((count 0 most >>= λ n. repeat n item >>= λ l. pure (f n l)) bs p) ≡ place_after ((count 0 most >>= λ n. repeat n item) bs p)
+counted_same bs p most item f =
+    count_next bs p 0 most _ _ (λ q. pure-after (repeat (nat_abs (field bs p)) item bs q) (f (nat_abs (field bs p))))
+    ∙ sym (count_next bs p 0 most _ _ (λ q. refl))
 
 module _ (bs : List ℕ) (p : ℕ) where
   pub range-place : place_after (range bs p) ≡
@@ -104,22 +120,14 @@ module _ (bs : List ℕ) (p : ℕ) where
   declared-place hs = choice-next bs p (length hs - 1) _ _ (λ q. pure-after (constraint (dimension hs (nat_abs (field bs p))) bs q) _)
 
   pub restriction-place : place_after (restriction bs p) ≡
-      next (place_after (count 0 4 bs p)) (λ q.
-      next (place_after (count 0 64 bs q)) (λ t. place_after (repeat (nat_abs (field bs q)) (constraint (nat_abs (field bs p))) bs t)))
+      next (place_after (count 0 4 bs p)) (λ q. place_after ((count 0 64 >>= λ n. repeat n (constraint (nat_abs (field bs p)))) bs q))
   unfolding restriction
-  restriction-place =
-      count_next bs p 0 4 _ _ (λ q.
-      count_next bs q 0 64 _ _ (λ t.
-      pure-after (repeat (nat_abs (field bs q)) (constraint (nat_abs (field bs p))) bs t) _))
+  restriction-place = count_next bs p 0 4 _ _ (λ q. counted_same bs q 64 (constraint (nat_abs (field bs p))) _)
 
   pub dependence-place : place_after (dependence bs p) ≡
-      next (place_after (count 0 4 bs p)) (λ q.
-      next (place_after (count 0 4 bs q)) (λ t. place_after (repeat (nat_abs (field bs q)) (row_of (nat_abs (field bs p))) bs t)))
+      next (place_after (count 0 4 bs p)) (λ q. place_after ((count 0 4 >>= λ n. repeat n (row_of (nat_abs (field bs p)))) bs q))
   unfolding dependence
-  dependence-place =
-      count_next bs p 0 4 _ _ (λ q.
-      count_next bs q 0 4 _ _ (λ t.
-      pure-after (repeat (nat_abs (field bs q)) (row_of (nat_abs (field bs p))) bs t) _))
+  dependence-place = count_next bs p 0 4 _ _ (λ q. counted_same bs q 4 (row_of (nat_abs (field bs p))) _)
 
   pub node-place : (vars : ℕ) → place_after (node vars bs p) ≡
       next (place_after (choice 8 bs p)) (λ q. place_after (get_or (nodes vars) (nat_abs (field bs p)) (pure n_if) bs q))

@@ -6,9 +6,10 @@ use Prim.Native.Nat.{ℕ, zero, suc, ◌+◌, ◌-◌, ◌*◌, ◌≤◌, ◌<�
 use native.Mathlib.Omega.{arith}
 use borrow.Author.Count.{below_more}
 use borrow.Author.Tests.{le-leb, lt-leb, leb-true, leb-false}
-use lib.ListN.{length, get_or, take, set, length-set}
-use lib.Seq.{get_or-set_same, get_or-set_other, take-set-le, take-suc-set, take-append-le, take_at, take_all}
+use lib.ListN.{length, get_or, set, length-set}
+use lib.Seq.{get_or-set_same, get_or-set_other, take-suc-set, take-append-le, take_at, take_all, length-take-le}
 use lib.Dec.{leb}
+use Rattle.std.specs.Prelude.{Result, Ok, Err}
 use Rattle.alpha.specs.Pick.{ifb}
 use Rattle.alpha.specs.Answer.{accepted, refused, CUT, COUNT, NAME}
 use Rattle.alpha.specs.Field.{eight, name_form, same_bytes}
@@ -17,14 +18,14 @@ use Rattle.alpha.specs.Box.{size}
 use Rattle.alpha.specs.Read.{got, bad, after, room, repeat, taken, name_field, choice, count, range, head_record, heads}
 use Rattle.alpha.specs.declared.Refusal.{Refusal}
 use Rattle.alpha.specs.declared.Refusal.TheVariants.{Count}
-use Rattle.sheet.specs.declared.Pass.{Pass}
-use Rattle.sheet.specs.declared.Pass.TheVariants.{To, Refused}
-use Rattle.sheet.specs.Place.{place_after, passed}
+use Rattle.alpha.specs.Verdict.{told}
+use Rattle.sheet.specs.declared.table.Table.{Table}
+use Rattle.sheet.specs.Place.{place_after}
 use Rattle.sheet.specs.Name.{taken_at}
-use Rattle.sheet.specs.Record.{box_at, dimension_at, head_at, heads_at, Recorded, Known, capped, points, before, Filled, Fills}
-use Rattle.sheet.proofs.Places.{after-gave, came-to, refused-whole, choice-passed, count-passed, choice-then, count-then, counted}
+use Rattle.sheet.specs.Record.{box_at, dimension_at, head_at, heads_at, Recorded, Known, capped, points, before, places, Filled, Fills}
+use Rattle.sheet.proofs.Places.{after-gave, refused-after, choice-passed, count-passed, choice-then, count-then, counted}
 use Rattle.sheet.proofs.Readers.{next-accepted, box_place, dimension_place, sort_place, kind_place, head-place}
-use Rattle.sheet.proofs.Heads.{heads-length}
+use Rattle.sheet.proofs.Heads.{heads-length, known-more}
 use Rattle.sheet.proofs.Boxes.{ranges-came}
 
 -- ---- a name field
@@ -35,22 +36,22 @@ taken-heads bs [] p = refl
 taken-heads bs (q ∷ ps) p = ap (λ (b : Bool). same_bytes (eight bs p) (eight bs q) || b) (taken-heads bs ps p)
 
 module _ (bs ps : List ℕ) (p : ℕ) where
-  pub name-cut : length bs < p + 8 → place_after (name_field (heads_at bs ps) bs p) ≡ refused CUT p
+  pub name-cut : false ≡ room bs p → refused CUT p ≡ place_after (name_field (heads_at bs ps) bs p)
   unfolding name_field
-  name-cut h = rw (lt-leb (p + 8) (length bs) h)
+  name-cut r = rw (← r)
 
-  module _ (h : p + 8 ≤ length bs) where
-    pub name-ill : name_form (eight bs p) ≡ false → place_after (name_field (heads_at bs ps) bs p) ≡ refused NAME p
+  module _ (r : true ≡ room bs p) where
+    pub name-ill : false ≡ name_form (eight bs p) → refused NAME p ≡ place_after (name_field (heads_at bs ps) bs p)
     unfolding name_field
-    name-ill f = rw (le-leb (p + 8) (length bs) h, f)
+    name-ill f = rw (← r, ← f)
 
-    pub name-taken : name_form (eight bs p) ≡ true → taken_at bs p ps ≡ true → place_after (name_field (heads_at bs ps) bs p) ≡ refused NAME p
+    pub name-taken : true ≡ name_form (eight bs p) → true ≡ taken_at bs p ps → refused NAME p ≡ place_after (name_field (heads_at bs ps) bs p)
     unfolding name_field
-    name-taken f t = rw (le-leb (p + 8) (length bs) h, f, taken-heads bs ps p, t)
+    name-taken f t = rw (← r, ← f, taken-heads bs ps p, ← t)
 
-    pub name-fine : name_form (eight bs p) ≡ true → taken_at bs p ps ≡ false → place_after (name_field (heads_at bs ps) bs p) ≡ accepted (p + 8)
+    pub name-fine : true ≡ name_form (eight bs p) → false ≡ taken_at bs p ps → accepted (p + 8) ≡ place_after (name_field (heads_at bs ps) bs p)
     unfolding name_field
-    name-fine f t = rw (le-leb (p + 8) (length bs) h, f, taken-heads bs ps p, t)
+    name-fine f t = rw (← r, ← f, taken-heads bs ps p, ← t)
 
 -- a name field that was read
 record NameRead (earlier : List Head) (bs : List ℕ) (p q : ℕ) : Type 0 where
@@ -78,9 +79,10 @@ pub record HeadRead (earlier : List Head) (bs : List ℕ) (p q : ℕ) : Type 0 w
   pub gives : head_record earlier bs p ≡ got (head_at bs p) q
   pub next : q ≡ p + 32 + 16 * dimension_at bs p
 
-pub head-came : (earlier : List Head) (bs : List ℕ) (p q : ℕ) → place_after (head_record earlier bs p) ≡ accepted q → HeadRead earlier bs p q
+pub head-came : (earlier : List Head) (bs : List ℕ) (p q : ℕ) → accepted q ≡ place_after (head_record earlier bs p) → HeadRead earlier bs p q
 unfolding head_record head_at
-head-came earlier bs p q e =
+head-came earlier bs p q says =
+    let e = sym says in
     let one = next-accepted (place_after (name_field earlier bs p)) (kind_place bs) (sym (head-place bs p earlier) ∙ e) in
     let name = name-came earlier bs p one.0 one.1 in
     let two = next-accepted (place_after (choice 2 bs (p + 8))) (sort_place bs) (rw name.next at one.2) in
@@ -95,7 +97,7 @@ head-came earlier bs p q e =
     let room : p + 32 ≤ length bs = let h = dim.there in omega arith in
     let box = ranges-came bs (dimension_at bs p) (p + 32) q room (rw at32 at four.2) in
     record {
-      recorded = record { fields = room; small = (counted 0 4 dim).1; ranges = box.ranges };
+      recorded = record { fields = room; small = (counted 0 4 {bs = bs} {p = p + 24} {q = four.0} dim).1; ranges = box.ranges };
       gives =
           after-gave (name_field earlier bs p) _ (eight bs p) (p + 8) (rw name.next at name.gives)
           ∙ choice-then 2 bs (p + 8) _ (p + 16) (rw at16 at two.1)
@@ -104,10 +106,6 @@ head-came earlier bs p q e =
           ∙ after-gave (repeat (dimension_at bs p) range bs (p + 32)) _ (box_at bs (p + 32) (dimension_at bs p)) q box.gives;
       next = box.next;
     }
-
-pub head_passed : (earlier : List Head) (bs : List ℕ) (p : ℕ) (r : Pass) →
-    passed r ≡ place_after (head_record earlier bs p) → (q : ℕ) → r ≡ To q → HeadRead earlier bs p q
-head_passed earlier bs p r says q to = head-came earlier bs p q (came-to (head_record earlier bs p) r says q to)
 
 -- ---- records one after another
 
@@ -155,80 +153,62 @@ unfolding head_at
 head-size bs p = refl
 
 -- the table with a record's place and first element
-abbrev pub stored : List ℕ → ℕ → ℕ → ℕ → List ℕ
-stored tab k p total = set (set tab k p) (32 + k) total
+abbrev pub stored : Table → ℕ → ℕ → ℕ → Table
+stored tab k p total = record tab { records = set tab.records k p; firsts = set tab.firsts k total }
 
-module _ (tab : List ℕ) (k p total : ℕ) (sized : length tab ≡ 102) (small : k < 32) where
-  stored-places : take (k + 1) (stored tab k p total) ≡ take k tab ++ (p ∷ [])
-  stored-places =
-      let e : k + 1 ≡ suc k = omega arith in
-      rw (e, take-set-le (suc k) (set tab k p) (32 + k) total (omega arith)) (take-suc-set tab k p (omega arith))
-
-  stored-before : (i : ℕ) → i < k → get_or (stored tab k p total) i 0 ≡ get_or tab i 0
-  stored-before i h = get_or-set_other (set tab k p) (32 + k) i total 0 (λ e. omega arith) ∙ get_or-set_other tab k i p 0 (λ e. omega arith)
-
-  stored-record : get_or (stored tab k p total) k 0 ≡ p
-  stored-record = get_or-set_other (set tab k p) (32 + k) k total 0 (λ e. omega arith) ∙ get_or-set_same tab k p 0 (omega arith)
-
-  stored-first-before : (i : ℕ) → i < k → get_or (stored tab k p total) (32 + i) 0 ≡ get_or tab (32 + i) 0
-  stored-first-before i h = get_or-set_other (set tab k p) (32 + k) (32 + i) total 0 (λ e. omega arith) ∙ get_or-set_other tab k (32 + i) p 0 (λ e. omega arith)
-
-  stored-first : get_or (stored tab k p total) (32 + k) 0 ≡ total
-  stored-first = get_or-set_same (set tab k p) (32 + k) total 0 (let e = length-set tab k p in omega arith)
+stored-places : (tab : Table) (k p total : ℕ) → k < length tab.records → places (stored tab k p total) (k + 1) ≡ places tab k ++ (p ∷ [])
+stored-places tab k p total room = let e : k + 1 ≡ suc k = omega arith in rw e (take-suc-set tab.records k p room)
 
 -- the first k of n records were read, up to p, and the table has their places and first elements
-pub record Reading (bs : List ℕ) (at n : ℕ) (tab : List ℕ) (k total p : ℕ) : Type 0 where
+pub record Reading (bs : List ℕ) (at n : ℕ) (tab : Table) (k total p : ℕ) : Type 0 where
   pub up-to : k ≤ n
   pub all : n ≤ 32
-  pub known : Known bs tab k
-  pub decides : heads n [] 0 bs at ≡ heads (n - k) (heads_at bs (take k tab)) total bs p
-  pub firsts : (i : ℕ) → i < k → get_or tab (32 + i) 0 ≡ before (heads_at bs (take k tab)) i
-  pub sum : total ≡ points (heads_at bs (take k tab))
+  pub room : length tab.records ≡ 32
+  pub firsts_room : length tab.firsts ≡ 33
+  pub bodies_room : length tab.bodies ≡ 33
+  pub known : Known bs (places tab k)
+  pub decides : heads n [] 0 bs at ≡ heads (n - k) (heads_at bs (places tab k)) total bs p
+  pub firsts : (i : ℕ) → i < k → get_or tab.firsts i 0 ≡ before (heads_at bs (places tab k)) i
+  pub sum : total ≡ points (heads_at bs (places tab k))
   pub few : total ≤ 4096
 
-pub reading-start : {bs : List ℕ} {at n : ℕ} {tab : List ℕ} → length tab ≡ 102 → n ≤ 32 → Reading bs at n tab 0 0 at
-reading-start {bs} {at} {n} s all = record {
-  up-to = omega arith;
-  all = all;
-  known = record { sized = s; few = omega arith; recorded = λ i h. absurd (omega arith) };
-  decides = let e : n - 0 ≡ n = omega arith in rw e;
-  firsts = λ i h. absurd (omega arith);
-  sum = refl;
-  few = omega arith;
-}
-
-module _ {bs : List ℕ} {at n : ℕ} {tab : List ℕ} {k total p : ℕ} (inv : Reading bs at n tab k total p) where
+module _ {bs : List ℕ} {at n : ℕ} {tab : Table} {k total p : ℕ} (inv : Reading bs at n tab k total p) where
   hs : List Head
-  hs = heads_at bs (take k tab)
+  hs = heads_at bs (places tab k)
+
+  listed : length (places tab k) ≡ k
+  listed = let m = inv.up-to in let a = inv.all in let r = inv.room in length-take-le k tab.records (omega arith)
+
+  counted-heads : length (heads_at bs (places tab k)) ≡ k
+  counted-heads = heads-length bs (places tab k) ∙ listed
 
   module _ (more : k < n) where
     step : heads n [] 0 bs at ≡ after (head_record hs bs p) (λ h q.
         ifb (leb (total + size h.box) 4096) (λ _. heads (n - k - 1) (hs ++ (h ∷ [])) (total + size h.box) bs q) (λ _. bad COUNT p))
     unfolding hs
-    step = inv.decides ∙ heads-step (n - k) (heads_at bs (take k tab)) total bs p (omega arith)
+    step = inv.decides ∙ heads-step (n - k) (heads_at bs (places tab k)) total bs p (omega arith)
 
     -- a record is refused
-    pub reading-stops : (r : Pass) (e : Refusal) → r ≡ Refused e → passed r ≡ place_after (head_record (heads_at bs (take k tab)) bs p) → Fills bs at n tab r
+    pub reading-stops : (r : Result ℕ Refusal) (e : Refusal) → r ≡ Err e →
+        told (Err e) ≡ place_after (head_record (heads_at bs (places tab k)) bs p) → Fills bs at n tab r
     unfolding hs
-    reading-stops r e v says = record {
-      answer = refused-whole (head_record (heads_at bs (take k tab)) bs p) r says _ e v ∙ sym (ap place_after step);
-      sized = inv.known.sized;
+    reading-stops r e is says = record {
+      answer = ap told is ∙ sym (ap place_after step ∙ refused-after (head_record (heads_at bs (places tab k)) bs p) _ (sym says));
       filled = λ q to. absurd (let z : ◌≡◌ {A = ℕ} 0 1 = cc in omega arith);
     }
 
-    module _ {q pts : ℕ} (read : HeadRead (heads_at bs (take k tab)) bs p q) (counts : pts ≡ capped (size (box_at bs (p + 32) (dimension_at bs p)))) where
+    module _ {q pts : ℕ} (read : HeadRead (heads_at bs (places tab k)) bs p q) (counts : pts ≡ capped (size (box_at bs (p + 32) (dimension_at bs p)))) where
       after-head : heads n [] 0 bs at ≡ ifb (leb (total + size (box_at bs (p + 32) (dimension_at bs p))) 4096)
           (λ _. heads (n - k - 1) (hs ++ (head_at bs p ∷ [])) (total + size (box_at bs (p + 32) (dimension_at bs p))) bs q) (λ _. bad COUNT p)
       unfolding hs head_at
-      after-head = step ∙ after-gave (head_record (heads_at bs (take k tab)) bs p) _ (head_at bs p) q read.gives
+      after-head = step ∙ after-gave (head_record (heads_at bs (places tab k)) bs p) _ (head_at bs p) q read.gives
 
       -- the boxes so far hold too many points
-      pub reading-over : 4096 < total + pts → Fills bs at n tab (Refused (Count p))
+      pub reading-over : 4096 < total + pts → Fills bs at n tab (Err (Count p))
       reading-over over =
           let le = capped_le (size (box_at bs (p + 32) (dimension_at bs p))) in
           record {
             answer = sym (ap place_after (too_many (omega arith)));
-            sized = inv.known.sized;
             filled = λ t to. absurd (let z : ◌≡◌ {A = ℕ} 0 1 = cc in omega arith);
           }
         where
@@ -239,29 +219,28 @@ module _ {bs : List ℕ} {at n : ℕ} {tab : List ℕ} {k total p : ℕ} (inv : 
       pub reading-more : total + pts ≤ 4096 → Reading bs at n (stored tab k p total) (k + 1) (total + pts) q
       unfolding hs
       reading-more few =
-          let small : k < 32 = let m = inv.all in omega arith in
-          let sized = inv.known.sized in
-          let exact : pts ≡ size (box_at bs (p + 32) (dimension_at bs p)) = counts ∙ capped-exact (size (box_at bs (p + 32) (dimension_at bs p))) (omega arith) in
-          let all-heads : heads_at bs (take (k + 1) (stored tab k p total)) ≡ hs ++ (head_at bs p ∷ []) =
-          ap (heads_at bs) (stored-places tab k p total sized small) ∙ heads-last bs (take k tab) p in
-          let length-hs : length (heads_at bs (take k tab)) ≡ k = heads-length inv.known in
+          let all = inv.all in
+          let room = inv.room in
+          let box = box_at bs (p + 32) (dimension_at bs p) in
+          let exact : pts ≡ size box = counts ∙ capped-exact (size box) (omega arith) in
+          let places-more = stored-places tab k p total (omega arith) in
+          let all-heads : heads_at bs (places (stored tab k p total) (k + 1)) ≡ hs ++ (head_at bs p ∷ []) =
+          ap (heads_at bs) places-more ∙ heads-last bs (places tab k) p in
           record {
             up-to = omega arith;
-            all = inv.all;
-            known = record {
-              sized = length-set (set tab k p) (32 + k) total ∙ length-set tab k p ∙ sized;
-              few = omega arith;
-              recorded = below_more (λ i. Recorded bs (get_or (stored tab k p total) i 0)) k
-                  (λ i h. rw (stored-before tab k p total sized small i h) (inv.known.recorded i h))
-                  (rw (stored-record tab k p total sized small) read.recorded);
-            };
+            all = all;
+            room = length-set tab.records k p ∙ room;
+            firsts_room = length-set tab.firsts k total ∙ inv.firsts_room;
+            bodies_room = inv.bodies_room;
+            known = rw places-more (known-more inv.known (let l = listed in omega arith) read.recorded);
             decides = onward exact (omega arith) ∙ with-heads all-heads;
-            firsts = below_more (λ i. get_or (stored tab k p total) (32 + i) 0 ≡ before (heads_at bs (take (k + 1) (stored tab k p total))) i) k
+            firsts = below_more (λ i. get_or (set tab.firsts k total) i 0 ≡ before (heads_at bs (places (stored tab k p total) (k + 1))) i) k
                 (λ i h.
-                stored-first-before tab k p total sized small i h ∙ inv.firsts i h
-                ∙ sym (ap (λ (l : List Head). before l i) all-heads ∙ ap points (take-append-le i hs (head_at bs p ∷ []) (omega arith))))
-                (stored-first tab k p total sized small ∙ inv.sum
-                ∙ sym (ap (λ (l : List Head). before l k) all-heads ∙ ap points (take_at hs (head_at bs p ∷ []) k length-hs)));
+                get_or-set_other tab.firsts k i total 0 (λ e. omega arith) ∙ inv.firsts i h
+                ∙ sym (ap (λ (l : List Head). before l i) all-heads
+                ∙ ap points (take-append-le i hs (head_at bs p ∷ []) (let l = counted-heads in omega arith))))
+                (get_or-set_same tab.firsts k total 0 (let r = inv.firsts_room in omega arith) ∙ inv.sum
+                ∙ sym (ap (λ (l : List Head). before l k) all-heads ∙ ap points (take_at hs (head_at bs p ∷ []) k counted-heads)));
             sum =
                 let after = ap points all-heads ∙ points-last hs (head_at bs p) in
                 let before = inv.sum in
@@ -281,38 +260,31 @@ module _ {bs : List ℕ} {at n : ℕ} {tab : List ℕ} {k total p : ℕ} (inv : 
           with-heads e = ap (λ (l : List Head). heads (n - (k + 1)) l (total + pts) bs q) (sym e)
 
   -- all records were read, and the total is stored
-  pub reading-done : n ≤ k → Filled bs at n (set tab (32 + n) total) p
+  pub reading-done : n ≤ k → Filled bs at n (record tab { firsts = set tab.firsts n total }) p
   unfolding hs heads
-  reading-done h = done (omega arith)
+  reading-done h = done (let m = inv.up-to in omega arith)
     where
-      done : k ≡ n → Filled bs at n (set tab (32 + n) total) p
+      done : k ≡ n → Filled bs at n (record tab { firsts = set tab.firsts n total }) p
       done e =
-          let sized = inv.known.sized in
-          let small = inv.all in
-          let same : take n (set tab (32 + n) total) ≡ take k tab = take-set-le n tab (32 + n) total (omega arith) ∙ ap (λ (m : ℕ). take m tab) (sym e) in
-          let all-heads : heads_at bs (take n (set tab (32 + n) total)) ≡ hs = ap (heads_at bs) same in
-          let length-hs : length (heads_at bs (take k tab)) ≡ k = heads-length inv.known in
+          let same : heads_at bs (places tab n) ≡ hs = ap (λ (m : ℕ). heads_at bs (places tab m)) (sym e) in
           let none : n - k ≡ 0 = omega arith in
           record {
-            known = record {
-              sized = length-set tab (32 + n) total ∙ sized;
-              few = small;
-              recorded = λ i l. rw (get_or-set_other tab (32 + n) i total 0 (λ r. omega arith)) (inv.known.recorded i (omega arith));
-            };
-            gives = inv.decides ∙ ap (λ (m : ℕ). heads m hs total bs p) none ∙ ap (λ (l : List Head). got l p) (sym all-heads);
-            firsts = λ i l. below_more (λ j. get_or (set tab (32 + n) total) (32 + j) 0 ≡ before (heads_at bs (take n (set tab (32 + n) total))) j) n
+            sized = inv.bodies_room;
+            many = rw e at listed;
+            known = rw e at inv.known;
+            gives = inv.decides ∙ ap (λ (m : ℕ). heads m hs total bs p) none ∙ ap (λ (l : List Head). got l p) (sym same);
+            firsts = λ i l. below_more (λ j. get_or (set tab.firsts n total) j 0 ≡ before (heads_at bs (places tab n)) j) n
                 (λ j m.
-                get_or-set_other tab (32 + n) (32 + j) total 0 (λ r. omega arith) ∙ inv.firsts j (omega arith)
-                ∙ sym (ap (λ (x : List Head). before x j) all-heads))
-                (get_or-set_same tab (32 + n) total 0 (omega arith) ∙ inv.sum
-                ∙ sym (ap (λ (x : List Head). before x n) all-heads ∙ ap points (take_all n hs (omega arith))))
+                get_or-set_other tab.firsts n j total 0 (λ r. omega arith) ∙ inv.firsts j (omega arith)
+                ∙ sym (ap (λ (x : List Head). before x j) same))
+                (get_or-set_same tab.firsts n total 0 (let r = inv.firsts_room in let a = inv.all in omega arith) ∙ inv.sum
+                ∙ sym (ap (λ (x : List Head). before x n) same ∙ ap points (take_all n hs (let l = counted-heads in omega arith))))
                 i (omega arith);
-            few = let a = ap points all-heads in let t = inv.sum in let f = inv.few in omega arith;
+            few = let a = ap points same in let t = inv.sum in let f = inv.few in omega arith;
           }
 
-pub filled-fills : {bs : List ℕ} {p n : ℕ} {tab : List ℕ} {q : ℕ} → Filled bs p n tab q → Fills bs p n tab (To q)
+pub filled-fills : {bs : List ℕ} {p n : ℕ} {tab : Table} {q : ℕ} → Filled bs p n tab q → Fills bs p n tab (Ok q)
 filled-fills {bs} {p} {n} {tab} {q} f = record {
   answer = sym (ap place_after f.gives);
-  sized = f.known.sized;
   filled = λ t to. let same : q ≡ t = cc in subst (λ (r : ℕ). Filled bs p n tab r) same f;
 }

@@ -4,3 +4,4 @@ pub mod Name
 pub mod Record
 pub mod Section
 pub mod Table
+pub mod Sequence

@@ -1,13 +1,14 @@
 -- The variables' records by their places: a record that was read is what the bytes from its place on say. Assumes nothing.
-use Rattle.std.specs.Prelude.{ℕ, zero, suc, ◌+◌, ◌*◌, ◌≤◌, ◌<◌, ◌≡◌, true, List, [], ◌∷◌, map, length, get_or, take, leb, pos, neg_ℤ, nat_abs}
+use Rattle.std.specs.Prelude.{ℕ, zero, suc, ◌+◌, ◌*◌, ◌≤◌, ◌<◌, ◌≡◌, true, List, [], ◌∷◌, map, length, get_or, take, leb, pos, neg_ℤ, nat_abs, Result, Ok}
 use Rattle.alpha.specs.Pick.{ifb}
 use Rattle.alpha.specs.Field.{field, eight}
 use Rattle.alpha.specs.Sheet.{Head, Range}
 use Rattle.alpha.specs.Box.{within, side, size}
 use Rattle.alpha.specs.Read.{got, kind_of, sort_of, heads}
-use Rattle.sheet.specs.declared.Pass.{Pass}
-use Rattle.sheet.specs.declared.Pass.TheVariants.{To}
-use Rattle.sheet.specs.Place.{place_after, passed}
+use Rattle.alpha.specs.declared.Refusal.{Refusal}
+use Rattle.alpha.specs.Verdict.{told}
+use Rattle.sheet.specs.declared.table.Table.{Table}
+use Rattle.sheet.specs.Place.{place_after}
 
 -- the range at p
 abbrev pub range_at : List ℕ → ℕ → Range
@@ -57,16 +58,15 @@ pub record Recorded (bs : List ℕ) (p : ℕ) : Type 0 where
   pub small : dimension_at bs p ≤ 4
   pub ranges : Ranges bs (p + 32) (dimension_at bs p)
 
--- the first k places of a table are those of records
-pub record Known (bs tab : List ℕ) (k : ℕ) : Type 0 where
-  pub sized : length tab ≡ 102
-  pub few : k ≤ 32
-  pub recorded : (i : ℕ) → i < k → Recorded bs (get_or tab i 0)
+-- records stand at these places
+pub record Known (bs ps : List ℕ) : Type 0 where
+  pub few : length ps ≤ 32
+  pub recorded : (i : ℕ) → i < length ps → Recorded bs (get_or ps i 0)
 
 -- and there is at least one
-pub record KnownSome (bs tab : List ℕ) (n : ℕ) : Type 0 where
-  pub some : 1 ≤ n
-  pub known : Known bs tab n
+pub record KnownSome (bs ps : List ℕ) : Type 0 where
+  pub some : 1 ≤ length ps
+  pub known : Known bs ps
 
 -- how many points the boxes of these records hold
 abbrev pub points : List Head → ℕ
@@ -77,15 +77,20 @@ points (h ∷ hs) = size h.box + points hs
 abbrev pub before : List Head → ℕ → ℕ
 before hs v = points (take v hs)
 
+-- the places of the first n records of a table
+abbrev pub places : Table → ℕ → List ℕ
+places tab n = take n tab.records
+
 -- the records of n variables were read from p to q, and the table has their places, first elements and total
-pub record Filled (bs : List ℕ) (p n : ℕ) (tab : List ℕ) (q : ℕ) : Type 0 where
-  pub known : Known bs tab n
-  pub gives : heads n [] 0 bs p ≡ got (heads_at bs (take n tab)) q
-  pub firsts : (i : ℕ) → i ≤ n → get_or tab (32 + i) 0 ≡ before (heads_at bs (take n tab)) i
-  pub few : points (heads_at bs (take n tab)) ≤ 4096
+pub record Filled (bs : List ℕ) (p n : ℕ) (tab : Table) (q : ℕ) : Type 0 where
+  pub sized : length tab.bodies ≡ 33
+  pub many : length (places tab n) ≡ n
+  pub known : Known bs (places tab n)
+  pub gives : heads n [] 0 bs p ≡ got (heads_at bs (places tab n)) q
+  pub firsts : (i : ℕ) → i ≤ n → get_or tab.firsts i 0 ≡ before (heads_at bs (places tab n)) i
+  pub few : points (heads_at bs (places tab n)) ≤ 4096
 
 -- reading n records: how far it comes, and the table where it comes to the end
-pub record Fills (bs : List ℕ) (p n : ℕ) (tab' : List ℕ) (r : Pass) : Type 0 where
-  pub answer : passed r ≡ place_after (heads n [] 0 bs p)
-  pub sized : length tab' ≡ 102
-  pub filled : (q : ℕ) → r ≡ To q → Filled bs p n tab' q
+pub record Fills (bs : List ℕ) (p n : ℕ) (tab' : Table) (r : Result ℕ Refusal) : Type 0 where
+  pub answer : told r ≡ place_after (heads n [] 0 bs p)
+  pub filled : (q : ℕ) → r ≡ Ok q → Filled bs p n tab' q

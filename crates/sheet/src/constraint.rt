@@ -1,98 +1,38 @@
 // Rows and constraints, and the declared constraints of the second section. Each function answers the next place or the refusal,
 // as the reader of crate alpha that its contract names. Assumes nothing.
-ghost use Rattle.std.specs.Prelude.{◌≡◌, take};
+ghost use Rattle.std.specs.Prelude.{◌≡◌};
 ghost use Rattle.alpha.specs.Read as Read;
-ghost use Rattle.sheet.specs.Place.{place_after, passed};
+ghost use Rattle.alpha.specs.Verdict.{told};
+ghost use Rattle.sheet.specs.Place.{place_after};
 ghost use Rattle.sheet.specs.Record.{KnownSome, heads_at};
 
-use super::Pass;
-use super::field::{choice_field, count_at, free_field, numbers};
+use super::field::{choice_field, count_at, free_field};
+use super::sequence::repeat;
+use alpha::Refusal;
 
 // A row: n coefficients, then the constant.
-fn row(s: &[u8], at: usize, n: usize) -> Pass
-    ensures { passed result ≡ place_after (Read.row_of n s.now at) }
+pub fn row(s: &[u8], at: usize, n: usize) -> Result<usize, Refusal>
+    ensures { told result ≡ place_after (Read.row_of n s.now at) }
 {
-    let r = numbers(s, at, n);
-    let Pass::To(p) = r else {
-        return r;
-    };
+    let p = repeat(n, at, |p| free_field(s, p))?;
     free_field(s, p)
 }
 
-// So many rows of n coefficients.
-pub fn rows(s: &[u8], at: usize, count: usize, n: usize) -> Pass
-    ensures { passed result ≡ place_after (Read.repeat count (Read.row_of n) s.now at) }
-{
-    let mut p = at;
-    let mut left = count;
-    while left > 0 {
-        let r = row(s, p, n);
-        let Pass::To(q) = r else {
-            return r;
-        };
-        p = q;
-        left -= 1;
-    }
-    Pass::To(p)
-}
-
 // A constraint: its relation, then a row of n coefficients.
-fn constraint(s: &[u8], at: usize, n: usize) -> Pass
-    ensures { passed result ≡ place_after (Read.constraint n s.now at) }
+pub fn constraint(s: &[u8], at: usize, n: usize) -> Result<usize, Refusal>
+    ensures { told result ≡ place_after (Read.constraint n s.now at) }
 {
-    let r = choice_field(s, at, 1);
-    let Pass::To(p) = r else {
-        return r;
-    };
+    let p = choice_field(s, at, 1)?;
     row(s, p, n)
 }
 
-// So many constraints of n coefficients.
-pub fn constraints(s: &[u8], at: usize, count: usize, n: usize) -> Pass
-    ensures { passed result ≡ place_after (Read.repeat count (Read.constraint n) s.now at) }
+// A declared constraint: the number of a variable, of which the records stand at these places, then a constraint of its dimension.
+pub fn declared(s: &[u8], records: &[usize], at: usize) -> Result<usize, Refusal>
+    requires { KnownSome s.now records.now }
+    ensures { told result ≡ place_after (Read.declared (heads_at s.now records.now) s.now at) }
 {
-    let mut p = at;
-    let mut left = count;
-    while left > 0 {
-        let r = constraint(s, p, n);
-        let Pass::To(q) = r else {
-            return r;
-        };
-        p = q;
-        left -= 1;
-    }
-    Pass::To(p)
-}
-
-// A declared constraint: the number of one of n variables, then a constraint of that variable's dimension.
-fn declared(s: &[u8], tab: &[usize; 102], at: usize, n: usize) -> Pass
-    requires { KnownSome s.now tab.now n }
-    ensures { passed result ≡ place_after (Read.declared (heads_at s.now (take n tab.now)) s.now at) }
-{
-    let r = choice_field(s, at, n - 1);
-    let Pass::To(p) = r else {
-        return r;
-    };
+    let p = choice_field(s, at, records.len() - 1)?;
     let v = count_at(s, at);
-    let record = tab[v];
-    let dimension = count_at(s, record + 24);
+    let dimension = count_at(s, records[v] + 24);
     constraint(s, p, dimension)
-}
-
-// So many declared constraints.
-pub fn declarations(s: &[u8], tab: &[usize; 102], at: usize, count: usize, n: usize) -> Pass
-    requires { KnownSome s.now tab.now n }
-    ensures { passed result ≡ place_after (Read.repeat count (Read.declared (heads_at s.now (take n tab.now))) s.now at) }
-{
-    let mut p = at;
-    let mut left = count;
-    while left > 0 {
-        let r = declared(s, tab, p, n);
-        let Pass::To(q) = r else {
-            return r;
-        };
-        p = q;
-        left -= 1;
-    }
-    Pass::To(p)
 }

@@ -3,18 +3,19 @@
 // Nothing of the sheet is copied. Assumes nothing.
 #![tactic(auto)]
 
-ghost use Rattle.std.specs.Prelude.{◌≡◌, length, take, ltb};
+ghost use Rattle.std.specs.Prelude.{◌≡◌, length, ltb};
 ghost use Rattle.alpha.specs.Verdict.{told};
-ghost use Rattle.sheet.specs.Place.{place_after, passed};
+ghost use Rattle.sheet.specs.Place.{place_after};
 ghost use Rattle.sheet.specs.Record.{KnownSome, heads_at};
 ghost use Rattle.sheet.specs.Section.{VariableCount, second_section, third_section};
 ghost use Rattle.sheet.specs.Table.{Reads};
 
-use alpha::{Refusal, Verdict};
-use constraint::declarations;
+use alpha::Refusal;
+use constraint::declared;
 use field::{count_at, count_field};
-use node::nodes;
-use table::{entries, first_element, note};
+use node::node;
+use sequence::counted;
+use table::Table;
 use variable::heads;
 
 mod constraint;
@@ -22,48 +23,24 @@ mod field;
 mod name;
 mod node;
 pub mod range;
+mod sequence;
 pub mod table;
 mod variable;
 
-// How far reading came: the next place, or the refusal.
-#[derive(Clone, Copy)]
-pub enum Pass {
-    To(usize),
-    Refused(Refusal),
-}
-
-// A Pass as a verdict.
-fn verdict(r: Pass) -> Verdict
-    ensures { told result ≡ passed r }
+// The second section: 0 to 256 declared constraints of the variables whose records stand at these places.
+fn second_section(s: &[u8], records: &[usize], at: usize) -> Result<usize, Refusal>
+    requires { KnownSome s.now records.now }
+    ensures { told result ≡ place_after (second_section (heads_at s.now records.now) s.now at) }
 {
-    match r {
-        Pass::To(p) => Verdict::Accepted(p),
-        Pass::Refused(e) => Verdict::Refused(e),
-    }
-}
-
-// The second section: 0 to 256 declared constraints of n variables.
-fn second_section(s: &[u8], tab: &[usize; 102], at: usize, n: usize) -> Pass
-    requires { KnownSome s.now tab.now n }
-    ensures { passed result ≡ place_after (second_section (heads_at s.now (take n tab.now)) s.now at) }
-{
-    let r = count_field(s, at, 0, 256);
-    let Pass::To(p) = r else {
-        return r;
-    };
-    declarations(s, tab, p, count_at(s, at), n)
+    counted(s, at, 256, |p| declared(s, records, p))
 }
 
 // The third section: 0 to 2,048 nodes, where there are n variables.
-fn third_section(s: &[u8], at: usize, n: usize) -> Pass
+fn third_section(s: &[u8], at: usize, n: usize) -> Result<usize, Refusal>
     requires { VariableCount n }
-    ensures { passed result ≡ place_after (third_section n s.now at) }
+    ensures { told result ≡ place_after (third_section n s.now at) }
 {
-    let r = count_field(s, at, 0, 2048);
-    let Pass::To(p) = r else {
-        return r;
-    };
-    nodes(s, p, count_at(s, at), n)
+    counted(s, at, 2048, |p| node(s, p, n))
 }
 
 // Whether a sheet has more bytes than it may have. Each public call asks first: where so, it needs no table.
@@ -74,34 +51,20 @@ pub fn too_long(s: &[u8]) -> bool
 }
 
 // Reads a sheet: the element total, or refusal 1 to 6. The table is filled where the sheet is accepted.
-pub fn read(s: &[u8], tab: &mut [usize; 102]) -> Verdict
-    ensures { Reads s.now tab.new result }
+pub fn read(s: &[u8], table: &mut Table) -> Result<usize, Refusal>
+    ensures { Reads s.now table.new result }
 {
-    // Asked for what it tells of the table's length.
-    entries(tab);
     if too_long(s) {
-        return Verdict::Refused(Refusal::Long);
+        return Err(Refusal::Long);
     }
-    let a = count_field(s, 0, 1, 32);
-    let Pass::To(p) = a else {
-        return verdict(a);
-    };
+    let first = count_field(s, 0, 1, 32)?;
     let n = count_at(s, 0);
-    let b = heads(s, tab, p, n);
-    let Pass::To(second) = b else {
-        return verdict(b);
-    };
-    let c = second_section(s, tab, second, n);
-    let Pass::To(third) = c else {
-        return verdict(c);
-    };
-    let d = third_section(s, third, n);
-    let Pass::To(end) = d else {
-        return verdict(d);
-    };
+    let second = heads(s, table, first, n)?;
+    let third = second_section(s, &table.records[..n], second)?;
+    let end = third_section(s, third, n)?;
     if end != s.len() {
-        return Verdict::Refused(Refusal::Tail(end));
+        return Err(Refusal::Tail(end));
     }
-    note(tab, n, second, third, count_at(s, third));
-    Verdict::Accepted(first_element(tab, n))
+    table.note(n, second, third, count_at(s, third));
+    Ok(table.first_element(n))
 }

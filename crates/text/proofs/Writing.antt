@@ -1,59 +1,67 @@
 -- Texts written one after another are one text. `Going` follows a text while it is written: what is left of it, written from here on,
 -- gives what the whole text gives from its start. Assumes nothing.
 use mathlib.Core.Path.{◌≡◌, refl, sym, ap, ◌∙◌}
-use Prim.Native.Nat.{ℕ, ◌+◌, ◌≤◌}
+use Prim.Native.Nat.{ℕ, ◌+◌, ◌-◌, ◌≤◌}
 use native.Mathlib.Omega.{arith}
-use mathlib.Core.List.{List, [], ◌∷◌, ◌++◌}
-use lib.ListN.{length, set, length-append}
+use mathlib.Core.List.{List, [], ◌++◌}
+use lib.ListN.{length, length-append}
 use lib.Seq.{sets, length-sets}
+use borrow.Rule.Slice.PartMut.{put_mid}
+use Rattle.integer.proofs.Fields.{put_mid-sets}
 use Rattle.laws.proofs.Written.{sets-append}
-use Rattle.text.specs.Wrote.{Wrote}
+use Rattle.text.specs.declared.writer.Writer.{Writer}
+use Rattle.text.specs.Wrote.{Wrote, Room}
+
+-- bytes copied to a place
+pub wrote_copied : (before after : Writer) (ys bs : List ℕ) → ys ≡ bs → Room (length bs) before →
+    after.out.now ≡ put_mid before.at (before.at + length bs - before.at) before.out.now ys → after.at ≡ before.at + length bs →
+    after.out.ghost_name ≡ before.out.ghost_name → Wrote before after bs
+wrote_copied before after ys bs e h is ends same =
+    let k = before.at + length bs - before.at in
+    let many : length ys ≡ k = omega (arith, ap length e) in
+    let fits : before.at + k ≤ length before.out.now = omega arith in
+    let all = is ∙ put_mid-sets before.at k before.out.now ys many fits ∙ ap (sets before.out.now before.at) e in
+    record { is = all; ends = ends; sized = ap length all ∙ length-sets before.out.now before.at bs; same = same }
 
 -- ---- what was written
 
-module _ (before after : List ℕ) (at next : ℕ) (text : List ℕ) (w : Wrote before after at next text) where
-  pub wrote-length : length after ≡ length before
-  wrote-length = ap length w.is ∙ length-sets before at text
-
+module _ {before after : Writer} {bytes : List ℕ} (w : Wrote before after bytes) where
   -- one text after another
-  pub wrote-more : (last : List ℕ) (end : ℕ) (more : List ℕ) → Wrote after last next end more → Wrote before last at end (text ++ more)
-  wrote-more last end more m = record {
-    is = m.is ∙ rw (w.is, w.ends) (sym (sets-append before at text more));
-    ends = omega (arith, length-append text more, m.ends, w.ends);
+  pub wrote-more : {last : Writer} {more : List ℕ} → Wrote after last more → Wrote before last (bytes ++ more)
+  wrote-more {last} {more} m = record {
+    is = m.is ∙ rw (w.is, w.ends) (sym (sets-append before.out.now before.at bytes more));
+    ends = omega (arith, length-append bytes more, m.ends, w.ends);
+    sized = m.sized ∙ w.sized;
+    same = m.same ∙ w.same;
   }
 
--- the same text by another name
-pub wrote-is : {before after : List ℕ} {at next : ℕ} {text other : List ℕ} → text ≡ other → Wrote before after at next text →
-    Wrote before after at next other
-wrote-is e w = rw (← e) w
-
-pub wrote-byte : (l : List ℕ) (at b : ℕ) → Wrote l (set l at b) at (at + 1) (b ∷ [])
-wrote-byte l at b = record { is = refl; ends = refl }
+  -- the same text by another name
+  pub wrote-is : {other : List ℕ} → bytes ≡ other → Wrote before after other
+  wrote-is e = rw (← e) w
 
 -- ---- what is left to write
 
-pub record Going (before : List ℕ) (at : ℕ) (whole now : List ℕ) (p : ℕ) (rest : List ℕ) : Type 0 where
-  pub same : sets now p rest ≡ sets before at whole
-  pub place : p + length rest ≡ at + length whole
-  pub sized : length now ≡ length before
+pub record Going (before now : Writer) (whole left : List ℕ) : Type 0 where
+  pub is : sets now.out.now now.at left ≡ sets before.out.now before.at whole
+  pub place : now.at + length left ≡ before.at + length whole
+  pub sized : length now.out.now ≡ length before.out.now
+  pub same : now.out.ghost_name ≡ before.out.ghost_name
 
-pub going_start : (before : List ℕ) (at : ℕ) (whole : List ℕ) → Going before at whole before at whole
-going_start before at whole = record { same = refl; place = refl; sized = refl }
+pub going_start : (before : Writer) (whole : List ℕ) → Going before before whole whole
+going_start before whole = record { is = refl; place = refl; sized = refl; same = refl }
 
-module _ {before : List ℕ} {at : ℕ} {whole now : List ℕ} {p : ℕ} {rest : List ℕ} (g : Going before at whole now p rest) where
-  pub going-wrote : (text left after : List ℕ) (next : ℕ) → rest ≡ text ++ left → Wrote now after p next text → Going before at whole after next left
-  going-wrote text left after next e w = record {
-    same = rw (w.is, w.ends) (sym (sets-append now p text left)) ∙ ap (sets now p) (sym e) ∙ g.same;
-    place = omega (arith, length-append text left, ap length e, w.ends, g.place);
-    sized = wrote-length now after p next text w ∙ g.sized;
+module _ {before now : Writer} {whole left : List ℕ} (g : Going before now whole left) where
+  pub going-wrote : {after : Writer} {bytes : List ℕ} (more : List ℕ) → left ≡ bytes ++ more → Wrote now after bytes → Going before after whole more
+  going-wrote {after} {bytes} more e w = record {
+    is = rw (w.is, w.ends) (sym (sets-append now.out.now now.at bytes more)) ∙ ap (sets now.out.now now.at) (sym e) ∙ g.is;
+    place = omega (arith, length-append bytes more, ap length e, w.ends, g.place);
+    sized = w.sized ∙ g.sized;
+    same = w.same ∙ g.same;
   }
 
-  pub going-byte : (b : ℕ) (left : List ℕ) → rest ≡ b ∷ left → Going before at whole (set now p b) (p + 1) left
-  going-byte b left e = going-wrote (b ∷ []) left (set now p b) (p + 1) e (wrote-byte now p b)
-
-  pub going_end : rest ≡ [] → Wrote before now at p whole
-  going_end e = record { is = ap (sets now p) (sym e) ∙ g.same; ends = omega (arith, ap length e, g.place) }
+  pub going_end : left ≡ [] → Wrote before now whole
+  going_end e = record { is = ap (sets now.out.now now.at) (sym e) ∙ g.is; ends = omega (arith, ap length e, g.place); sized = g.sized; same = g.same }
 
   -- a text that is left has room where the whole has it
-  pub going-room : (text left : List ℕ) → rest ≡ text ++ left → at + length whole ≤ length before → p + length text ≤ length now
-  going-room text left e room = omega (arith, length-append text left, ap length e, g.place, g.sized)
+  pub going-room : (bytes more : List ℕ) → left ≡ bytes ++ more → Room (length whole) before → Room (length bytes) now
+  going-room bytes more e room = omega (arith, length-append bytes more, ap length e, g.place, g.sized)

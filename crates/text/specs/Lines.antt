@@ -1,36 +1,13 @@
--- What writing lines requires; and the lines of a report, with each outcome as the two tables of the run give it: by its code and its value. Assumes nothing.
-use Rattle.std.specs.Prelude.{◌≡◌, ℕ, suc, ◌+◌, ◌*◌, ◌≤◌, ◌<◌, List, [], ◌∷◌, ◌++◌, length, get_or, ℤ, pos}
+-- The lines of a report, with each outcome as the two tables of the run give it: by its code and its value. Assumes nothing.
+use Rattle.std.specs.Prelude.{ℕ, suc, ◌+◌, List, [], ◌∷◌, ◌++◌, get_or, ℤ, pos}
 use Rattle.alpha.specs.Sheet.{Sheet}
-use Rattle.alpha.specs.Box.{point_at, size}
+use Rattle.alpha.specs.Box.{point_at}
 use Rattle.alpha.specs.Holds.{variable}
 use Rattle.alpha.specs.Check.{Element, elements, total}
 use Rattle.alpha.specs.Ask.{before}
 use Rattle.alpha.specs.Outcome.{Outcome}
 use Rattle.alpha.specs.Program.{accepted_word, nat_text, trimmed, spaced, outcome_text, newline}
 use Rattle.laws.specs.Coded.{decoded}
-use Rattle.laws.specs.Sheets.{vars_of, sheet_of}
-use Rattle.tree.specs.Formed.{Formed}
-use Rattle.domain.specs.Element.{PointOf}
-
--- ---- what is required
-
--- element i of variable v is to be told in n bytes from `at` on
-pub record LineAt (n : ℕ) (bs tab : List ℕ) (v i : ℕ) (out : List ℕ) (at : ℕ) : Type 0 where
-  pub formed : Formed bs tab
-  pub element : PointOf bs v i
-  pub room : at + n ≤ length out
-
--- all elements of variable v, 51 bytes each at most
-pub record LinesAt (bs tab : List ℕ) (v : ℕ) (out : List ℕ) (at : ℕ) : Type 0 where
-  pub formed : Formed bs tab
-  pub known : v < vars_of bs
-  pub room : at + 51 * size (variable (sheet_of bs) v).head.box ≤ length out
-
--- a sheet of so many elements
-pub record ReportAt (bs tab : List ℕ) (many : ℕ) (out : List ℕ) (at : ℕ) : Type 0 where
-  pub formed : Formed bs tab
-  pub many_is : many ≡ total (sheet_of bs)
-  pub room : at + 208910 ≤ length out
 
 -- ---- one element
 

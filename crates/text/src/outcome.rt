@@ -1,41 +1,40 @@
-// An element's outcome, given by its code and its value. Assumes nothing.
-ghost use Rattle.std.specs.Prelude.{◌+◌, ◌≤◌, length};
-ghost use Rattle.alpha.specs.Read.{sort_of};
+// An element's outcome, and its value by its variable's type. Assumes nothing.
+ghost use Rattle.std.specs.Prelude.{length};
+ghost use Rattle.alpha.specs.Kinds.{sort_meant};
 ghost use Rattle.alpha.specs.Program.{value_text, outcome_text};
-ghost use Rattle.laws.specs.Coded.{decoded};
-ghost use Rattle.text.specs.Wrote.{Wrote};
+ghost use Rattle.alpha.specs.Verdict.{outcome_of};
+ghost use Rattle.text.specs.Wrote.{Wrote, Room};
 
-use super::number::signed;
-use super::word::{DIVZERO, FALSE, IS, LOOP, OUTSIDE, OVERFLOW, TRUE, word};
-use alpha::Int;
+use super::writer::Writer;
+use alpha::{Outcome, Sort};
 
-// The value x of a variable whose type has the number `sort`: 0 is integer, 1 is boolean.
-pub fn value(out: &mut [u8], at: usize, sort: usize, x: Int) -> usize
-    requires { (sort ≤ 1) × (at + length (value_text (sort_of sort) x.v) ≤ length out.old) }
-    ensures { Wrote out.old out.new at result (value_text (sort_of sort) x.v) }
-{
-    if sort == 0 {
-        return signed(out, at, x);
-    }
-    if integer::is_zero(x) {
-        return word(out, at, &FALSE);
-    }
-    word(out, at, &TRUE)
-}
-
-// The outcome with that code and that value.
-pub fn outcome(out: &mut [u8], at: usize, sort: usize, code: u8, x: Int) -> usize
-    requires { (sort ≤ 1) × (at + length (outcome_text (sort_of sort) (decoded code x.v)) ≤ length out.old) }
-    ensures { Wrote out.old out.new at result (outcome_text (sort_of sort) (decoded code x.v)) }
-{
-    match code {
-        0 => word(out, at, &OUTSIDE),
-        1 => {
-            let next = word(out, at, &IS);
-            value(out, next, sort, x)
+impl Writer<'_> {
+    // The value x of a variable of that type.
+    pub fn value(&mut self, sort: Sort, x: i64)
+        requires { Room (length (value_text (sort_meant sort) x)) self.old }
+        ensures { Wrote self.old self.new (value_text (sort_meant sort) x) }
+    {
+        match sort {
+            Sort::Integer => self.signed(x),
+            Sort::Boolean if x == 0 => self.word(b"false"),
+            Sort::Boolean => self.word(b"true"),
         }
-        2 => word(out, at, &DIVZERO),
-        3 => word(out, at, &OVERFLOW),
-        _ => word(out, at, &LOOP),
+    }
+
+    // An outcome of such a variable.
+    pub fn outcome(&mut self, sort: Sort, o: Outcome)
+        requires { Room (length (outcome_text (sort_meant sort) (outcome_of o))) self.old }
+        ensures { Wrote self.old self.new (outcome_text (sort_meant sort) (outcome_of o)) }
+    {
+        match o {
+            Outcome::Outside => self.word(b" -"),
+            Outcome::Value(x) => {
+                self.word(b" = ");
+                self.value(sort, x);
+            }
+            Outcome::DivZero => self.word(b" ! DIVZERO"),
+            Outcome::Overflow => self.word(b" ! OVERFLOW"),
+            Outcome::Loop => self.word(b" ! LOOP"),
+        }
     }
 }

@@ -4,6 +4,7 @@ use mathlib.Core.Path.{◌≡◌, refl, sym, ap, ◌∙◌, subst}
 use Prim.Native.Nat.{ℕ, ◌+◌, ◌*◌, ◌≤◌}
 use native.Mathlib.Omega.{arith}
 use mathlib.Core.List.{List}
+use mathlib.Core.Logic.{◌⊎◌, inl, inr}
 use lib.ListN.{length}
 use lib.IntN.{ℤ, pos, nat_abs}
 use Rattle.alpha.specs.Field.{field}
@@ -25,71 +26,60 @@ use Rattle.tree.specs.Standing.{Noded, NodedAs, Wide}
 
 -- ---- a node by its class
 
--- numbers that tell classes apart
-abbrev class_number : Class → ℕ
-class_number Leaf = 0
-class_number Operator = 1
-class_number Case = 2
-class_number Restriction = 3
-class_number Dependence = 4
-
-apart : (a b : Class) → a ≡ b → (class_number a ≡ class_number b → ⊥) → ⊥
-apart a b e other = other (ap class_number e)
-
 module _ (P : Node → Type 0) where
   pub leaf-node : ((v : ℕ) → P (n_var v)) → ((c : ℤ) → P (n_int c)) → ((b : ℕ) → P (n_bool b)) → (nd : Node) → class_of nd ≡ Leaf → P nd
   leaf-node f g h (n_var v) e = f v
   leaf-node f g h (n_int c) e = g c
   leaf-node f g h (n_bool b) e = h b
-  leaf-node f g h (n_unary o) e = absurd (apart Operator Leaf e (λ x. omega arith))
-  leaf-node f g h (n_binary o) e = absurd (apart Operator Leaf e (λ x. omega arith))
-  leaf-node f g h n_if e = absurd (apart Operator Leaf e (λ x. omega arith))
-  leaf-node f g h (n_case n) e = absurd (apart Case Leaf e (λ x. omega arith))
-  leaf-node f g h (n_restr d cs) e = absurd (apart Restriction Leaf e (λ x. omega arith))
-  leaf-node f g h (n_dep m) e = absurd (apart Dependence Leaf e (λ x. omega arith))
+  leaf-node f g h (n_unary o) e = absurd cc
+  leaf-node f g h (n_binary o) e = absurd cc
+  leaf-node f g h n_if e = absurd cc
+  leaf-node f g h (n_case n) e = absurd cc
+  leaf-node f g h (n_restr d cs) e = absurd cc
+  leaf-node f g h (n_dep m) e = absurd cc
 
   pub operator-node : ((o : Unary) → P (n_unary o)) → ((o : Binary) → P (n_binary o)) → P n_if → (nd : Node) → class_of nd ≡ Operator → P nd
-  operator-node f g h (n_var v) e = absurd (apart Leaf Operator e (λ x. omega arith))
-  operator-node f g h (n_int c) e = absurd (apart Leaf Operator e (λ x. omega arith))
-  operator-node f g h (n_bool b) e = absurd (apart Leaf Operator e (λ x. omega arith))
+  operator-node f g h (n_var v) e = absurd cc
+  operator-node f g h (n_int c) e = absurd cc
+  operator-node f g h (n_bool b) e = absurd cc
   operator-node f g h (n_unary o) e = f o
   operator-node f g h (n_binary o) e = g o
   operator-node f g h n_if e = h
-  operator-node f g h (n_case n) e = absurd (apart Case Operator e (λ x. omega arith))
-  operator-node f g h (n_restr d cs) e = absurd (apart Restriction Operator e (λ x. omega arith))
-  operator-node f g h (n_dep m) e = absurd (apart Dependence Operator e (λ x. omega arith))
+  operator-node f g h (n_case n) e = absurd cc
+  operator-node f g h (n_restr d cs) e = absurd cc
+  operator-node f g h (n_dep m) e = absurd cc
 
   pub case-node : ((n : ℕ) → P (n_case n)) → (nd : Node) → class_of nd ≡ Case → P nd
-  case-node f (n_var v) e = absurd (apart Leaf Case e (λ x. omega arith))
-  case-node f (n_int c) e = absurd (apart Leaf Case e (λ x. omega arith))
-  case-node f (n_bool b) e = absurd (apart Leaf Case e (λ x. omega arith))
-  case-node f (n_unary o) e = absurd (apart Operator Case e (λ x. omega arith))
-  case-node f (n_binary o) e = absurd (apart Operator Case e (λ x. omega arith))
-  case-node f n_if e = absurd (apart Operator Case e (λ x. omega arith))
+  case-node f (n_var v) e = absurd cc
+  case-node f (n_int c) e = absurd cc
+  case-node f (n_bool b) e = absurd cc
+  case-node f (n_unary o) e = absurd cc
+  case-node f (n_binary o) e = absurd cc
+  case-node f n_if e = absurd cc
   case-node f (n_case n) e = f n
-  case-node f (n_restr d cs) e = absurd (apart Restriction Case e (λ x. omega arith))
-  case-node f (n_dep m) e = absurd (apart Dependence Case e (λ x. omega arith))
+  case-node f (n_restr d cs) e = absurd cc
+  case-node f (n_dep m) e = absurd cc
 
   pub restriction-node : ((d : ℕ) (cs : List Constraint) → P (n_restr d cs)) → (nd : Node) → class_of nd ≡ Restriction → P nd
-  restriction-node f (n_var v) e = absurd (apart Leaf Restriction e (λ x. omega arith))
-  restriction-node f (n_int c) e = absurd (apart Leaf Restriction e (λ x. omega arith))
-  restriction-node f (n_bool b) e = absurd (apart Leaf Restriction e (λ x. omega arith))
-  restriction-node f (n_unary o) e = absurd (apart Operator Restriction e (λ x. omega arith))
-  restriction-node f (n_binary o) e = absurd (apart Operator Restriction e (λ x. omega arith))
-  restriction-node f n_if e = absurd (apart Operator Restriction e (λ x. omega arith))
-  restriction-node f (n_case n) e = absurd (apart Case Restriction e (λ x. omega arith))
+  restriction-node f (n_var v) e = absurd cc
+  restriction-node f (n_int c) e = absurd cc
+  restriction-node f (n_bool b) e = absurd cc
+  restriction-node f (n_unary o) e = absurd cc
+  restriction-node f (n_binary o) e = absurd cc
+  restriction-node f n_if e = absurd cc
+  restriction-node f (n_case n) e = absurd cc
   restriction-node f (n_restr d cs) e = f d cs
-  restriction-node f (n_dep m) e = absurd (apart Dependence Restriction e (λ x. omega arith))
+  restriction-node f (n_dep m) e = absurd cc
 
   pub dependence-node : ((f : Map) → P (n_dep f)) → (nd : Node) → class_of nd ≡ Dependence → P nd
-  dependence-node f (n_var v) e = absurd (apart Leaf Dependence e (λ x. omega arith))
-  dependence-node f (n_int c) e = absurd (apart Leaf Dependence e (λ x. omega arith))
-  dependence-node f (n_bool b) e = absurd (apart Leaf Dependence e (λ x. omega arith))
-  dependence-node f (n_unary o) e = absurd (apart Operator Dependence e (λ x. omega arith))
-  dependence-node f (n_binary o) e = absurd (apart Operator Dependence e (λ x. omega arith))
-  dependence-node f n_if e = absurd (apart Operator Dependence e (λ x. omega arith))
-  dependence-node f (n_case n) e = absurd (apart Case Dependence e (λ x. omega arith))
-  dependence-node f (n_restr d cs) e = absurd (apart Restriction Dependence e (λ x. omega arith))
+  dependence-node f (n_var v) e = absurd cc
+  dependence-node f (n_int c) e = absurd cc
+  dependence-node f (n_bool b) e = absurd cc
+  dependence-node f (n_unary o) e = absurd cc
+  dependence-node f (n_binary o) e = absurd cc
+  dependence-node f n_if e = absurd cc
+  dependence-node f (n_case n) e = absurd cc
+  dependence-node f (n_restr d cs) e = absurd cc
   dependence-node f (n_dep m) e = f m
 
 -- ---- a tree by its class
@@ -99,24 +89,24 @@ module _ (P : Expr → Type 0) where
   leaf-tree f g h (var v) e = f v
   leaf-tree f g h (int c) e = g c
   leaf-tree f g h (boo b) e = h b
-  leaf-tree f g h (un o a) e = absurd (apart Operator Leaf e (λ x. omega arith))
-  leaf-tree f g h (bin o a b) e = absurd (apart Operator Leaf e (λ x. omega arith))
-  leaf-tree f g h (ite a b c) e = absurd (apart Operator Leaf e (λ x. omega arith))
-  leaf-tree f g h (kase es) e = absurd (apart Case Leaf e (λ x. omega arith))
-  leaf-tree f g h (restr d cs a) e = absurd (apart Restriction Leaf e (λ x. omega arith))
-  leaf-tree f g h (dep m a) e = absurd (apart Dependence Leaf e (λ x. omega arith))
+  leaf-tree f g h (un o a) e = absurd cc
+  leaf-tree f g h (bin o a b) e = absurd cc
+  leaf-tree f g h (ite a b c) e = absurd cc
+  leaf-tree f g h (kase es) e = absurd cc
+  leaf-tree f g h (restr d cs a) e = absurd cc
+  leaf-tree f g h (dep m a) e = absurd cc
 
   pub operator-tree : ((o : Unary) (a : Expr) → P (un o a)) → ((o : Binary) (a b : Expr) → P (bin o a b)) → ((a b c : Expr) → P (ite a b c)) →
       (e : Expr) → class_of (node_of e) ≡ Operator → P e
-  operator-tree f g h (var v) e = absurd (apart Leaf Operator e (λ x. omega arith))
-  operator-tree f g h (int c) e = absurd (apart Leaf Operator e (λ x. omega arith))
-  operator-tree f g h (boo b) e = absurd (apart Leaf Operator e (λ x. omega arith))
+  operator-tree f g h (var v) e = absurd cc
+  operator-tree f g h (int c) e = absurd cc
+  operator-tree f g h (boo b) e = absurd cc
   operator-tree f g h (un o a) e = f o a
   operator-tree f g h (bin o a b) e = g o a b
   operator-tree f g h (ite a b c) e = h a b c
-  operator-tree f g h (kase es) e = absurd (apart Case Operator e (λ x. omega arith))
-  operator-tree f g h (restr d cs a) e = absurd (apart Restriction Operator e (λ x. omega arith))
-  operator-tree f g h (dep m a) e = absurd (apart Dependence Operator e (λ x. omega arith))
+  operator-tree f g h (kase es) e = absurd cc
+  operator-tree f g h (restr d cs a) e = absurd cc
+  operator-tree f g h (dep m a) e = absurd cc
 
 -- ---- a tree at a place by the class that is read there
 
@@ -215,15 +205,15 @@ noded-as bs p h r class told is = record { noded = h; class_is = sym told ∙ is
 
 -- ---- the fields by the class
 
+leaf-size : (nd : Node) → class_of nd ≡ Leaf → node_size nd ≡ 16
+leaf-size = leaf-node (λ nd. node_size nd ≡ 16) (λ v. refl) (λ c. refl) (λ b. refl)
+
+case-size : (nd : Node) → class_of nd ≡ Case → node_size nd ≡ 16
+case-size = case-node (λ nd. node_size nd ≡ 16) (λ n. refl)
+
 module _ (bs : List ℕ) (p : ℕ) where
   abbrev Here : Node → Type 0
   Here nd = NodeAt (vars_of bs) bs p nd
-
-  leaf-size : (nd : Node) → class_of nd ≡ Leaf → node_size nd ≡ 16
-  leaf-size = leaf-node (λ nd. node_size nd ≡ 16) (λ v. refl) (λ c. refl) (λ b. refl)
-
-  case-size : (nd : Node) → class_of nd ≡ Case → node_size nd ≡ 16
-  case-size = case-node (λ nd. node_size nd ≡ 16) (λ n. refl)
 
   restriction-size : (nd : Node) → class_of nd ≡ Restriction → Here nd →
       node_size nd ≡ 24 + nat_abs (field bs (p + 16)) * (16 + 8 * nat_abs (field bs (p + 8)))
@@ -259,23 +249,9 @@ module _ (bs : List ℕ) (p : ℕ) where
     pub leaf-there : p + 16 ≤ length bs
     leaf-there = omega (arith, leaf-size (node_read (vars_of bs) bs p) h.class_is, (node-here bs p h.noded).there)
 
-    pub leaf-end : p + 16 ≡ node_end (vars_of bs) bs p
-    leaf-end = omega (arith, leaf-size (node_read (vars_of bs) bs p) h.class_is, size-here bs p h.noded)
-
-    pub leaf-arity : 0 ≡ arity (node_read (vars_of bs) bs p)
-    leaf-arity = leaf-node (λ nd. 0 ≡ arity nd) (λ v. refl) (λ c. refl) (λ b. refl) (node_read (vars_of bs) bs p) h.class_is
-
-  module _ (h : NodedAs bs p Operator) where
-    pub operator-some : 1 ≤ arity (node_read (vars_of bs) bs p)
-    operator-some =
-        operator-node (λ nd. 1 ≤ arity nd) (λ o. omega arith) (λ o. omega arith) (omega arith) (node_read (vars_of bs) bs p) h.class_is
-
   module _ (h : NodedAs bs p Case) where
     pub case-there : p + 16 ≤ length bs
     case-there = omega (arith, case-size (node_read (vars_of bs) bs p) h.class_is, (node-here bs p h.noded).there)
-
-    pub case-end : p + 16 ≡ node_end (vars_of bs) bs p
-    case-end = omega (arith, case-size (node_read (vars_of bs) bs p) h.class_is, size-here bs p h.noded)
 
     pub case-some : 1 ≤ arity (node_read (vars_of bs) bs p)
     case-some = case-node (λ nd. Here nd → 1 ≤ arity nd) (λ n at. at.fields.low) (node_read (vars_of bs) bs p) h.class_is (node-here bs p h.noded)
@@ -307,3 +283,13 @@ module _ (bs : List ℕ) (p : ℕ) where
 
     pub dependence-arity : 1 ≡ arity (node_read (vars_of bs) bs p)
     dependence-arity = dependence-node (λ nd. 1 ≡ arity nd) (λ f. refl) (node_read (vars_of bs) bs p) h.class_is
+
+-- a restriction and a dependence have their fields, and one child
+module _ (bs : List ℕ) (p : ℕ) (h : Noded (vars_of bs) bs p) (x : Class) (told : x ≡ class_at bs p) where
+  pub wide-fields : (x ≡ Restriction) ⊎ (x ≡ Dependence) → Wide bs p
+  wide-fields (inl r) = restriction-fields bs p (noded-as bs p h x Restriction told r)
+  wide-fields (inr d) = dependence-fields bs p (noded-as bs p h x Dependence told d)
+
+  pub child-arity : (x ≡ Restriction) ⊎ (x ≡ Dependence) → 1 ≡ arity (node_read (vars_of bs) bs p)
+  child-arity (inl r) = restriction-arity bs p (noded-as bs p h x Restriction told r)
+  child-arity (inr d) = dependence-arity bs p (noded-as bs p h x Dependence told d)

@@ -25,6 +25,7 @@ use Rattle.tree.specs.Ruled.{declared_passes}
 use Rattle.tree.specs.Formed.{DeclaredRead}
 use Rattle.tree.proofs.Heading.{prepared-sections}
 use Rattle.tree.proofs.Reaching.{row-fields}
+use Rattle.sheet.specs.declared.table.Table.{Table}
 
 -- ---- one declared constraint
 
@@ -34,7 +35,7 @@ unfolding InRow
 row_goes hs bs [] p q h = omega arith
 row_goes hs bs (d ∷ ds) p q h = omega (arith, declared-next hs bs p d h.next h.here, row_goes hs bs ds h.next q h.after)
 
-module _ (bs tab : List ℕ) (h : Prepared bs tab) (p : ℕ) (d : DeclaredRead bs p) where
+module _ (bs : List ℕ) (tab : Table) (h : Prepared bs tab) (p : ℕ) (d : DeclaredRead bs p) where
   here : DeclaredAt (heads_of bs) bs p d.what
   here = declared-at (heads_of bs) bs p d.what d.next d.read
 
@@ -68,14 +69,16 @@ module _ (bs : List ℕ) (p v : ℕ) (d : Declared) (q : ℕ) (e : declared (hea
 -- ---- so many of them
 
 -- the second section's count is there
-pub section-there : (bs tab : List ℕ) → Prepared bs tab → (raw_of bs).second + 8 ≤ length bs
+pub section-there : (bs : List ℕ) (tab : Table) → Prepared bs tab → (raw_of bs).second + 8 ≤ length bs
 section-there bs tab h =
     let s = prepared-sections bs tab h in
-    let d : (raw_of bs).second + 8 ≤ (raw_of bs).third = row_goes (heads_of bs) bs (raw_of bs).decls ((raw_of bs).second + 8) (raw_of bs).third s.declared_stand in
+    let d : (raw_of bs).second + 8 ≤ (raw_of bs).third =
+    row_goes (heads_of bs) bs (raw_of bs).decls ((raw_of bs).second + 8) (raw_of bs).third s.declared_stand in
     omega (arith, s.first_is, s.first_there)
 
 -- the constraints of v among these pass if the first does and those among the others do
-own-more : (v : ℕ) (d : Declared) (ds : List Declared) → all_reach top_reach (of_variable v (d ∷ ds)) ≡ declared_passes v d && all_reach top_reach (of_variable v ds)
+own-more : (v : ℕ) (d : Declared) (ds : List Declared) →
+    all_reach top_reach (of_variable v (d ∷ ds)) ≡ declared_passes v d && all_reach top_reach (of_variable v ds)
 own-more v d ds = go (eqb d.who v)
   where
     go : (b : Bool) → all_reach top_reach (ifb b (λ _. d.what ∷ of_variable v ds) (λ _. of_variable v ds))
@@ -91,20 +94,14 @@ module _ (bs : List ℕ) (v : ℕ) where
     pub stand : InRow rest (declared (heads_of bs)) bs p (raw_of bs).third
     pub decides : all_reach top_reach (of_variable v rest) ≡ all_reach top_reach (of_variable v (raw_of bs).decls)
 
-  pub all_left : (tab : List ℕ) → Prepared bs tab → (left p : ℕ) → left ≡ nat_abs (field bs (raw_of bs).second) → p ≡ (raw_of bs).second + 8 → DeclaredLeft left p
+  pub all_left : (tab : Table) → Prepared bs tab → (left p : ℕ) → left ≡ nat_abs (field bs (raw_of bs).second) →
+      p ≡ (raw_of bs).second + 8 → DeclaredLeft left p
   all_left tab h left p l e =
       let s = prepared-sections bs tab h in
       let n : length (raw_of bs).decls ≡ left = sym (l ∙ ap nat_abs s.declared_count) in
       record { rest = (raw_of bs).decls; many = n; stand = rw e s.declared_stand; decides = refl }
 
   module _ (left p : ℕ) (h : DeclaredLeft left p) where
-    pub none-declared-left : left ≤ 0 → true ≡ all_reach top_reach (of_variable v (raw_of bs).decls)
-    none-declared-left l = go h.rest h.many ∙ h.decides
-      where
-        go : (ds : List Declared) → length ds ≡ left → true ≡ all_reach top_reach (of_variable v ds)
-        go [] m = refl
-        go (d ∷ ds) m = absurd (omega arith)
-
     -- the first of them, and the others
     pub record FirstDeclared : Type 0 where
       pub read : DeclaredRead bs p

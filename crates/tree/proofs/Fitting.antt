@@ -1,10 +1,10 @@
 -- What the walk that judges SHAPE says of one node: whether it may stand where so many dimensions are wanted, and how many are wanted of its
 -- children, by its class. Assumes nothing.
-use mathlib.Core.Path.{◌≡◌, refl, sym, ap}
+use mathlib.Core.Path.{◌≡◌, sym, ap, ◌∙◌}
 use Prim.Native.Nat.{ℕ, ◌+◌, ◌<◌}
 use native.Mathlib.Omega.{arith}
-use mathlib.Core.Bool.{true}
 use mathlib.Core.List.{List}
+use mathlib.Core.Logic.{◌⊎◌, inl, inr}
 use lib.IntN.{nat_abs}
 use lib.Dec.{eqb}
 use Rattle.alpha.specs.Field.{field}
@@ -15,10 +15,11 @@ use Rattle.laws.specs.Children.{fits_here, wanted}
 use Rattle.laws.specs.Sheets.{vars_of}
 use Rattle.laws.proofs.Readers.{counted_is}
 use Rattle.laws.proofs.Nodes.{NodeAt}
-use Rattle.tree.specs.declared.Class.TheVariants.{Leaf, Operator, Case, Restriction, Dependence}
+use Rattle.tree.specs.declared.Class.{Class}
+use Rattle.tree.specs.declared.Class.TheVariants.{Restriction, Dependence}
 use Rattle.tree.specs.Classes.{class_at}
 use Rattle.tree.specs.Standing.{Noded, NodedAs}
-use Rattle.tree.proofs.Classes.{leaf-node, operator-node, case-node, restriction-node, dependence-node, node-here}
+use Rattle.tree.proofs.Classes.{restriction-node, dependence-node, node-here}
 use Rattle.tree.proofs.Noding.{node_of}
 
 module _ (bs : List ℕ) (p : ℕ) where
@@ -42,44 +43,19 @@ module _ (bs : List ℕ) (p : ℕ) where
 
     -- ---- every other node
 
-    pub integer-fits : code_of nd ≡ 1 → eqb 0 n ≡ fits_here nd hs n
-    integer-fits e = let c = node_of nd 1 e in rw c.1
-
-    pub boolean-fits : code_of nd ≡ 2 → eqb 0 n ≡ fits_here nd hs n
-    boolean-fits e = let b = node_of nd 2 e in rw b.1
-
-    pub operator-fits : class_at bs p ≡ Operator → true ≡ fits_here nd hs n
-    operator-fits c = operator-node (λ nd. true ≡ fits_here nd hs n) (λ o. refl) (λ o. refl) refl nd c
-
-    pub case-fits : class_at bs p ≡ Case → true ≡ fits_here nd hs n
-    case-fits c = case-node (λ nd. true ≡ fits_here nd hs n) (λ k. refl) nd c
-
     abbrev AsField : Node → Type 0
     AsField nd = NodeAt (vars_of bs) bs p nd → eqb (nat_abs (field bs (p + 8))) n ≡ fits_here nd hs n
 
-    pub restriction-fits : NodedAs bs p Restriction → eqb (nat_abs (field bs (p + 8))) n ≡ fits_here nd hs n
-    restriction-fits h =
-        restriction-node AsField (λ d cs at. ap (λ x. eqb x n) (sym (counted_is at.fields.dim))) nd h.class_is (node-here bs p h.noded)
-
-    pub dependence-fits : NodedAs bs p Dependence → eqb (nat_abs (field bs (p + 8))) n ≡ fits_here nd hs n
-    dependence-fits h =
-        dependence-node AsField (λ f at. ap (λ x. eqb x n) (sym (counted_is at.fields.width))) nd h.class_is (node-here bs p h.noded)
+    pub wide-fits : Noded (vars_of bs) bs p → (x : Class) → x ≡ class_at bs p → (x ≡ Restriction) ⊎ (x ≡ Dependence) →
+        eqb (nat_abs (field bs (p + 8))) n ≡ fits_here nd hs n
+    wide-fits h x told (inl r) =
+        restriction-node AsField (λ d cs at. ap (λ x. eqb x n) (sym (counted_is at.fields.dim))) nd (sym told ∙ r) (node-here bs p h)
+    wide-fits h x told (inr d) =
+        dependence-node AsField (λ f at. ap (λ x. eqb x n) (sym (counted_is at.fields.width))) nd (sym told ∙ d) (node-here bs p h)
 
   -- ---- what is wanted of the children
 
   module _ (n : ℕ) where
-    pub leaf-wants : class_at bs p ≡ Leaf → n ≡ wanted nd n
-    leaf-wants c = leaf-node (λ nd. n ≡ wanted nd n) (λ v. refl) (λ c. refl) (λ b. refl) nd c
-
-    pub operator-wants : class_at bs p ≡ Operator → n ≡ wanted nd n
-    operator-wants c = operator-node (λ nd. n ≡ wanted nd n) (λ o. refl) (λ o. refl) refl nd c
-
-    pub case-wants : class_at bs p ≡ Case → n ≡ wanted nd n
-    case-wants c = case-node (λ nd. n ≡ wanted nd n) (λ k. refl) nd c
-
-    pub restriction-wants : class_at bs p ≡ Restriction → n ≡ wanted nd n
-    restriction-wants c = restriction-node (λ nd. n ≡ wanted nd n) (λ d cs. refl) nd c
-
     pub dependence-wants : NodedAs bs p Dependence → nat_abs (field bs (p + 16)) ≡ wanted nd n
     dependence-wants h =
         dependence-node (λ nd. NodeAt (vars_of bs) bs p nd → nat_abs (field bs (p + 16)) ≡ wanted nd n) (λ f at. sym (counted_is at.fields.many))

@@ -15,6 +15,7 @@ use Rattle.laws.proofs.Heads.{HeadAt}
 use Rattle.laws.proofs.Bodies.{SheetRead, read-says}
 use Rattle.laws.proofs.Checked.{heads_at-each}
 use Rattle.tree.specs.Prepared.{Prepared}
+use Rattle.sheet.specs.declared.table.Table.{Table}
 
 -- the record h stands at p, and its fields say what it is
 pub record Recorded (bs : List ℕ) (h : Head) (p : ℕ) : Type 0 where
@@ -39,7 +40,7 @@ head-recorded earlier bs p h a =
       dim-high = omega (arith, a.dim.high);
     })
 
-module _ (bs tab : List ℕ) (h : Prepared bs tab) where
+module _ (bs : List ℕ) (tab : Table) (h : Prepared bs tab) where
   pub prepared-read : SheetRead bs (raw_of bs)
   prepared-read = read-says h.accepted
 
@@ -47,7 +48,7 @@ module _ (bs tab : List ℕ) (h : Prepared bs tab) where
   prepared-sections = prepared-read.parts
 
   module _ (v : ℕ) (lt : v < vars_of bs) where
-    pub prepared-record : Recorded bs (get_or (heads_of bs) v no_head) (get_or tab v 0)
+    pub prepared-record : Recorded bs (get_or (heads_of bs) v no_head) (get_or tab.records v 0)
     prepared-record =
         rw (h.table.record_at v lt)
         (heads_at-each (λ x. Recorded bs x x.place) bs (λ earlier p x a. head-recorded earlier bs p x a) (heads_of bs) [] 8 (raw_of bs).second

@@ -1,6 +1,7 @@
 -- The ways through the walk that judges SHAPE: for each, the judgement of the tree or trees from what the code has found. Assumes nothing.
+use Rattle.std.specs.Prelude.{Option, Some, None}
 use mathlib.Core.Path.{◌≡◌, refl, sym, ap, ◌∙◌}
-use Prim.Native.Nat.{ℕ, zero, suc, ◌-◌, ◌≤◌, ◌<◌}
+use Prim.Native.Nat.{ℕ, zero, suc, ◌-◌, ◌≤◌}
 use native.Mathlib.Omega.{arith}
 use mathlib.Core.Bool.{Bool, true, false, ◌&&◌}
 use mathlib.Core.List.{List, [], ◌∷◌}
@@ -16,8 +17,7 @@ use Rattle.laws.specs.Children.{arity, fits_here, wanted}
 use Rattle.laws.specs.Sheets.{heads_of, vars_of}
 use Rattle.laws.proofs.Nodes.{node_end_lem}
 use Rattle.laws.proofs.Children.{build, branches-many, expr_at-branches, fits-build}
-use Rattle.tree.specs.declared.Shaped.{Shaped}
-use Rattle.tree.specs.declared.Shaped.TheVariants.{Fits, Bad}
+use Rattle.tree.specs.declared.Rest.{Rest}
 use Rattle.tree.specs.Standing.{Noded}
 use Rattle.tree.specs.Judged.{Flat, judged, tree_judged, trees_judged, Judges}
 use Rattle.tree.proofs.Classes.{read_here}
@@ -44,74 +44,80 @@ flat-first bs p left some h = go h.nodes h.many h.stand
 
 -- ---- one tree
 
+-- the nodes that are left after a tree of which a test says b
+abbrev after_test : Bool → ℕ → ℕ → Option Rest
+after_test b o n = ifb b (λ _. Some (record { next = o; left = n })) (λ _. None)
+
 -- a test that nothing passes
-all-bad : {A : Type 0} (t : Parsed A) → Bad ≡ judged (λ _. false) t
+all-bad : {A : Type 0} (t : Parsed A) → None ≡ judged (λ _. false) t
 all-bad ill = refl
 all-bad (tree a o n) = refl
 
-module _ (bs : List ℕ) (p left deep want : ℕ) where
-  pub tree-no-nodes : left < 1 → Bad ≡ tree_judged bs p left deep want
+module _ (bs : List ℕ) (from : Rest) (deep want : ℕ) where
+  pub tree-no-nodes : from.left ≡ 0 → None ≡ tree_judged bs from deep want
   unfolding expr_at
-  tree-no-nodes l = go deep left l
+  tree-no-nodes l = go deep from.left l
     where
-      go : (d m : ℕ) → m < 1 → Bad ≡ tree_judged bs p m d want
+      go : (d m : ℕ) → m ≡ 0 → None ≡ tree_judged bs (record { next = from.next; left = m }) d want
       go zero m l = refl
       go (suc d) zero l = refl
       go (suc d) (suc m) l = absurd (omega arith)
 
-  pub tree-no-depth : deep < 1 → Bad ≡ tree_judged bs p left deep want
+  pub tree-no-depth : deep ≡ 0 → None ≡ tree_judged bs from deep want
   unfolding expr_at
-  tree-no-depth l = let e : deep ≡ 0 = omega arith in rw e refl
+  tree-no-depth e = rw e refl
 
-  module _ (nodes : 1 ≤ left) (depth : 1 ≤ deep) (noded : Noded (vars_of bs) bs p) where
+  module _ (nodes : 1 ≤ from.left) (depth : 1 ≤ deep) (noded : Noded (vars_of bs) bs from.next) where
     abbrev nd : Node
-    nd = node_read (vars_of bs) bs p
+    nd = node_read (vars_of bs) bs from.next
 
     abbrev q : ℕ
-    q = node_end (vars_of bs) bs p
+    q = node_end (vars_of bs) bs from.next
 
-    read : node (vars_of bs) bs p ≡ got nd q
-    read = read_here bs p noded
+    read : node (vars_of bs) bs from.next ≡ got nd q
+    read = read_here bs from.next noded
 
-    parts : expr_at deep (vars_of bs) bs p left ≡ then (branches (λ o n. expr_at (deep - 1) (vars_of bs) bs o n) (arity nd) q (left - 1))
+    parts : expr_at deep (vars_of bs) bs from.next from.left ≡ then (branches (λ o n. expr_at (deep - 1) (vars_of bs) bs o n) (arity nd) q (from.left - 1))
         (λ es o n. tree (build nd es) o n)
-    parts = go deep left depth nodes
+    parts = go deep from.left depth nodes
       where
         go : (d m : ℕ) → 1 ≤ d → 1 ≤ m →
-            expr_at d (vars_of bs) bs p m ≡ then (branches (λ o n. expr_at (d - 1) (vars_of bs) bs o n) (arity nd) q (m - 1)) (λ es o n. tree (build nd es) o n)
+            expr_at d (vars_of bs) bs from.next m
+            ≡ then (branches (λ o n. expr_at (d - 1) (vars_of bs) bs o n) (arity nd) q (m - 1)) (λ es o n. tree (build nd es) o n)
         go zero m k l = absurd (omega arith)
         go (suc d) zero k l = absurd (omega arith)
         go (suc d) (suc m) k l =
             let e : suc d - 1 ≡ d = omega arith in
             let f : suc m - 1 ≡ m = omega arith in
-            rw (e, f) (expr_at-branches (vars_of bs) bs d p m q nd read)
+            rw (e, f) (expr_at-branches (vars_of bs) bs d from.next m q nd read)
 
     -- a tree of this node is judged by the node and then by the children
     by-node : (b : Bool) → fits_here nd (heads_of bs) want ≡ b → (t : Parsed Exprs) →
-        branches (λ o n. expr_at (deep - 1) (vars_of bs) bs o n) (arity nd) q (left - 1) ≡ t →
+        branches (λ o n. expr_at (deep - 1) (vars_of bs) bs o n) (arity nd) q (from.left - 1) ≡ t →
         judged (λ e. fits e (heads_of bs) want) (then t (λ es o n. tree (build nd es) o n)) ≡ judged (λ es. b && all_fit es (heads_of bs) (wanted nd want)) t
     by-node b e ill g = refl
     by-node b e (tree es o n) g =
-        let many = branches-many (λ o n. expr_at (deep - 1) (vars_of bs) bs o n) (arity nd) q (left - 1) es o n g in
+        let many = branches-many (λ o n. expr_at (deep - 1) (vars_of bs) bs o n) (arity nd) q (from.left - 1) es o n g in
         rw (fits-build (heads_of bs) want nd es many, e)
 
     judged-by : (b : Bool) → fits_here nd (heads_of bs) want ≡ b →
-        tree_judged bs p left deep want ≡ judged (λ es. b && all_fit es (heads_of bs) (wanted nd want))
-        (branches (λ o n. expr_at (deep - 1) (vars_of bs) bs o n) (arity nd) q (left - 1))
+        tree_judged bs from deep want ≡ judged (λ es. b && all_fit es (heads_of bs) (wanted nd want))
+        (branches (λ o n. expr_at (deep - 1) (vars_of bs) bs o n) (arity nd) q (from.left - 1))
     judged-by b e =
         ap (judged (λ e. fits e (heads_of bs) want)) parts
-        ∙ by-node b e (branches (λ o n. expr_at (deep - 1) (vars_of bs) bs o n) (arity nd) q (left - 1)) refl
+        ∙ by-node b e (branches (λ o n. expr_at (deep - 1) (vars_of bs) bs o n) (arity nd) q (from.left - 1)) refl
 
-    pub tree-misfit : fits_here nd (heads_of bs) want ≡ false → Bad ≡ tree_judged bs p left deep want
-    tree-misfit e = all-bad (branches (λ o n. expr_at (deep - 1) (vars_of bs) bs o n) (arity nd) q (left - 1)) ∙ sym (judged-by false e)
+    pub tree-misfit : fits_here nd (heads_of bs) want ≡ false → None ≡ tree_judged bs from deep want
+    tree-misfit e = all-bad (branches (λ o n. expr_at (deep - 1) (vars_of bs) bs o n) (arity nd) q (from.left - 1)) ∙ sym (judged-by false e)
 
-    pub tree-goes : fits_here nd (heads_of bs) want ≡ true → trees_judged bs q (left - 1) (deep - 1) (wanted nd want) (arity nd) ≡ tree_judged bs p left deep want
+    pub tree-goes : fits_here nd (heads_of bs) want ≡ true →
+        trees_judged bs (record { next = q; left = from.left - 1 }) (deep - 1) (wanted nd want) (arity nd) ≡ tree_judged bs from deep want
     tree-goes e = sym (judged-by true e)
 
 -- ---- so many trees
 
-module _ (bs : List ℕ) (p left deep want count : ℕ) where
-  pub trees-none : count ≤ 0 → Fits p left ≡ trees_judged bs p left deep want count
+module _ (bs : List ℕ) (from : Rest) (deep want count : ℕ) where
+  pub trees-none : count ≤ 0 → Some from ≡ trees_judged bs from deep want count
   unfolding branches all_fit
   trees-none l = let e : count ≡ 0 = omega arith in rw e refl
 
@@ -120,12 +126,12 @@ module _ (bs : List ℕ) (p left deep want count : ℕ) where
     after e o n = then (branches (λ o n. expr_at deep (vars_of bs) bs o n) (count - 1) o n) (λ es o₂ n₂. tree (more e es) o₂ n₂)
 
     -- the first tree, and then the others
-    split : branches (λ o n. expr_at deep (vars_of bs) bs o n) count p left ≡ then (expr_at deep (vars_of bs) bs p left) after
+    split : branches (λ o n. expr_at deep (vars_of bs) bs o n) count from.next from.left ≡ then (expr_at deep (vars_of bs) bs from.next from.left) after
     unfolding branches
     split = go count some
       where
-        go : (k : ℕ) → 1 ≤ k → branches (λ o n. expr_at deep (vars_of bs) bs o n) k p left
-            ≡ then (expr_at deep (vars_of bs) bs p left)
+        go : (k : ℕ) → 1 ≤ k → branches (λ o n. expr_at deep (vars_of bs) bs o n) k from.next from.left
+            ≡ then (expr_at deep (vars_of bs) bs from.next from.left)
             (λ e o n. then (branches (λ o n. expr_at deep (vars_of bs) bs o n) (k - 1) o n) (λ es o₂ n₂. tree (more e es) o₂ n₂))
         go zero l = absurd (omega arith)
         go (suc k) l = let e : suc k - 1 ≡ k = omega arith in rw e refl
@@ -137,38 +143,38 @@ module _ (bs : List ℕ) (p left deep want count : ℕ) where
     with_first e b h ill = refl
     with_first e b h (tree es o n) = rw h
 
-    first-bad : (t : Parsed Expr) → Bad ≡ judged (λ e. fits e (heads_of bs) want) t → Bad ≡ judged (λ es. all_fit es (heads_of bs) want) (then t after)
+    first-bad : (t : Parsed Expr) → None ≡ judged (λ e. fits e (heads_of bs) want) t → None ≡ judged (λ es. all_fit es (heads_of bs) want) (then t after)
     first-bad ill h = refl
     first-bad (tree e o n) h = by (fits e (heads_of bs) want) refl h
       where
-        by : (b : Bool) → fits e (heads_of bs) want ≡ b → Bad ≡ ifb b (λ _. Fits o n) (λ _. Bad) → Bad ≡ judged (λ es. all_fit es (heads_of bs) want) (after e o n)
-        by true f h = let z : ◌≡◌ {A = ℕ} 0 1 = cc in absurd (omega arith)
+        by : (b : Bool) → fits e (heads_of bs) want ≡ b → None ≡ after_test b o n → None ≡ judged (λ es. all_fit es (heads_of bs) want) (after e o n)
+        by true f h = absurd cc
         by false f h =
             all-bad (branches (λ o n. expr_at deep (vars_of bs) bs o n) (count - 1) o n)
             ∙ sym (with_first e false f (branches (λ o n. expr_at deep (vars_of bs) bs o n) (count - 1) o n))
 
-    first_fits : (q m : ℕ) (t : Parsed Expr) → Fits q m ≡ judged (λ e. fits e (heads_of bs) want) t →
-        trees_judged bs q m deep want (count - 1) ≡ judged (λ es. all_fit es (heads_of bs) want) (then t after)
-    first_fits q m ill h = let z : ◌≡◌ {A = ℕ} 0 1 = cc in absurd (omega arith)
-    first_fits q m (tree e o n) h = by (fits e (heads_of bs) want) refl h
+    first_fits : (rest : Rest) (t : Parsed Expr) → Some rest ≡ judged (λ e. fits e (heads_of bs) want) t →
+        trees_judged bs rest deep want (count - 1) ≡ judged (λ es. all_fit es (heads_of bs) want) (then t after)
+    first_fits rest ill h = absurd cc
+    first_fits rest (tree e o n) h = by (fits e (heads_of bs) want) refl h
       where
-        by : (b : Bool) → fits e (heads_of bs) want ≡ b → Fits q m ≡ ifb b (λ _. Fits o n) (λ _. Bad) →
-            trees_judged bs q m deep want (count - 1) ≡ judged (λ es. all_fit es (heads_of bs) want) (after e o n)
-        by false f h = let z : ◌≡◌ {A = ℕ} 0 1 = cc in absurd (omega arith)
+        by : (b : Bool) → fits e (heads_of bs) want ≡ b → Some rest ≡ after_test b o n →
+            trees_judged bs rest deep want (count - 1) ≡ judged (λ es. all_fit es (heads_of bs) want) (after e o n)
+        by false f h = absurd cc
         by true f h =
-            let x : q ≡ o = cc in
-            let y : m ≡ n = cc in
-            rw (x, y) (sym (with_first e true f (branches (λ o n. expr_at deep (vars_of bs) bs o n) (count - 1) o n)))
+            let x : ◌≡◌ {A = Rest} rest (record { next = o; left = n }) = cc in
+            rw x (sym (with_first e true f (branches (λ o n. expr_at deep (vars_of bs) bs o n) (count - 1) o n)))
 
-    pub trees-bad : Bad ≡ tree_judged bs p left deep want → Bad ≡ trees_judged bs p left deep want count
-    trees-bad h = first-bad (expr_at deep (vars_of bs) bs p left) h ∙ ap (judged (λ es. all_fit es (heads_of bs) want)) (sym split)
+    pub trees-bad : None ≡ tree_judged bs from deep want → None ≡ trees_judged bs from deep want count
+    trees-bad h = first-bad (expr_at deep (vars_of bs) bs from.next from.left) h ∙ ap (judged (λ es. all_fit es (heads_of bs) want)) (sym split)
 
-    pub trees-go : (q m : ℕ) → Fits q m ≡ tree_judged bs p left deep want → trees_judged bs q m deep want (count - 1) ≡ trees_judged bs p left deep want count
-    trees-go q m h = first_fits q m (expr_at deep (vars_of bs) bs p left) h ∙ ap (judged (λ es. all_fit es (heads_of bs) want)) (sym split)
+    pub trees-go : (rest : Rest) → Some rest ≡ tree_judged bs from deep want → trees_judged bs rest deep want (count - 1) ≡ trees_judged bs from deep want count
+    trees-go rest h = first_fits rest (expr_at deep (vars_of bs) bs from.next from.left) h ∙ ap (judged (λ es. all_fit es (heads_of bs) want)) (sym split)
 
 -- where there is nothing that fits, nothing is left to stand
-pub bad-judges : (bs : List ℕ) (x : Shaped) → Bad ≡ x → Judges bs x Bad
-bad-judges bs x h = record { is = h; flat = λ q n e. let z : ◌≡◌ {A = ℕ} 0 1 = cc in absurd (omega arith) }
+pub bad-judges : (bs : List ℕ) (x : Option Rest) → None ≡ x → Judges bs x None
+bad-judges bs x h = record { is = h; flat = λ rest e. absurd cc }
 
-pub fits-judges : (bs : List ℕ) (x : Shaped) (p left : ℕ) → Fits p left ≡ x → Flat bs p left → Judges bs x (Fits p left)
-fits-judges bs x p left h f = record { is = h; flat = λ q n e. let a : p ≡ q = cc in let b : left ≡ n = cc in rw (← a, ← b) f }
+pub fits-judges : (bs : List ℕ) (x : Option Rest) (from : Rest) → Some from ≡ x → Flat bs from.next from.left → Judges bs x (Some from)
+fits-judges bs x from h f =
+    record { is = h; flat = λ rest e. let a : ◌≡◌ {A = Rest} from rest = cc in rw (← a) f }

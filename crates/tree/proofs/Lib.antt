@@ -2,7 +2,6 @@
 pub mod Classes
 pub mod Noding
 pub mod Standings
-pub mod Ending
 pub mod Heading
 pub mod Fitting
 pub mod Judging

@@ -17,7 +17,8 @@ use Rattle.tree.proofs.Classes.{leaf-node, operator-node}
 abbrev pub Coded : Node → ℕ → Type 0
 Coded nd code =
     get_or (
-    ((v : ℕ) × (nd ≡ n_var v)) ∷ ((c : ℤ) × (nd ≡ n_int c)) ∷ ((b : ℕ) × (nd ≡ n_bool b)) ∷ ((o : Unary) × (nd ≡ n_unary o)) ∷ ((o : Binary) × (nd ≡ n_binary o)) ∷
+    ((v : ℕ) × (nd ≡ n_var v)) ∷ ((c : ℤ) × (nd ≡ n_int c)) ∷ ((b : ℕ) × (nd ≡ n_bool b)) ∷ ((o : Unary) × (nd ≡ n_unary o)) ∷
+    ((o : Binary) × (nd ≡ n_binary o)) ∷
     (nd ≡ n_if) ∷ ((n : ℕ) × (nd ≡ n_case n)) ∷ ((d : ℕ) × (cs : List Constraint) × (nd ≡ n_restr d cs)) ∷ ((f : Map) × (nd ≡ n_dep f)) ∷ []) code ⊥
 
 coded-self : (nd : Node) → Coded nd (code_of nd)

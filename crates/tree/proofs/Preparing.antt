@@ -1,7 +1,7 @@
 -- A sheet that was read is prepared: what `sheet::read` ensures where it accepts is what the walkers require. Assumes nothing.
+use Rattle.std.specs.Prelude.{Ok}
 use mathlib.Core.Path.{◌≡◌, refl, sym, ap, ◌∙◌, subst}
 use Prim.Native.Nat.{ℕ}
-use native.Mathlib.Omega.{arith}
 use mathlib.Core.Bool.{Bool, true, false}
 use mathlib.Core.List.{List, []}
 use lib.ListN.{length}
@@ -11,8 +11,8 @@ use Rattle.alpha.specs.Pick.{ifb}
 use Rattle.alpha.specs.Answer.{accepted, LONG, TAIL}
 use Rattle.alpha.specs.Sheet.{Raw}
 use Rattle.alpha.specs.Read.{Got, got, bad, after, repeat, count, heads, declared, node, ended, sections, read}
-use Rattle.alpha.specs.declared.Verdict.TheVariants.{Accepted}
 use Rattle.laws.specs.Sheets.{got_raw, raw_of}
+use Rattle.sheet.specs.declared.table.Table.{Table}
 use Rattle.sheet.specs.Table.{Reads, answer_of}
 use Rattle.tree.specs.Prepared.{Prepared}
 
@@ -56,7 +56,7 @@ module _ (bs : List ℕ) where
   pub read-ends : (r : Raw) (q : ℕ) → read bs ≡ got r q → q ≡ length bs
   read-ends r q e = subst Whole e read_whole
 
-  pub read-prepared : (tab : List ℕ) (n : ℕ) → Reads bs tab (Accepted n) → Prepared bs tab
+  pub read-prepared : (tab : Table) (n : ℕ) → Reads bs tab (Ok n) → Prepared bs tab
   read-prepared tab n h = go (read bs) refl h.answer
     where
       go : (g : Got Raw) → read bs ≡ g → accepted n ≡ answer_of (read bs) → Prepared bs tab
@@ -66,4 +66,4 @@ module _ (bs : List ℕ) where
             accepted = e ∙ ap (got r) (read-ends r q e) ∙ ap (λ x. got x (length bs)) (sym is);
             table = rw is (h.table r q e);
           }
-      go (bad m q) e a = let x = a ∙ ap answer_of e in let z : ◌≡◌ {A = ℕ} 0 1 = cc in absurd (omega arith)
+      go (bad m q) e a = let x = a ∙ ap answer_of e in absurd cc

@@ -1,5 +1,6 @@
 -- The ways through the walk that judges REACH: what a row, a node, a tree and so many trees say, from what the code has found.
 -- Assumes nothing.
+use Rattle.std.specs.Prelude.{Option, Some, None}
 use mathlib.Core.Path.{◌≡◌, refl, sym, ap, ◌∙◌, subst}
 use Prim.Native.Nat.{ℕ, zero, suc, ◌+◌, ◌*◌, ◌-◌, ◌≤◌, ◌<◌}
 use native.Mathlib.Nat.{suc-mul, zero-mul}
@@ -14,8 +15,6 @@ use Rattle.alpha.specs.Field.{field}
 use Rattle.alpha.specs.Sheet.{Row, Constraint, Map, Node, Expr, Exprs}
 use Rattle.alpha.specs.Sheet.{Node.n_var, Node.n_int, Node.n_bool, Node.n_unary, Node.n_binary, Node.n_if, Node.n_case, Node.n_restr, Node.n_dep, Exprs.more}
 use Rattle.alpha.specs.Reach.{limit, row_reach, map_reach, all_reach, reach, reach_all}
-use Rattle.affine.specs.declared.Reached.{Reached}
-use Rattle.affine.specs.declared.Reached.TheVariants.{Within, Past}
 use Rattle.affine.specs.declared.Map as Code
 use Rattle.affine.specs.Value.{several, map_of}
 use Rattle.affine.specs.Size.{Tells}
@@ -29,26 +28,23 @@ use Rattle.laws.proofs.Nodes.{Restricts, NodeAt, restr-constraint}
 use Rattle.laws.proofs.Shapes.{at_read, all_at-none}
 use Rattle.laws.proofs.Children.{reach-children}
 use Rattle.laws.proofs.NormalReach.{map_reach-pos}
-use Rattle.tree.specs.declared.Bounded.{Bounded}
-use Rattle.tree.specs.declared.Bounded.TheVariants.{Next, Beyond}
-use Rattle.tree.specs.declared.Class.TheVariants.{Leaf, Operator, Case, Restriction, Dependence}
-use Rattle.tree.specs.Classes.{class_at}
+use Rattle.tree.specs.declared.Class.TheVariants.{Restriction, Dependence}
 use Rattle.tree.specs.Standing.{Noded, NodedAs}
 use Rattle.tree.specs.Bounding.{bounded_at, reached_at, constraints_reach, NodeReached, TreeBounded, TreesBounded}
-use Rattle.tree.proofs.Classes.{leaf-node, operator-node, case-node, restriction-node, dependence-node, node-here, end-there, restriction-end}
+use Rattle.tree.proofs.Classes.{restriction-node, dependence-node, node-here, end-there, restriction-end}
 use Rattle.tree.proofs.Standings.{children-at, children-counted, one_more}
 
 -- ---- an answer on a size
 
-pub within-true : (n x : ℕ) → Tells (Within n) x → true ≡ leb x limit
+pub within-true : (n x : ℕ) → Tells (Some n) x → true ≡ leb x limit
 within-true n x h = sym (le-leb x limit h.1)
 
-pub past-false : (x : ℕ) → Tells Past x → false ≡ leb x limit
+pub past-false : (x : ℕ) → Tells None x → false ≡ leb x limit
 past-false x h = sym (lt-leb x limit h)
 
-tells-reached : (y : Reached) (x : ℕ) → Tells y x → y ≡ reached_at (leb x limit) x
-tells-reached (Within n) x h = rw (← within-true n x h) (ap Within h.0)
-tells-reached Past x h = rw (← past-false x h)
+tells-reached : (y : Option ℕ) (x : ℕ) → Tells y x → y ≡ reached_at (leb x limit) x
+tells-reached (Some n) x h = rw (← within-true n x h) (ap Some h.0)
+tells-reached None x h = rw (← past-false x h)
 
 -- ---- rows and constraints
 
@@ -90,17 +86,18 @@ module _ (r n : ℕ) (bs : List ℕ) where
           let e : suc (j - 1) ≡ j = omega arith in
           let m : suc (j - 1) * (16 + 8 * n) ≡ j * (16 + 8 * n) = ap (λ i. i * (16 + 8 * n)) e in omega (arith, suc-mul (j - 1) (16 + 8 * n))
 
-      pub first_there : p + (16 + 8 * n) ≤ length bs
-      first_there = omega (arith, room, h.there)
-
       pub first-fails : leb (row_reach r (row_fields n bs (p + 8))) limit ≡ false → false ≡ constraints_reach r n k bs at
       first-fails e = sym (split-first j p l ∙ rw e) ∙ h.decides
 
-      pub first_passes : leb (row_reach r (row_fields n bs (p + 8))) limit ≡ true → ConstraintsLeft k at (j - 1) (p + (16 + 8 * n))
-      first_passes e = record { there = omega (arith, room, h.there); decides = sym (split-first j p l ∙ rw e) ∙ h.decides }
+      pub first_passes : (i q : ℕ) → i + 1 ≡ j → q ≡ p + (16 + 8 * n) → leb (row_reach r (row_fields n bs (p + 8))) limit ≡ true →
+          ConstraintsLeft k at i q
+      first_passes i q less next e =
+          let m : i ≡ j - 1 = omega arith in
+          rw (next, m) (record { there = omega (arith, room, h.there); decides = sym (split-first j p l ∙ rw e) ∙ h.decides })
 
   -- they are the constraints that stand there
-  pub constraints-are : (cs : List Constraint) (p : ℕ) → ((i : ℕ) → i < length cs → (c : Constraint) → ConstraintAt n bs (p + i * (16 + 8 * n)) (get_or cs i c)) →
+  pub constraints-are : (cs : List Constraint) (p : ℕ) →
+      ((i : ℕ) → i < length cs → (c : Constraint) → ConstraintAt n bs (p + i * (16 + 8 * n)) (get_or cs i c)) →
       constraints_reach r n (length cs) bs p ≡ all_reach r cs
   unfolding constraints_reach
   constraints-are [] p h = refl
@@ -129,17 +126,8 @@ below-some (n_restr d cs) r l = l
 below-some (n_dep m) r l = map_reach-pos r m.rows
 
 module _ (bs : List ℕ) (p r : ℕ) where
-  abbrev Passing : Reached → Node → Type 0
+  abbrev Passing : Option ℕ → Node → Type 0
   Passing y nd = y ≡ reached_at (reach_here nd r) (reach_below nd r)
-
-  pub leaf-reaches : class_at bs p ≡ Leaf → NodeReached bs p r (Within r)
-  leaf-reaches c = leaf-node (Passing (Within r)) (λ v. refl) (λ c. refl) (λ b. refl) (node_read (vars_of bs) bs p) c
-
-  pub operator-reaches : class_at bs p ≡ Operator → NodeReached bs p r (Within r)
-  operator-reaches c = operator-node (Passing (Within r)) (λ o. refl) (λ o. refl) refl (node_read (vars_of bs) bs p) c
-
-  pub case-reaches : class_at bs p ≡ Case → NodeReached bs p r (Within r)
-  case-reaches c = case-node (Passing (Within r)) (λ n. refl) (node_read (vars_of bs) bs p) c
 
   -- a restriction by its fields
   by-constraints : (d : ℕ) (cs : List Constraint) → Restricts bs p d cs →
@@ -160,7 +148,7 @@ module _ (bs : List ℕ) (p r : ℕ) where
         (λ d cs n. ap (λ x. reached_at x r) (sym found ∙ by-constraints d cs n.fields))
         (node_read (vars_of bs) bs p) h.class_is (node-here bs p h.noded)
 
-  pub dependence-reaches : NodedAs bs p Dependence → (m : Code.Map) → MapRead bs (p + 8) m → (y : Reached) → Tells y (map_reach r (map_of m).rows) →
+  pub dependence-reaches : NodedAs bs p Dependence → (m : Code.Map) → MapRead bs (p + 8) m → (y : Option ℕ) → Tells y (map_reach r (map_of m).rows) →
       NodeReached bs p r y
   dependence-reaches h m read y t =
       dependence-node (λ nd. NodeAt (vars_of bs) bs p nd → Passing y nd)
@@ -173,18 +161,18 @@ pub record Reaches (b : Bool) (n x : ℕ) : Type 0 where
   pub passes : b ≡ true
   pub is : n ≡ x
 
-pub reached-within : (b : Bool) (n x : ℕ) → Within n ≡ reached_at b x → Reaches b n x
+pub reached-within : (b : Bool) (n x : ℕ) → Some n ≡ reached_at b x → Reaches b n x
 reached-within true n x h = record { passes = refl; is = cc }
-reached-within false n x h = let z : ◌≡◌ {A = ℕ} 0 1 = cc in absurd (omega arith)
+reached-within false n x h = absurd cc
 
-pub reached-past : (b : Bool) (x : ℕ) → Past ≡ reached_at b x → b ≡ false
-reached-past true x h = let z : ◌≡◌ {A = ℕ} 0 1 = cc in absurd (omega arith)
+pub reached-past : (b : Bool) (x : ℕ) → None ≡ reached_at b x → b ≡ false
+reached-past true x h = absurd cc
 reached-past false x h = refl
 
 -- ---- a tree
 
-module _ (bs : List ℕ) (p r : ℕ) (y : Reached) (says : NodeReached bs p r y) where
-  pub reach-some : 1 ≤ r → Noded (vars_of bs) bs p → (n : ℕ) → y ≡ Within n → 1 ≤ n
+module _ (bs : List ℕ) (p r : ℕ) (y : Option ℕ) (says : NodeReached bs p r y) where
+  pub reach-some : 1 ≤ r → Noded (vars_of bs) bs p → (n : ℕ) → y ≡ Some n → 1 ≤ n
   reach-some l h n is =
       let nd = node_read (vars_of bs) bs p in
       let x = reached-within (reach_here nd r) n (reach_below nd r) (sym is ∙ says) in
@@ -194,13 +182,13 @@ module _ (bs : List ℕ) (p r : ℕ) (y : Reached) (says : NodeReached bs p r y)
   of_tree : (e : Expr) (q : ℕ) → At e (vars_of bs) bs p q → y ≡ reached_at (reach_here (node_of e) r) (reach_below (node_of e) r)
   of_tree e q h = says ∙ ap (λ nd. reached_at (reach_here nd r) (reach_below nd r)) (at_read (vars_of bs) bs e p q h)
 
-  pub reach-past : y ≡ Past → TreeBounded bs p r Beyond
+  pub reach-past : y ≡ None → TreeBounded bs p r None
   reach-past is e q h =
       let no-pass = reached-past (reach_here (node_of e) r) (reach_below (node_of e) r) (sym is ∙ of_tree e q h) in
       rw (reach-children e r, no-pass)
 
-  pub reach-goes : (n : ℕ) → y ≡ Within n → (k c : ℕ) → k ≡ node_end (vars_of bs) bs p → c ≡ arity (node_read (vars_of bs) bs p) →
-      (t : Bounded) → TreesBounded bs k n c t → TreeBounded bs p r t
+  pub reach-goes : (n : ℕ) → y ≡ Some n → (k c : ℕ) → k ≡ node_end (vars_of bs) bs p → c ≡ arity (node_read (vars_of bs) bs p) →
+      (t : Option ℕ) → TreesBounded bs k n c t → TreeBounded bs p r t
   reach-goes n is k c next many t all e q h =
       let x = reached-within (reach_here (node_of e) r) n (reach_below (node_of e) r) (sym is ∙ of_tree e q h) in
       all (children_of e) q (children-at (vars_of bs) bs p k c next many e q h) (children-counted (vars_of bs) bs p k c next many e q h)
@@ -214,40 +202,40 @@ pub record Bounds (b : Bool) (n q : ℕ) : Type 0 where
   pub passes : b ≡ true
   pub end_is : n ≡ q
 
-pub bounded-next : (b : Bool) (n q : ℕ) → Next n ≡ bounded_at b q → Bounds b n q
+pub bounded-next : (b : Bool) (n q : ℕ) → Some n ≡ bounded_at b q → Bounds b n q
 bounded-next true n q h = record { passes = refl; end_is = cc }
-bounded-next false n q h = let z : ◌≡◌ {A = ℕ} 0 1 = cc in absurd (omega arith)
+bounded-next false n q h = absurd cc
 
-pub bounded-beyond : (b : Bool) (q : ℕ) → Beyond ≡ bounded_at b q → b ≡ false
-bounded-beyond true q h = let z : ◌≡◌ {A = ℕ} 0 1 = cc in absurd (omega arith)
+pub bounded-beyond : (b : Bool) (q : ℕ) → None ≡ bounded_at b q → b ≡ false
+bounded-beyond true q h = absurd cc
 bounded-beyond false q h = refl
 
 module _ (bs : List ℕ) (p r n : ℕ) where
-  pub trees-none-bounded : n ≤ 0 → TreesBounded bs p r n (Next p)
+  pub trees-none-bounded : n ≤ 0 → TreesBounded bs p r n (Some p)
   unfolding reach_all
   trees-none-bounded l es q h m =
       let z = all_at-none (vars_of bs) bs es p q h (omega arith) in
-      ap Next z.end ∙ ap (λ x. bounded_at (reach_all x r) q) (sym z.is)
+      ap Some z.end ∙ ap (λ x. bounded_at (reach_all x r) q) (sym z.is)
 
   all_more : (e : Expr) (es : Exprs) → reach_all (more e es) r ≡ reach e r && reach_all es r
   unfolding reach_all
   all_more e es = refl
 
-  module _ (enough : 1 ≤ n) (t : Bounded) (says : TreeBounded bs p r t) where
-    pub first_ends : (m : ℕ) → t ≡ Next m → (e : Expr) (q : ℕ) → At e (vars_of bs) bs p q → m ≡ q
+  module _ (enough : 1 ≤ n) (t : Option ℕ) (says : TreeBounded bs p r t) where
+    pub first_ends : (m : ℕ) → t ≡ Some m → (e : Expr) (q : ℕ) → At e (vars_of bs) bs p q → m ≡ q
     first_ends m is e q h = (bounded-next (reach e r) m q (sym is ∙ says e q h)).end_is
 
-    pub trees-beyond : t ≡ Beyond → TreesBounded bs p r n Beyond
+    pub trees-beyond : t ≡ None → TreesBounded bs p r n None
     trees-beyond is es q h c =
         let f = one_more (vars_of bs) bs es p q n enough h c in
         let x = bounded-beyond (reach f.first r) f.middle (sym is ∙ says f.first f.middle f.before) in
         let y : reach_all es r ≡ false = ap (λ l. reach_all l r) f.is ∙ all_more f.first f.rest ∙ ap (λ b. b && reach_all f.rest r) x in
         ap (λ b. bounded_at b q) (sym y)
 
-    pub trees-bounded : (m : ℕ) → t ≡ Next m → (u : Bounded) → TreesBounded bs m r (n - 1) u → TreesBounded bs p r n u
-    trees-bounded m is u rest es q h c =
+    pub trees-bounded : (m : ℕ) → t ≡ Some m → (k : ℕ) → k + 1 ≡ n → (u : Option ℕ) → TreesBounded bs m r k u → TreesBounded bs p r n u
+    trees-bounded m is k less u rest es q h c =
         let f = one_more (vars_of bs) bs es p q n enough h c in
         let x = bounded-next (reach f.first r) m f.middle (sym is ∙ says f.first f.middle f.before) in
         let y : reach_all es r ≡ reach_all f.rest r =
         ap (λ l. reach_all l r) f.is ∙ all_more f.first f.rest ∙ ap (λ b. b && reach_all f.rest r) x.passes in
-        rest f.rest q (rw x.end_is f.after) f.many ∙ ap (λ b. bounded_at b q) (sym y)
+        rest f.rest q (rw x.end_is f.after) (omega (arith, f.many)) ∙ ap (λ b. bounded_at b q) (sym y)

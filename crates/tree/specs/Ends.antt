@@ -1,5 +1,5 @@
 -- Where trees end, kept by place in a table. Assumes nothing.
-use Rattle.std.specs.Prelude.{◌≡◌, ℕ, ◌*◌, ◌≤◌, ◌<◌, List, length, get_or}
+use Rattle.std.specs.Prelude.{◌≡◌, ℕ, ◌*◌, ◌/◌, ◌≤◌, ◌<◌, List, length, get_or}
 use Rattle.alpha.specs.Sheet.{Expr, Exprs}
 use Rattle.alpha.specs.Written.{branch_count}
 use Rattle.laws.specs.At.{At, AllAt}
@@ -18,3 +18,9 @@ pub record EndsKept (bs ends : List ℕ) : Type 0 where
   pub sized : length ends ≡ 8192
   pub low : (i : ℕ) → get_or ends i 0 < 65536
   pub right : (i : ℕ) → 1 ≤ get_or ends i 0 → EndsAt (vars_of bs) bs (8 * i) (8 * get_or ends i 0)
+
+-- the table keeps for p that the tree there ends at q
+pub record EndKeptAt (ends : List ℕ) (p q : ℕ) : Type 0 where
+  pub whole : p ≡ 8 * (p / 8)
+  pub kept : 1 ≤ get_or ends (p / 8) 0
+  pub is : q ≡ 8 * get_or ends (p / 8) 0

@@ -4,12 +4,15 @@
 // Assumes nothing.
 #![tactic(auto)]
 
+ghost use Rattle.std.specs.Prelude.{ℕ, ◌<◌};
 ghost use Rattle.tree.specs.Prepared.{Prepared};
+ghost use Rattle.tree.specs.Ruled.{FirstRefusal};
 ghost use Rattle.tree.specs.Formed.{Forms};
 
-use alpha::Refusal;
+use alpha::{Refusal, Sort};
 use reaches::reaches;
 use shapes::shapes;
+use sheet::table::Table;
 use types::types;
 
 pub mod ends;
@@ -49,48 +52,37 @@ pub enum OperatorKind {
     If,
 }
 
-// What a place was found to hold where a tree of some dimension is wanted: a tree that fits, with the place after it and the nodes
-// left, or none.
+// The nodes that are left: where the next of them stands, and how many there are.
 #[derive(Clone, Copy)]
-pub enum Shaped {
-    Fits { next: usize, left: usize },
-    Bad,
+pub struct Rest {
+    pub next: usize,
+    pub left: usize,
 }
 
-// The type of a tree, with the place after it; or a type rule is broken.
+// The type of a tree, and the place after it.
 #[derive(Clone, Copy)]
-pub enum Typed {
-    Integer(usize),
-    Boolean(usize),
-    Mistyped,
+pub struct Typed {
+    pub sort: Sort,
+    pub next: usize,
 }
 
-// The place after a tree in which nothing passes 2^40; or something does.
-#[derive(Clone, Copy)]
-pub enum Bounded {
-    Next(usize),
-    Beyond,
-}
-
-// What a rule over all variables says: each passes, or the first that does not is refused.
-#[derive(Clone, Copy)]
-pub enum Ruling {
-    Passes,
-    Refused(Refusal),
+// A rule at each number below n, in order: the first refusal ends it.
+pub fn each_below<F: Fn(usize) -> Result<(), Refusal>>(n: usize, rule: F) -> Result<(), Refusal>
+    requires { (i : ℕ) → i < n → F.pre rule i }
+    ensures { FirstRefusal (F.post rule) n result }
+{
+    for i in 0..n {
+        rule(i)?;
+    }
+    Ok(())
 }
 
 // SHAPE, then TYPE, then REACH, each over all variables. The table gets the places of the bodies.
-pub fn forms(s: &[u8], tab: &mut [usize; 102]) -> Ruling
+pub fn forms(s: &[u8], tab: &mut Table) -> Result<(), Refusal>
     requires { Prepared s.now tab.old }
     ensures { Forms s.now tab.new result }
 {
-    let a = shapes(s, tab);
-    let Ruling::Passes = a else {
-        return a;
-    };
-    let b = types(s, tab);
-    let Ruling::Passes = b else {
-        return b;
-    };
+    shapes(s, tab)?;
+    types(s, tab)?;
     reaches(s, tab)
 }

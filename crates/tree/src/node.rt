@@ -15,7 +15,7 @@ pub fn natural(s: &[u8], at: usize) -> usize
     requires { at + 8 ≤ length s.now }
     ensures { result ≡ nat_abs (field s.now at) }
 {
-    integer::to_usize(integer::number_at(s, at))
+    integer::size_at(s, at)
 }
 
 // How many bytes a restriction or a dependence at `at` has, where each of its constraints or rows has `fixed` bytes besides its
@@ -34,23 +34,21 @@ pub fn class_of(s: &[u8], at: usize) -> Class
     requires { Noded (vars_of s.now) s.now at }
     ensures { result ≡ class_at s.now at }
 {
-    let code = natural(s, at);
-    match code {
-        0 | 1 | 2 => Class::Leaf,
-        3 | 4 | 5 => Class::Operator,
+    match natural(s, at) {
+        0..=2 => Class::Leaf,
+        3..=5 => Class::Operator,
         6 => Class::Case,
         7 => Class::Restriction,
         _ => Class::Dependence,
     }
 }
 
-// Which leaf.
+// Which leaf. Apart from `class_of` and `operator_of`, though all three read the code: each answers only what can stand there.
 pub fn leaf_of(s: &[u8], at: usize) -> LeafKind
     requires { NodedAs s.now at Leaf }
     ensures { code_of (node_read (vars_of s.now) s.now at) ≡ leaf_code result }
 {
-    let code = natural(s, at);
-    match code {
+    match natural(s, at) {
         0 => LeafKind::Variable,
         1 => LeafKind::Integer,
         _ => LeafKind::Boolean,
@@ -62,8 +60,7 @@ pub fn operator_of(s: &[u8], at: usize) -> OperatorKind
     requires { NodedAs s.now at Operator }
     ensures { code_of (node_read (vars_of s.now) s.now at) ≡ operator_code result }
 {
-    let code = natural(s, at);
-    match code {
+    match natural(s, at) {
         3 => OperatorKind::Unary,
         4 => OperatorKind::Binary,
         _ => OperatorKind::If,
@@ -75,27 +72,31 @@ fn operator_len(s: &[u8], at: usize) -> usize
     requires { NodedAs s.now at Operator }
     ensures { result ≡ node_size (node_read (vars_of s.now) s.now at) }
 {
-    let kind = operator_of(s, at);
-    match kind {
-        OperatorKind::Unary => 16,
-        OperatorKind::Binary => 16,
+    match operator_of(s, at) {
+        OperatorKind::Unary | OperatorKind::Binary => 16,
         OperatorKind::If => 8,
     }
 }
 
-// The place after the node at `at`.
+// How many bytes the node at `at` has.
+fn node_len(s: &[u8], at: usize) -> usize
+    requires { Noded (vars_of s.now) s.now at }
+    ensures { result ≡ node_size (node_read (vars_of s.now) s.now at) }
+{
+    match class_of(s, at) {
+        Class::Leaf | Class::Case => 16,
+        Class::Operator => operator_len(s, at),
+        Class::Restriction => wide_len(s, at, 16),
+        Class::Dependence => wide_len(s, at, 8),
+    }
+}
+
+// The place after it.
 pub fn node_end(s: &[u8], at: usize) -> usize
     requires { Noded (vars_of s.now) s.now at }
     ensures { result ≡ node_end (vars_of s.now) s.now at }
 {
-    let class = class_of(s, at);
-    match class {
-        Class::Leaf => at + 16,
-        Class::Operator => at + operator_len(s, at),
-        Class::Case => at + 16,
-        Class::Restriction => at + wide_len(s, at, 16),
-        Class::Dependence => at + wide_len(s, at, 8),
-    }
+    at + node_len(s, at)
 }
 
 // How many operands an operator has.
@@ -103,8 +104,7 @@ fn operands(s: &[u8], at: usize) -> usize
     requires { NodedAs s.now at Operator }
     ensures { result ≡ arity (node_read (vars_of s.now) s.now at) }
 {
-    let kind = operator_of(s, at);
-    match kind {
+    match operator_of(s, at) {
         OperatorKind::Unary => 1,
         OperatorKind::Binary => 2,
         OperatorKind::If => 3,
@@ -116,12 +116,10 @@ pub fn children(s: &[u8], at: usize) -> usize
     requires { Noded (vars_of s.now) s.now at }
     ensures { result ≡ arity (node_read (vars_of s.now) s.now at) }
 {
-    let class = class_of(s, at);
-    match class {
+    match class_of(s, at) {
         Class::Leaf => 0,
         Class::Operator => operands(s, at),
         Class::Case => natural(s, at + 8),
-        Class::Restriction => 1,
-        Class::Dependence => 1,
+        Class::Restriction | Class::Dependence => 1,
     }
 }

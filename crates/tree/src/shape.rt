@@ -11,33 +11,29 @@ ghost use Rattle.tree.specs.Judged.{Judgeable, Judges, tree_judged, trees_judged
 
 use super::node::{children, class_of, leaf_of, natural, node_end};
 use super::variable::dimension_of;
-use super::{Class, LeafKind, Shaped};
+use super::{Class, LeafKind, Rest};
+use sheet::table::Table;
 
 // The dimension of the leaf at `at`: a variable's own, and none of a constant.
-fn leaf_dimension(s: &[u8], tab: &[usize; 102], at: usize) -> usize
+fn leaf_dimension(s: &[u8], tab: &Table, at: usize) -> usize
     requires { Prepared s.now tab.now × NodedAs s.now at Leaf }
     ensures { (n : ℕ) → eqb result n ≡ fits_here (node_read (vars_of s.now) s.now at) (heads_of s.now) n }
 {
-    let kind = leaf_of(s, at);
-    match kind {
+    match leaf_of(s, at) {
         LeafKind::Variable => dimension_of(s, tab, natural(s, at + 8)),
-        LeafKind::Integer => 0,
-        LeafKind::Boolean => 0,
+        LeafKind::Integer | LeafKind::Boolean => 0,
     }
 }
 
 // The node at `at` may itself stand where `want` dimensions are wanted.
-fn fits_here(s: &[u8], tab: &[usize; 102], at: usize, want: usize) -> bool
+fn fits_here(s: &[u8], tab: &Table, at: usize, want: usize) -> bool
     requires { Prepared s.now tab.now × Noded (vars_of s.now) s.now at }
     ensures { result ≡ fits_here (node_read (vars_of s.now) s.now at) (heads_of s.now) want }
 {
-    let class = class_of(s, at);
-    match class {
+    match class_of(s, at) {
         Class::Leaf => leaf_dimension(s, tab, at) == want,
-        Class::Operator => true,
-        Class::Case => true,
-        Class::Restriction => natural(s, at + 8) == want,
-        Class::Dependence => natural(s, at + 8) == want,
+        Class::Operator | Class::Case => true,
+        Class::Restriction | Class::Dependence => natural(s, at + 8) == want,
     }
 }
 
@@ -46,68 +42,49 @@ fn wanted_below(s: &[u8], at: usize, want: usize) -> usize
     requires { Noded (vars_of s.now) s.now at × (want ≤ 4) }
     ensures { (result ≡ wanted (node_read (vars_of s.now) s.now at) want) × (result ≤ 4) }
 {
-    let class = class_of(s, at);
-    match class {
-        Class::Leaf => want,
-        Class::Operator => want,
-        Class::Case => want,
-        Class::Restriction => want,
+    match class_of(s, at) {
+        Class::Leaf | Class::Operator | Class::Case | Class::Restriction => want,
         Class::Dependence => natural(s, at + 16),
     }
 }
 
-// The tree at `at`, of at most `left` nodes and the depth `deep`, where `want` dimensions are wanted.
+// The tree that stands next, of at most the nodes left and the depth `deep`, where `want` dimensions are wanted: what is left after it.
 #[cycle(shape_shape_all)]
-pub fn shape(
-    s: &[u8],
-    tab: &[usize; 102],
-    at: usize,
-    left: usize,
-    deep: usize,
-    want: usize,
-) -> Shaped
-    requires { Judgeable s.now tab.now at left deep want }
-    ensures { Judges s.now (tree_judged s.now at left deep want) result }
+pub fn shape(s: &[u8], tab: &Table, from: Rest, deep: usize, want: usize) -> Option<Rest>
+    requires { Judgeable s.now tab.now from deep want }
+    ensures { Judges s.now (tree_judged s.now from deep want) result }
 {
-    if left < 1 {
-        return Shaped::Bad;
+    if from.left == 0 || deep == 0 {
+        return None;
     }
-    if deep < 1 {
-        return Shaped::Bad;
+    if !fits_here(s, tab, from.next, want) {
+        return None;
     }
-    if !fits_here(s, tab, at, want) {
-        return Shaped::Bad;
-    }
-    let next = node_end(s, at);
-    let below = wanted_below(s, at, want);
-    shape_all(s, tab, next, left - 1, deep - 1, below, children(s, at))
+    let below = wanted_below(s, from.next, want);
+    let many = children(s, from.next);
+    let rest = Rest {
+        next: node_end(s, from.next),
+        left: from.left - 1,
+    };
+    shape_all(s, tab, rest, deep - 1, below, many)
 }
 
 // `count` trees one after another.
 #[cycle(shape_shape_all)]
 fn shape_all(
     s: &[u8],
-    tab: &[usize; 102],
-    at: usize,
-    left: usize,
+    tab: &Table,
+    from: Rest,
     deep: usize,
     want: usize,
     count: usize,
-) -> Shaped
-    requires { Judgeable s.now tab.now at left deep want }
-    ensures { Judges s.now (trees_judged s.now at left deep want count) result }
+) -> Option<Rest>
+    requires { Judgeable s.now tab.now from deep want }
+    ensures { Judges s.now (trees_judged s.now from deep want count) result }
 {
-    let mut p = at;
-    let mut n = left;
-    let mut more = count;
-    while more > 0 {
-        let r = shape(s, tab, p, n, deep, want);
-        let Shaped::Fits { next, left: rest } = r else {
-            return Shaped::Bad;
-        };
-        p = next;
-        n = rest;
-        more -= 1;
+    let mut rest = from;
+    for _ in 0..count {
+        rest = shape(s, tab, rest, deep, want)?;
     }
-    Shaped::Fits { next: p, left: n }
+    Some(rest)
 }

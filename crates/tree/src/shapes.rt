@@ -1,52 +1,45 @@
 // SHAPE over all variables in order, which fills the table with the places of the bodies. Assumes nothing.
 ghost use Rattle.tree.specs.Prepared.{Prepared, HasVariable};
-ghost use Rattle.tree.specs.Judged.{Flat, BodiesLeft, Judges};
+ghost use Rattle.tree.specs.Judged.{Flat, Judges};
 ghost use Rattle.tree.specs.Ruled.{body_shape, body_at};
-ghost use Rattle.tree.specs.Formed.{ShapesFrom, ShapesAll};
+ghost use Rattle.tree.specs.Formed.{ShapesAll};
 
+use super::Rest;
 use super::shape::shape;
 use super::variable::{dimension_of, kind_of};
-use super::{Ruling, Shaped};
-use alpha::Refusal;
-use sheet::table::{keep_body, node_count, third_place, variable_count};
+use alpha::{Kind, Refusal};
+use sheet::table::Table;
 
-// The body of variable v at `at`, with `left` nodes left. An input has none.
-fn body(s: &[u8], tab: &[usize; 102], v: usize, at: usize, left: usize) -> Shaped
-    requires { HasVariable s.now tab.now v × Flat s.now at left }
-    ensures { Judges s.now (body_shape (body_at s.now v at left)) result }
+// The body of variable v, of the nodes that are left: what is left after it. An input has none.
+fn body(s: &[u8], tab: &Table, v: usize, from: Rest) -> Option<Rest>
+    requires { HasVariable s.now tab.now v × Flat s.now from.next from.left }
+    ensures { Judges s.now (body_shape (body_at s.now v from)) result }
 {
-    if kind_of(s, tab, v) == 0 {
-        return Shaped::Fits { next: at, left };
+    if kind_of(s, tab, v) == Kind::Input {
+        return Some(from);
     }
-    shape(s, tab, at, left, 32, dimension_of(s, tab, v))
+    shape(s, tab, from, 32, dimension_of(s, tab, v))
 }
 
-// The variables from number v on, from the node at `at` on, with `left` nodes left. After the last of them none may be left, and the
-// place is then the number of variables.
-fn shapes_from(s: &[u8], tab: &mut [usize; 102], v: usize, at: usize, left: usize) -> Ruling
-    requires { BodiesLeft s.now tab.old v at left }
-    ensures { ShapesFrom s.now v at left tab.old tab.new result }
-{
-    keep_body(tab, v, at);
-    if variable_count(tab) <= v {
-        if left < 1 {
-            return Ruling::Passes;
-        }
-        return Ruling::Refused(Refusal::Shape(v));
-    }
-    let r = body(s, tab, v, at, left);
-    let Shaped::Fits { next, left: rest } = r else {
-        return Ruling::Refused(Refusal::Shape(v));
-    };
-    shapes_from(s, tab, v + 1, next, rest)
-}
-
-// All variables.
-pub fn shapes(s: &[u8], tab: &mut [usize; 102]) -> Ruling
+// All variables, each from the place where the one before it ends. After the last of them no node may be left, and the place is then
+// the number of variables.
+pub fn shapes(s: &[u8], tab: &mut Table) -> Result<(), Refusal>
     requires { Prepared s.now tab.old }
     ensures { ShapesAll s.now tab.new result }
 {
-    let first = third_place(tab) + 8;
-    let nodes = node_count(tab);
-    shapes_from(s, tab, 0, first, nodes)
+    let n = tab.variable_count();
+    let mut rest = Rest {
+        next: tab.third_place() + 8,
+        left: tab.node_count(),
+    };
+    for v in 0..n {
+        tab.keep_body(v, rest.next);
+        rest = body(s, tab, v, rest).ok_or(Refusal::Shape(v))?;
+    }
+    tab.keep_body(n, rest.next);
+    if rest.left == 0 {
+        Ok(())
+    } else {
+        Err(Refusal::Shape(n))
+    }
 }

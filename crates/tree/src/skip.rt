@@ -14,6 +14,7 @@ pub fn skip(s: &[u8], at: usize, left: usize) -> usize
 }
 
 // The place after `count` trees. Each node counts itself off and its children on.
+// A while: how many nodes there will be is only known when the last one is passed.
 pub fn skip_all(s: &[u8], at: usize, left: usize, count: usize) -> usize
     requires { StandingAll (vars_of s.now) s.now at left count }
     ensures { AllEnd (vars_of s.now) s.now at count result }

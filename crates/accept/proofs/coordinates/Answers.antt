@@ -1,7 +1,6 @@
--- `accept::coordinates` meets its contract: the coordinates so far are copied. Assumes nothing.
-use native.Mathlib.Omega.{arith}
-use Rattle.accept.proofs.Asked.{copied_all}
+-- `accept::coordinates` meets its contract: the coordinates stand in front. Assumes nothing.
+use Rattle.accept.proofs.Asked.{front-coordinates}
 use Rattle.accept.proofs.coordinates.Goals as goal
 
 pub returns : goal.returns
-returns c = copied_all _ _ _ (omega (arith, c.loop-i-test.false)) c.loop-i.invariant
+returns c = rw c.copy_from_slice.ensures.after (front-coordinates c.args.point.now _)

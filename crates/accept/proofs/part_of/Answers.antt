@@ -1,41 +1,28 @@
 -- `accept::part_of` meets its contract. Assumes nothing.
-use mathlib.Core.Path.{refl, ◌∙◌}
+use Rattle.std.proofs.Common.{rules}
+use mathlib.Core.Path.{◌≡◌}
 use Prim.Native.Nat.{◌<◌}
 use native.Mathlib.Omega.{arith}
 use Rattle.laws.specs.Sheets.{vars_of}
 use Rattle.domain.proofs.Records.{laid-variable}
-use Rattle.accept.proofs.Parts.{places-ordered, body-part}
+use Rattle.accept.proofs.Parts.{body-part}
+use Rattle.accept.proofs.part_of.Goals.{In_ok-v}
 use Rattle.accept.proofs.part_of.Goals as goal
 
-pub body_place-start-requires : goal.body_place-start-requires
-body_place-start-requires c =
-    let count = c.variable_count-n.ensures ∙ c.requires.placed.prepared.table.variables in
-    let lt : c.args.variable < vars_of c.args.s.now = omega (arith, c.if-n-variable.false, count) in
-    omega (arith, (laid-variable _ _ c.requires.placed _ lt).low)
+-- the variable is one of the sheet's
+low : (c : In_ok-v) → c.in_ok-v.v < vars_of c.args.s.now
+low c = let known = c.in_ok-v.ensures in omega (arith, known.0, known.1, c.requires.placed.prepared.table.variables)
 
-pub body_place-end-requires : goal.body_place-end-requires
-body_place-end-requires c =
-    let count = c.variable_count-n.ensures ∙ c.requires.placed.prepared.table.variables in
-    let lt : c.args.variable < vars_of c.args.s.now = omega (arith, c.if-n-variable.false, count) in
-    omega (arith, (laid-variable _ _ c.requires.placed _ lt).low)
+pub body_place-requires : goal.body_place-requires
+body_place-requires c =
+    omega (arith, (laid-variable _ _ c.requires.placed _ (low (goal.at.body_place-requires c).In_ok-v)).low)
 
-pub overflow_sub-result : goal.overflow_sub-result
-overflow_sub-result c =
-    let count = c.variable_count-n.ensures ∙ c.requires.placed.prepared.table.variables in
-    let lt : c.args.variable < vars_of c.args.s.now = omega (arith, c.if-n-variable.false, count) in
-    let kind = c.kind_of.ensures in
-    omega (
-      arith,
-      c.body_place-end.ensures,
-      c.body_place-start.ensures,
-      places-ordered _ _ c.requires _ lt _ kind.0 c.if-kind_of-eq0.false kind.1,
-    )
+pub body_place-requires-2 : goal.body_place-requires-2
+body_place-requires-2 c =
+    omega (arith, (laid-variable _ _ c.requires.placed _ (low (goal.at.body_place-requires-2 c).In_ok-v)).low)
 
 pub returns : goal.returns
 returns c =
-    let count = c.variable_count-n.ensures ∙ c.requires.placed.prepared.table.variables in
-    let lt : c.args.variable < vars_of c.args.s.now = omega (arith, c.if-n-variable.false, count) in
-    let kind = c.kind_of.ensures in
-    let from = c.body_place-start.ensures in
-    let to = c.body_place-end.ensures in
-    body-part _ _ c.requires _ lt _ kind.0 c.if-kind_of-eq0.false kind.1 _ from (rw (from, to) refl)
+    let is : c.in_ok-v.v ≡ c.args.variable = c.in_ok-v.ensures.0 in
+    rw (← is)
+    (body-part _ _ c.requires _ (low (goal.at.returns c).In_ok-v) _ c.kind_of.ensures (search rules) _ c.body_place.ensures c.body_place-2.ensures)

@@ -1,37 +1,29 @@
 -- `map_read` meets its contract: where a dependence stands at p no guard stops, and its fields are read. Assumes nothing.
-use native.Mathlib.Omega.{arith}
-use mathlib.Core.Path.{ap, ◌∙◌}
-use lib.IntN.{nat_abs}
+use Rattle.std.proofs.Common.{arith}
 use Rattle.affine.proofs.Fetched.{span_same, no-map, rows-map}
+use Rattle.affine.proofs.map_read.Goals.{then-len-lt16-via-then-len-lt16, then-len-lt16-via-else-len-lt16+then-len-p}
+use Rattle.affine.proofs.map_read.Goals.{then-n-gt4-via-then-n-gt4, then-n-gt4-via-else-n-gt4+then-k-gt4}
+use Rattle.affine.proofs.map_read.Goals.{then-n-gt4-via-else-n-gt4+else-k-gt4+then-len-p-2}
 use Rattle.affine.proofs.map_read.Goals as goal
 
 pub returns-then-len-lt16 : goal.returns-then-len-lt16
 returns-then-len-lt16 c =
-    no-map c.args.b.now c.args.p c.identity.result c.identity.ensures.1 (λ f q g. omega arith)
-
-pub returns-then-len-p : goal.returns-then-len-p
-returns-then-len-p c =
-    no-map c.args.b.now c.args.p c.identity-then-len-p.result c.identity-then-len-p.ensures.1 (λ f q g. omega arith)
+    no-map c.args.b.now c.args.p c.identity.result c.identity.ensures.1
+    (λ f q g. elim c.then-len-lt16.branch [
+      | then-len-lt16-via-then-len-lt16 w ↦ omega arith
+      | then-len-lt16-via-else-len-lt16+then-len-p w ↦ omega arith
+    ])
 
 pub returns-then-n-gt4 : goal.returns-then-n-gt4
 returns-then-n-gt4 c =
+    let span = span_same c.size_at-n.ensures c.size_at-k.ensures in
     no-map c.args.b.now c.args.p c.identity-then-n-gt4.result c.identity-then-n-gt4.ensures.1
-    (λ f q g. omega (arith, c.to_usize-n.ensures, ap nat_abs c.number_at.ensures))
-
-pub returns-then-k-gt4 : goal.returns-then-k-gt4
-returns-then-k-gt4 c =
-    no-map c.args.b.now c.args.p c.identity-then-k-gt4.result c.identity-then-k-gt4.ensures.1
-    (λ f q g. omega (arith, c.to_usize-k.ensures, ap nat_abs c.number_at-2.ensures))
-
-pub returns-then-len-p-2 : goal.returns-then-len-p-2
-returns-then-len-p-2 c =
-    let wide = c.to_usize-n.ensures ∙ ap nat_abs c.number_at.ensures in
-    let high = c.to_usize-k.ensures ∙ ap nat_abs c.number_at-2.ensures in
-    no-map c.args.b.now c.args.p c.identity-then-len-p-2.result c.identity-then-len-p-2.ensures.1
-    (λ f q g. omega (arith, span_same wide high, g.next, g.inside, c.if-len-p-2.true))
+    (λ f q g. elim c.then-n-gt4.branch [
+      | then-n-gt4-via-then-n-gt4 w ↦ omega arith
+      | then-n-gt4-via-else-n-gt4+then-k-gt4 w ↦ omega arith
+      | then-n-gt4-via-else-n-gt4+else-k-gt4+then-len-p-2 w ↦ omega (arith, g.next, g.inside)
+    ])
 
 pub returns : goal.returns
 returns c =
-    let wide = c.to_usize-n.ensures ∙ ap nat_abs c.number_at.ensures in
-    let high = c.to_usize-k.ensures ∙ ap nat_abs c.number_at-2.ensures in
-    rows-map c.args.b.now c.args.p c.to_usize-n.result c.to_usize-k.result wide high c.rows_read.result c.rows_read.ensures
+    rows-map c.args.b.now c.args.p c.size_at-n.result c.size_at-k.result c.size_at-n.ensures c.size_at-k.ensures c.rows_read.result c.rows_read.ensures

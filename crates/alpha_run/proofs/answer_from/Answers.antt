@@ -7,5 +7,6 @@ pub returns : goal.returns
 returns g c =
     let read = take c.in_ok-n.n c.read_full.new.buf in
     let text = take c.answer-len.result c.answer-len.new.out in
-    let told = told-part read (replicate 208910 0) c.answer-len.new.out c.answer-len.result c.answer-len.ensures.text c.answer-len.ensures.long (search rules) in
+    let output = c.answer-len.ensures in
+    let told = told-part read (replicate 208910 0) c.answer-len.new.out c.answer-len.result output.text output.long (search rules) in
     writes-whole (g.R.Read.remaining c.args.input.now) _ _ read text c.write_all.result c.in_ok-n.ensures.first told c.write_all.ensures.bytes

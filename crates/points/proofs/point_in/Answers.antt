@@ -1,39 +1,33 @@
 -- `points::point_in` meets its contract: from the last coordinate to the first, those made so far are the point of a number in the box of
 -- their ranges. Assumes nothing.
-use mathlib.Core.Path.{◌≡◌}
-use Prim.Native.Nat.{◌+◌, ◌*◌, ◌-◌}
-use native.Mathlib.Omega.{arith}
+use Rattle.std.proofs.Common.{◌≡◌, ◌+◌, ◌-◌, ◌∙◌, arith, rules, w64}
+use Rattle.std.proofs.lemmas.Int.{to_z-of_z}
 use native.Mathlib.Nat.{mod-le}
-use Rattle.sheet.specs.Record.{Ranges}
-use Rattle.points.proofs.Coordinates.{making-none, making-more, making-end}
+use Rattle.points.proofs.Coordinates.{Making, making-none, making-more, making-end}
 use Rattle.points.proofs.Ranges.{ranges-at}
-use Rattle.points.proofs.point_in.Goals.{In-loop-left}
 use Rattle.points.proofs.point_in.Goals as goal
 
--- the range before those that are done
-range : (c : In-loop-left) → Ranges c.args.s.now (c.loop-left.p - 16) 1
-range c =
-    let inv = c.loop-left.invariant in
-    let some = c.loop-left-test.true in
-    let here : c.args.at + 16 * (c.loop-left.left - 1) ≡ c.loop-left.p - 16 = omega (arith, inv.place, some) in
-    rw here at (ranges-at _ c.args.at _ (c.loop-left.left - 1) (omega (arith, inv.count, some)) c.requires.0.ranges)
-
-pub loop-left-init : goal.loop-left-init
-loop-left-init c = making-none _ _ _ _ _ c.of-zero.ensures c.requires.0.few
+pub loop-k-init : goal.loop-k-init
+loop-k-init c = making-none _ _ _ _
 
 pub side-w-requires : goal.side-w-requires
-side-w-requires c = range (goal.at.side-w-requires c).In-loop-left
+side-w-requires c = ranges-at _ c.args.at _ (c.loop-k.k - 1) (grind arith) c.requires.0.ranges
 
-pub nth-x0-requires : goal.nth-x0-requires
-nth-x0-requires c =
-    let loop = c.loop-left in
-    (range (goal.at.nth-x0-requires c).In-loop-left, omega (arith, mod-le loop.j c.side-w.result, loop.invariant.small, c.requires.0.small, c.requires.1))
+pub nth-requires : goal.nth-requires
+nth-requires c =
+    let loop = c.loop-k in (
+      ranges-at _ c.args.at _ (loop.k - 1) (grind arith) c.requires.0.ranges,
+      omega (arith, mod-le loop.j c.side-w.result, loop.invariant.small, c.requires.0.small, c.requires.1),
+    )
 
-pub loop-left-preserved : goal.loop-left-preserved
-loop-left-preserved c =
+pub loop-k-preserved : goal.loop-k-preserved
+loop-k-preserved c =
+    let loop = c.loop-k in
     let width = c.side-w.ensures.is in
-    rw width (making-more c.loop-left-test.true c.nth-x0.result c.loop-left.invariant (rw width at c.nth-x0.ensures))
+    let back : loop.k - 1 + 1 ≡ loop.k = grind arith in
+    let before : Making c.args.s.now c.args.at c.args.i c.args.n (loop.k - 1 + 1) loop.j loop.z = rw back loop.invariant in
+    let is = to_z-of_z w64 c.nth.result (search rules) ∙ rw width at c.nth.ensures in
+    rw width (making-more (loop.k - 1) c.requires.0.few before _ is)
 
 pub returns : goal.returns
-returns c =
-    making-end (omega (arith, c.loop-left-test.false)) c.requires.1 c.loop-left.invariant
+returns c = making-end c.loop-k.k (grind arith) c.requires.1 c.loop-k.invariant

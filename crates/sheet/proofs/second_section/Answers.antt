@@ -1,17 +1,13 @@
 -- `second_section` meets its contract: the count, then so many. Assumes nothing.
-use mathlib.Core.Path.{sym, ◌∙◌}
-use Rattle.sheet.proofs.Sections.{second-place}
-use Rattle.sheet.proofs.Readers.{goes_on, stops}
-use Rattle.sheet.proofs.Places.{count-came}
+use borrow.Author.Rules.{rules}
+use Rattle.alpha.specs.Read.{declared}
+use Rattle.sheet.specs.Record.{heads_at}
+use Rattle.sheet.specs.Section.{second_section}
+use Rattle.sheet.proofs.Sequences.{counted-place}
 use Rattle.sheet.proofs.second_section.Goals as goal
 
-pub returns-in_default : goal.returns-in_default
-returns-in_default c = sym (second-place _ _ _ ∙ stops _ c.count_field-r.ensures _ _ c.in_default.is)
-
-pub count_at-requires : goal.count_at-requires
-count_at-requires c = (count-came _ _ _ _ c.in-To.is 0 256 c.count_field-r.ensures).there
-
 pub returns : goal.returns
+unfolding second_section
 returns c =
-    rw c.count_at.ensures at c.declarations.ensures
-    ∙ sym (second-place _ _ _ ∙ goes_on _ c.count_field-r.ensures _ _ c.in-To.is)
+    let a = c.args in
+    counted-place (declared (heads_at a.s.now a.records.now)) a.s.now _ (λ p q h. search rules) 256 _ _ c.counted.ensures

@@ -1,17 +1,10 @@
 -- `third_section` meets its contract: the count, then so many. Assumes nothing.
-use mathlib.Core.Path.{sym, ◌∙◌}
-use Rattle.sheet.proofs.Sections.{third-place}
-use Rattle.sheet.proofs.Readers.{goes_on, stops}
-use Rattle.sheet.proofs.Places.{count-came}
+use borrow.Author.Rules.{rules}
+use Rattle.alpha.specs.Read.{node}
+use Rattle.sheet.specs.Section.{third_section}
+use Rattle.sheet.proofs.Sequences.{counted-place}
 use Rattle.sheet.proofs.third_section.Goals as goal
 
-pub returns-in_default : goal.returns-in_default
-returns-in_default c = sym (third-place _ _ _ ∙ stops _ c.count_field-r.ensures _ _ c.in_default.is)
-
-pub count_at-requires : goal.count_at-requires
-count_at-requires c = (count-came _ _ _ _ c.in-To.is 0 2048 c.count_field-r.ensures).there
-
 pub returns : goal.returns
-returns c =
-    rw c.count_at.ensures at c.nodes.ensures
-    ∙ sym (third-place _ _ _ ∙ goes_on _ c.count_field-r.ensures _ _ c.in-To.is)
+unfolding third_section
+returns c = counted-place (node c.args.n) c.args.s.now _ (λ p q h. search rules) 2048 _ _ c.counted.ensures

@@ -3,8 +3,4 @@ use Rattle.tree.proofs.Forming.{forms-rest}
 use Rattle.tree.proofs.forms.Goals as goal
 
 pub returns : goal.returns
-returns c =
-    let shapes = c.shapes-a.ensures in
-    let types = c.types-b.ensures in
-    let typed = c.in-Passes-b.is in
-    forms-rest _ _ _ shapes c.in-Passes.is _ types typed _ c.reaches.ensures
+returns c = forms-rest _ _ _ c.shapes.ensures c.in_ok-shapes.was _ c.types.ensures c.in_ok-types.was _ c.reaches.ensures

@@ -1,28 +1,19 @@
--- `domain::meets_all` meets its contract: what the constraints from here on say is what all of them say. Assumes nothing.
-use mathlib.Core.Path.{sym, ◌∙◌}
+-- `domain::meets_all` meets its contract: each constraint is tested at its place. Assumes nothing.
+use mathlib.Core.Path.{refl, ◌∙◌}
 use native.Mathlib.Omega.{arith}
-use Rattle.domain.proofs.Restrictions.{testable-first, testable-rest, first-fails, first_holds, none-fail}
+use Rattle.std.proofs.Common.{rules}
+use Rattle.std.proofs.lemmas.Iterator.{YieldsList-from_range, serves_from_Range}
+use Rattle.std.proofs.lemmas.Iterator.Search.{all_from_yields_List}
+use Rattle.affine.specs.Value.{point_of}
+use Rattle.domain.proofs.Restrictions.{meets_at, all-meet}
 use Rattle.domain.proofs.constraint.meets_all.Goals as goal
 
-pub meets-requires : goal.meets-requires
-meets-requires c = testable-first _ _ _ _ _ c.loop-left-test.true c.loop-left.invariant.0
-
-pub returns-then-not-meets : goal.returns-then-not-meets
-returns-then-not-meets c =
-    sym (first-fails _ _ _ _ _ c.loop-left-test.true (sym c.meets.ensures ∙ c.if-not-meets.true))
-    ∙ c.loop-left.invariant.1
-
-pub overflow_add-p-in-loop-left : goal.overflow_add-p-in-loop-left
-overflow_add-p-in-loop-left c =
-    omega (arith, (testable-first _ _ _ _ _ c.loop-left-test.true c.loop-left.invariant.0).there)
-
-pub loop-left-preserved : goal.loop-left-preserved
-loop-left-preserved c =
-    let some = c.loop-left-test.true in
-    let inv = c.loop-left.invariant in
-    let held = sym c.meets.ensures ∙ c.if-not-meets.false in
-    (testable-rest _ _ _ _ _ some inv.0, first_holds _ _ _ _ _ some held ∙ inv.1)
+pub all-requires-clause-callable : goal.all-requires-clause-callable
+all-requires-clause-callable c = serves_from_Range (λ x q k. search rules) (λ i low lt. let t = c.requires.1 i lt in search rules parts 40)
 
 pub returns : goal.returns
 returns c =
-    sym (none-fail _ _ _ _ _ (omega (arith, c.loop-left-test.false))) ∙ c.loop-left.invariant.1
+    let a = c.args in
+    all_from_yields_List (meets_at a.n a.s.now (point_of a.n a.z) a.at) _ _ _ c.all.ensures.ran (YieldsList-from_range 0 a.count a.count refl (omega arith))
+    (λ i b q k. search rules)
+    ∙ all-meet a.n a.s.now (point_of a.n a.z) a.at a.count 0 a.at (omega arith)

@@ -1,10 +1,7 @@
--- `domain::all_declared_meet` meets its contract. The loop's invariant: those that are left stand there and decide. The measure is how
--- many are left. Assumes nothing.
+-- `domain::all_declared_meet` meets its contract. The loop's invariant: those that are left stand there and decide. Assumes nothing.
+use Prim.Native.Nat.{◌-◌}
 use Rattle.domain.proofs.Filled.{MeetsLeft}
 use Rattle.domain.proofs.inside.all_declared_meet.Given as goal
 
-abbrev pub invariant-loop-left : goal.invariant-loop-left
-invariant-loop-left l = MeetsLeft l.s l.v l.z l.left l.p
-
-abbrev pub decreases-loop-left : goal.decreases-loop-left
-decreases-loop-left l = l.left
+abbrev pub invariant-loop : goal.invariant-loop
+invariant-loop l = MeetsLeft l.s l.v l.z (l.end - l.counter) l.p

@@ -41,7 +41,8 @@ point-z-requires c =
 pub all_declared_meet-requires : goal.all_declared_meet-requires
 all_declared_meet-requires c =
     let at = rw c.record_place.ensures at c.point-z.ensures in
-    (c.requires.0, record { known = c.requires.1.known; in-box = point-inside _ _ _ _ (laid (goal.at.all_declared_meet-requires c).Start) c.requires.1.low _ at })
+    let l = laid (goal.at.all_declared_meet-requires c).Start in
+    (c.requires.0, record { known = c.requires.1.known; in-box = point-inside _ _ _ _ l c.requires.1.low _ at })
 
 pub returns : goal.returns
 returns c =

@@ -1,15 +1,14 @@
 -- `evaluate::known` meets its contract: the entry's code and value are those that the memo has. Assumes nothing.
-use mathlib.Core.Path.{◌≡◌, refl, ◌∙◌}
+use mathlib.Core.Path.{refl}
+use Prim.Native.Nat.{◌/◌, ◌%◌}
 use native.Mathlib.Omega.{arith}
 use lib.ListN.{get_or}
-use Rattle.evaluate.specs.Memo.{value_in}
+use lib.IntN.{pos, ◌-ℤ◌}
+use Rattle.std.proofs.Common.{w64}
+use Rattle.std.proofs.lemmas.Int.{to_z-of_z, to_z_pos}
+use Rattle.integer.proofs.Sizes.{sub-fits}
 use Rattle.evaluate.proofs.Entries.{entry-code, entry_value}
-use Rattle.evaluate.proofs.memo.known.Goals.{After-sub-x}
 use Rattle.evaluate.proofs.memo.known.Goals as goal
-
--- the value is the entry's
-value-is : (c : After-sub-x) → c.sub-x.result.v ≡ value_in (get_or c.args.memo.now c.args.e 0)
-value-is c = c.sub-x.ensures.0 ∙ rw (c.of_usize.ensures, c.of.ensures) refl
 
 pub returns-then-code-gt-BUSY : goal.returns-then-code-gt-BUSY
 returns-then-code-gt-BUSY c =
@@ -19,4 +18,7 @@ pub returns : goal.returns
 returns c =
     let code = entry-code c.args.memo.now c.args.e in
     let value = entry_value c.args.memo.now c.args.e in
-    (omega (arith, code, c.if-code-gt-BUSY.false), rw (code, value, ← value-is (goal.at.returns c).After-sub-x) c.outcome.ensures)
+    let n = get_or c.args.memo.now c.args.e 0 / 8 % 4294967296 in
+    let whole = to_z_pos w64 n (omega arith) in
+    let exact = to_z-of_z w64 (pos n -ℤ pos 2147483648) (sub-fits (pos n) (pos 2147483648) (omega arith)) in
+    (omega (arith, code, c.if-code-gt-BUSY.false), rw (code, value) (simp (whole, exact) at c.decoded.ensures))

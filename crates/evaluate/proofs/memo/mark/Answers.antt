@@ -1,7 +1,6 @@
 -- `evaluate::mark` meets its contract. Assumes nothing.
-use mathlib.Core.Path.{◌∙◌}
 use Rattle.evaluate.proofs.Entries.{entry-noted}
 use Rattle.evaluate.proofs.memo.mark.Goals as goal
 
 pub returns : goal.returns
-returns c = entry-noted _ _ _ _ _ c.packed.ensures.0 (c.packed.ensures.1 ∙ c.of.ensures)
+returns c = entry-noted _ _ _ _ _ c.packed.ensures.0 c.packed.ensures.1

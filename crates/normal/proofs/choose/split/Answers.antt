@@ -3,11 +3,11 @@
 use Rattle.normal.proofs.Counting.{rest_some, counted-split}
 use Rattle.normal.proofs.choose.split.Goals as goal
 
-pub nonzero_div-branch : goal.nonzero_div-branch
-nonzero_div-branch c = rest_some _ _ _ _ _ c.requires _ c.count_tree-first.ensures.0
+pub nonzero_div-result : goal.nonzero_div-result
+nonzero_div-result c = rest_some _ _ _ _ _ c.requires _ c.count_tree-first.ensures.0
 
-pub nonzero_rem-rest : goal.nonzero_rem-rest
-nonzero_rem-rest c = rest_some _ _ _ _ _ c.requires _ c.count_tree-first.ensures.0
+pub nonzero_rem-result : goal.nonzero_rem-result
+nonzero_rem-result c = rest_some _ _ _ _ _ c.requires _ c.count_tree-first.ensures.0
 
 pub returns : goal.returns
 returns c =

@@ -1,7 +1,8 @@
 -- `normal::count_tree` and `normal::count_trees` meet their contracts, class by class: a leaf has one branch, an operator its operands'
 -- combinations, a case its children's branches, any other node its child's; and a tree ends where its children end. Assumes nothing.
-use Prim.Native.Nat.{ℕ, ◌≤◌}
+use Prim.Native.Nat.{ℕ, ◌+◌, ◌-◌, ◌≤◌, ◌<◌}
 use mathlib.Core.Path.{◌≡◌, sym, ◌∙◌}
+use mathlib.Core.Logic.{⊎_elim}
 use native.Mathlib.Omega.{arith}
 use Rattle.tree.specs.declared.Class.{Class}
 use Rattle.tree.specs.Standing.{NodedAs}
@@ -63,18 +64,10 @@ pub count_tree-count_tree-requires : goal.count_tree-count_tree-requires
 count_tree-count_tree-requires t c =
     let left = some t (goal.at.count_tree-count_tree-requires t c).Start in
     let is = c.decreases in
-    let restricts = class t (goal.at.count_tree-count_tree-requires t c).After-node_end-next c.in-Restriction.is in
-    (omega arith, below-standing _ _ _ c.node_end-next.ensures _ c.requires (restriction-arity _ _ restricts))
-
-pub count_tree-overflow_sub-left-in-Dependence : goal.count_tree-overflow_sub-left-in-Dependence
-count_tree-overflow_sub-left-in-Dependence t c = omega (arith, some t (goal.at.count_tree-overflow_sub-left-in-Dependence t c).Start)
-
-pub count_tree-count_tree-requires-in-Dependence : goal.count_tree-count_tree-requires-in-Dependence
-count_tree-count_tree-requires-in-Dependence t c =
-    let left = some t (goal.at.count_tree-count_tree-requires-in-Dependence t c).Start in
-    let is = c.decreases in
-    let depends = class t (goal.at.count_tree-count_tree-requires-in-Dependence t c).After-node_end-next c.in-Dependence.is in
-    (omega arith, below-standing _ _ _ c.node_end-next.ensures _ c.requires (dependence-arity _ _ depends))
+    let here = (goal.at.count_tree-count_tree-requires t c).After-node_end-next in
+    let arity =
+    ⊎_elim (λ told. restriction-arity _ _ (class t here told)) (λ told. dependence-arity _ _ (class t here told)) c.in-Restriction.is in
+    (omega arith, below-standing _ _ _ c.node_end-next.ensures _ c.requires arity)
 
 pub count_tree-returns-in-Leaf : goal.count_tree-returns-in-Leaf
 count_tree-returns-in-Leaf t c =
@@ -83,53 +76,58 @@ count_tree-returns-in-Leaf t c =
 
 pub count_tree-returns-in-Operator : goal.count_tree-returns-in-Operator
 count_tree-returns-in-Operator t c =
+    let here = (goal.at.count_tree-returns-in-Operator t c).After-node_end-next in
     let counted = c.count_trees.ensures in (
-      operator-way _ _ _ c.node_end-next.ensures _ _ c.children.ensures (class t (goal.at.count_tree-returns-in-Operator t c).After-node_end-next c.in-Operator.is).class_is counted.0,
+      operator-way _ _ _ c.node_end-next.ensures _ _ c.children.ensures (class t here c.in-Operator.is).class_is counted.0,
       node-ends _ _ _ _ _ _ c.node_end-next.ensures c.children.ensures counted.1,
     )
 
 pub count_tree-returns-in-Case : goal.count_tree-returns-in-Case
 count_tree-returns-in-Case t c =
+    let here = (goal.at.count_tree-returns-in-Case t c).After-node_end-next in
     let counted = c.count_trees-in-Case.ensures in (
-      case-way _ _ _ c.node_end-next.ensures _ _ c.children-in-Case.ensures (class t (goal.at.count_tree-returns-in-Case t c).After-node_end-next c.in-Case.is).class_is counted.0,
+      case-way _ _ _ c.node_end-next.ensures _ _ c.children-in-Case.ensures (class t here c.in-Case.is).class_is counted.0,
       node-ends _ _ _ _ _ _ c.node_end-next.ensures c.children-in-Case.ensures counted.1,
     )
 
 pub count_tree-returns-in-Restriction : goal.count_tree-returns-in-Restriction
 count_tree-returns-in-Restriction t c =
     let next = c.node_end-next.ensures in
-    let below = restriction-below _ _ _ next (class t (goal.at.count_tree-returns-in-Restriction t c).After-node_end-next c.in-Restriction.is).class_is in
+    let here = (goal.at.count_tree-returns-in-Restriction t c).After-node_end-next in
+    let below =
+    ⊎_elim (λ told. restriction-below _ _ _ next (class t here told).class_is) (λ told. dependence-below _ _ _ next (class t here told).class_is)
+    c.in-Restriction.is in
     let counted = c.count_tree.ensures in
     (below-way _ _ _ next below _ counted.0, below-ends _ _ _ next below _ counted.1)
 
-pub count_tree-returns-in-Dependence : goal.count_tree-returns-in-Dependence
-count_tree-returns-in-Dependence t c =
-    let next = c.node_end-next.ensures in
-    let below = dependence-below _ _ _ next (class t (goal.at.count_tree-returns-in-Dependence t c).After-node_end-next c.in-Dependence.is).class_is in
-    let counted = c.count_tree-in-Dependence.ensures in
-    (below-way _ _ _ next below _ counted.0, below-ends _ _ _ next below _ counted.1)
+pub count_trees-loop-tree-init : goal.count_trees-loop-tree-init
+count_trees-loop-tree-init t c =
+    let all : c.args.many - 0 ≡ c.args.many = omega arith in rw all (c.requires.0, c.requires.1, λ r h. h, λ r h. h)
 
 pub count_trees-count_tree-one-requires : goal.count_trees-count_tree-one-requires
 count_trees-count_tree-one-requires t c =
     let is = c.decreases in
-    (omega arith, first-standing _ _ _ _ _ c.loop-more-test.true c.loop-more.invariant.0)
+    let some : 1 ≤ c.args.many - c.loop-tree._tree = omega (arith, c.loop-tree-test.true) in
+    (omega arith, first-standing _ _ _ _ _ some c.loop-tree.invariant.0)
 
-pub count_trees-loop-more-preserved : goal.count_trees-loop-more-preserved
-count_trees-loop-more-preserved t c =
-    let loop = c.loop-more in
-    let more = c.loop-more-test.true in
+pub count_trees-loop-tree-preserved : goal.count_trees-loop-tree-preserved
+count_trees-loop-tree-preserved t c =
+    let loop = c.loop-tree in
+    let left = c.args.many - loop._tree in
+    let some : 1 ≤ c.args.many - loop._tree = omega (arith, c.loop-tree-test.true) in
+    let next : c.args.many - (loop._tree + 1) ≡ c.args.many - loop._tree - 1 = omega arith in
     let one = c.count_tree-one.ensures in
-    let sum = c.joined-sum.ensures in (
-      rest-standing _ _ _ _ _ more loop.invariant.0 _ one.1,
+    let sum = c.joined-sum.ensures in rw next (
+      rest-standing _ _ _ _ _ some loop.invariant.0 _ one.1,
       omega (arith, sum),
-      (λ r h. loop.invariant.2 r (more-way _ _ _ c.args.branches loop.sum _ _ _ _ more one.0 one.1 sum h)),
-      (λ r h. loop.invariant.3 r (more-ends _ _ _ _ _ _ more one.1 h)),
+      (λ r h. loop.invariant.2 r (more-way _ _ _ c.args.group loop.sum _ _ _ _ some one.0 one.1 sum h)),
+      (λ r h. loop.invariant.3 r (more-ends _ _ _ _ _ _ some one.1 h)),
     )
 
 pub count_trees-returns : goal.count_trees-returns
 count_trees-returns t c =
-    let loop = c.loop-more in
-    let none = c.loop-more-test.false in (
-      loop.invariant.2 _ (none-way _ _ _ c.args.branches loop.sum (omega (arith, none)) loop.invariant.1),
-      loop.invariant.3 _ (none-ends _ _ _ _ (omega (arith, none))),
+    let loop = c.loop-tree in
+    let none : c.args.many - loop._tree < 1 = omega (arith, c.loop-tree-test.false) in (
+      loop.invariant.2 _ (none-way _ _ _ c.args.group loop.sum none loop.invariant.1),
+      loop.invariant.3 _ (none-ends _ _ _ _ none),
     )

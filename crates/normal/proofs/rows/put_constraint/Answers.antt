@@ -12,5 +12,5 @@ returns c =
     let read = c.row_read-given.ensures in
     let relation = c.natural-relation in
     let after = c.row_after-row in
-    constraint-laid _ _ _ c.args.m c.requires.composable c.requires.neat c.requires.dims _ read c.args.out.now c.args.to relation.result after.result
+    constraint-laid _ _ _ c.args.m.now c.requires.composable c.requires.neat c.requires.dims _ read c.args.out.now c.args.to relation.result after.result
     relation.ensures after.ensures.is c.put_nat.ensures c.put_row.ensures

@@ -2,25 +2,21 @@
 -- the whole row gives at the start. Assumes nothing.
 use mathlib.Core.Path.{◌≡◌}
 use mathlib.Core.List.{List, ◌++◌}
-use Prim.Native.Nat.{ℕ, ◌+◌, ◌*◌, ◌-◌, ◌≤◌}
+use Prim.Native.Nat.{ℕ, ◌+◌, ◌*◌}
 use lib.ListN.{length}
 use lib.Seq.{sets}
-use Rattle.alpha.specs.declared.Int.{Int}
+use lib.IntN.{ℤ}
 use Rattle.alpha.specs.Field.{num}
 use Rattle.alpha.specs.Written.{row_bytes}
-use Rattle.affine.specs.Value.{at, several}
+use Rattle.affine.specs.Value.{at, row_of}
 use Rattle.normal.proofs.Laying.{run}
 use Rattle.normal.proofs.rows.put_row.Given as goal
 
 -- the field of a coefficient
-abbrev pub coefficient : List Int → ℕ → List ℕ
+abbrev pub coefficient : List ℤ → ℕ → List ℕ
 coefficient c i = num (at c i)
 
 abbrev pub invariant-loop-j : goal.invariant-loop-j
 invariant-loop-j l =
-    (sets l.out l.p (run l.j l.n (coefficient l.c) ++ num l.r.constant.v)
-    ≡ sets l.initial.out l.to (row_bytes (record { coefs = several l.n (at l.c); const = l.r.constant.v })))
-    × (length l.out ≡ length l.initial.out) × (l.p ≡ l.to + 8 * l.j) × (l.j ≤ l.n)
-
-abbrev pub decreases-loop-j : goal.decreases-loop-j
-decreases-loop-j l = l.n - l.j
+    (sets l.out (l.to + 8 * l.j) (run l.j l.n (coefficient l.r.coef) ++ num l.r.constant)
+    ≡ sets l.initial.out l.to (row_bytes (row_of l.n l.r))) × (length l.out ≡ length l.initial.out)

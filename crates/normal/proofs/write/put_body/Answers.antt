@@ -18,7 +18,7 @@ pub put_nat-requires : goal.put_nat-requires
 put_nat-requires c =
     omega (
       arith,
-      head-room _ _ _ c.requires.0 _ _ c.body_place-at.ensures refl _ c.count_tree-counted.ensures.0
+      head-room _ _ _ c.requires.0 _ _ c.body_place-at.ensures refl _ c.count_tree-many.ensures.0
           c.args.out.now c.args.to c.requires.1,
     )
 
@@ -26,17 +26,17 @@ pub put_nat-requires-2 : goal.put_nat-requires-2
 put_nat-requires-2 c =
     omega (
       arith,
-      head-room _ _ _ c.requires.0 _ _ c.body_place-at.ensures refl _ c.count_tree-counted.ensures.0 c.args.out.now
+      head-room _ _ _ c.requires.0 _ _ c.body_place-at.ensures refl _ c.count_tree-many.ensures.0 c.args.out.now
           c.args.to c.requires.1,
     )
 
-pub put_tree-requires : goal.put_tree-requires
-put_tree-requires c =
+pub turn-requires : goal.turn-requires
+turn-requires c =
     let w = c.requires.0 in
     let place = c.body_place-at.ensures in
-    let dim = c.dimension_of-n.ensures in
-    let counted = c.count_tree-counted.ensures.0 in
-    let many = c.count_tree-counted.result.many in
+    let dim = c.dimension_of.ensures in
+    let counted = c.count_tree-many.ensures.0 in
+    let many = c.count_tree-many.result.many in
     let two =
     sets-after c.args.out.now c.args.to 8 (nat 6) (nat many) (length-nat 6) c.put_nat.ensures
     c.put_nat-2.ensures in
@@ -47,7 +47,7 @@ put_tree-requires c =
 
 pub returns : goal.returns
 returns c =
-    let dim = c.dimension_of-n.ensures in
-    body-stored _ _ _ c.requires.0 _ _ c.body_place-at.ensures dim.0 _ c.count_tree-counted.ensures.0 c.args.out.now
+    let dim = c.dimension_of.ensures in
+    body-stored _ _ _ c.requires.0 _ _ c.body_place-at.ensures dim.0 _ c.count_tree-many.ensures.0 c.args.out.now
     c.args.to
-    c.put_nat.ensures c.put_nat-2.ensures c.put_tree.ensures
+    c.put_nat.ensures c.put_nat-2.ensures c.turn.ensures

@@ -1,46 +1,56 @@
 -- `program::frame_of` meets its contract: one way out for each fault of the frame. Assumes nothing.
-use mathlib.Core.Path.{◌≡◌, sym, ap, ◌∙◌}
-use native.Mathlib.Omega.{arith}
+use Rattle.std.proofs.Common.{◌≡◌, ◌<◌, ◌≤◌, length, sym, ap, ◌∙◌, arith}
+use Rattle.std.proofs.lemmas.Result.{err_from_is_err_and}
 use lib.IntN.{pos, nat_abs}
-use lib.Signed.{le_z, non_neg}
+use lib.Signed.{lt_z}
+use mir.Syntax.{w64}
+use mir.Val.{to_z, of_z}
+use borrow.Author.Rules.{sfits_of}
 use Rattle.alpha.specs.Field.{field}
-use Rattle.program.proofs.Framing.{frame-short, frame-long, frame-negative, frame_past, frame-sheet}
-use Rattle.program.proofs.input.frame_of.Goals.{After-at_most, After-not_negative}
+use Rattle.program.proofs.Framing.{ok_or-none, field_read, frame-short, frame-long, frame-negative, frame_past, frame-parts}
+use Rattle.program.proofs.input.frame_of.Goals.{After-from_le_bytes-n}
 use Rattle.program.proofs.input.frame_of.Goals as goal
 
--- the length of the sheet is at most 65,536, or it is not
-length_is : (c : After-at_most) → c.at_most.result ≡ le_z (field c.args.input.now 0) (pos 65536)
-length_is c =
-    let x : c.of.result.v ≡ pos 65536 = c.of.ensures in
-    c.at_most.ensures ∙ rw (c.number_at-n.ensures, x)
+pub returns-in_err-field : goal.returns-in_err-field
+returns-in_err-field c =
+    let p = err_from_is_err_and c.from_residual.result c.from_residual.ensures.1 in
+    let none = c.in_err-field.ensures.ok_part in
+    let short : length c.args.input.now < 8 = rw none at c.split_first_chunk.ensures.cases in
+    rw (p.1, p.2, ok_or-none _ _ _ c.in_err-field.ensures.value none) (frame-short _ short)
 
--- it is negative, or it is not
-sign-is : (c : After-not_negative) → c.not_negative.result
-    ≡ non_neg (field c.args.input.now 0)
-sign-is c =
-    c.not_negative.ensures ∙ ap non_neg c.number_at-n.ensures
+-- the length is there, and the code reads it
+there : (c : After-from_le_bytes-n) → (8 ≤ length c.args.input.now) × (to_z w64 (of_z w64 c.from_le_bytes-n.result) ≡ field c.args.input.now 0)
+there c =
+    let first = rw c.in_ok-field.ensures.ok_part at c.split_first_chunk.ensures.cases in
+    (omega (arith, first.2), field_read c.args.input.now _ (sfits_of c.from_le_bytes-n.type_inv) (rw first.0 at c.from_le_bytes-n.ensures))
 
-pub returns-then-input-lt8 : goal.returns-then-input-lt8
-returns-then-input-lt8 c = frame-short _ c.if-input-lt8.true
+pub returns-then-n-gt65536 : goal.returns-then-n-gt65536
+returns-then-n-gt65536 c =
+    let n = there (goal.at.returns-then-n-gt65536 c).After-from_le_bytes-n in
+    frame-long _ n.0 (ap (lt_z (pos 65536)) (sym n.1) ∙ c.if-n-gt65536.true)
 
-pub returns-then-not-at_most : goal.returns-then-not-at_most
-returns-then-not-at_most c =
-    frame-long _ c.if-input-lt8.false (sym (length_is (goal.at.returns-then-not-at_most c).After-at_most) ∙ c.if-not-at_most.true)
+pub returns-then-n-lt0 : goal.returns-then-n-lt0
+returns-then-n-lt0 c =
+    let n = there (goal.at.returns-then-n-lt0 c).After-from_le_bytes-n in
+    frame-negative _ n.0 (ap (lt_z (pos 65536)) (sym n.1) ∙ c.if-n-gt65536.false) (ap (λ x. lt_z x (pos 0)) (sym n.1) ∙ c.if-n-lt0.true)
 
-pub returns-then-not-not_negative : goal.returns-then-not-not_negative
-returns-then-not-not_negative c =
-    let small = sym (length_is (goal.at.returns-then-not-not_negative c).After-at_most) ∙ c.if-not-at_most.false in
-    frame-negative _ c.if-input-lt8.false small (sym (sign-is (goal.at.returns-then-not-not_negative c).After-not_negative) ∙ c.if-not-not_negative.true)
-
-pub returns-then-input-len : goal.returns-then-input-len
-returns-then-input-len c =
-    let small = sym (length_is (goal.at.returns-then-input-len c).After-at_most) ∙ c.if-not-at_most.false in
-    let positive = sym (sign-is (goal.at.returns-then-input-len c).After-not_negative) ∙ c.if-not-not_negative.false in
-    frame_past _ c.if-input-lt8.false small positive
-    (omega (arith, c.to_usize-len.ensures, ap nat_abs c.number_at-n.ensures, c.if-input-len.true))
+pub returns-in_err-sheet : goal.returns-in_err-sheet
+returns-in_err-sheet c =
+    let p = err_from_is_err_and c.from_residual-in_err-sheet.result c.from_residual-in_err-sheet.ensures.1 in
+    let n = there (goal.at.returns-in_err-sheet c).After-from_le_bytes-n in
+    let first = rw c.in_ok-field.ensures.ok_part at c.split_first_chunk.ensures.cases in
+    let none = c.in_err-sheet.ensures.ok_part in
+    let past : length c.in_ok-field.rest.now < nat_abs (to_z w64 (of_z w64 c.from_le_bytes-n.result)) = rw none at c.split_at_checked.ensures.cases in
+    let small = ap (lt_z (pos 65536)) (sym n.1) ∙ c.if-n-gt65536.false in
+    let positive = ap (λ x. lt_z x (pos 0)) (sym n.1) ∙ c.if-n-lt0.false in
+    rw (p.1, p.2, ok_or-none _ _ _ c.in_err-sheet.ensures.value none)
+    (frame_past _ n.0 small positive (omega (arith, first.2, past, ap nat_abs n.1)))
 
 pub returns : goal.returns
 returns c =
-    let small = sym (length_is (goal.at.returns c).After-at_most) ∙ c.if-not-at_most.false in
-    let positive = sym (sign-is (goal.at.returns c).After-not_negative) ∙ c.if-not-not_negative.false in
-    frame-sheet _ c.if-input-lt8.false small positive _ (c.to_usize-len.ensures ∙ ap nat_abs c.number_at-n.ensures) c.if-input-len.false
+    let n = there (goal.at.returns c).After-from_le_bytes-n in
+    let first = rw c.in_ok-field.ensures.ok_part at c.split_first_chunk.ensures.cases in
+    let parts = rw c.in_ok-sheet.ensures.ok_part at c.split_at_checked.ensures.cases in
+    let small = ap (lt_z (pos 65536)) (sym n.1) ∙ c.if-n-gt65536.false in
+    let positive = ap (λ x. lt_z x (pos 0)) (sym n.1) ∙ c.if-n-lt0.false in
+    frame-parts _ n.0 small positive _ _ _ _ first.1 (ap nat_abs n.1) parts.0 parts.1 parts.2

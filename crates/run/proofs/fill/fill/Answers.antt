@@ -1,67 +1,67 @@
--- `run::fill` meets its contract. The loop's invariant: the first i entries of the stretch are filled. The measure is how many are left.
--- Assumes nothing.
-use mathlib.Core.Path.{◌≡◌, ◌∙◌}
+-- `run::fill` meets its contract. The loop's invariant: the first i entries of the stretch are filled. Assumes nothing.
+use mathlib.Core.Path.{◌≡◌, ap, ◌∙◌}
 use Prim.Native.Nat.{◌+◌, ◌<◌}
 use native.Mathlib.Omega.{arith}
 use Rattle.alpha.specs.Box.{size}
 use Rattle.alpha.specs.Holds.{variable}
 use Rattle.alpha.specs.Check.{total}
 use Rattle.alpha.specs.Ask.{before}
-use Rattle.laws.specs.Sheets.{sheet_of}
 use Rattle.laws.proofs.Elements.{before-fits}
-use Rattle.domain.proofs.Records.{VariableLaid, laid-variable}
-use Rattle.evaluate.proofs.Doing.{setting-with}
-use Rattle.run.proofs.Tabling.{fills-next}
+use Rattle.domain.proofs.Records.{VariableLaid, laid-variable, laid-length}
+use lib.ListN.{set}
+use Rattle.integer.proofs.Machine.{small-same}
+use Rattle.evaluate.proofs.Entries.{value-small}
+use Rattle.evaluate.specs.Evaluating.{bytes, sheet}
+use Rattle.run.proofs.Tabling.{kept32, fills-next}
 use Rattle.run.proofs.fill.fill.Goals.{After-first_element-first, In-loop-i, Start}
 use Rattle.run.proofs.fill.fill.Goals as goal
 
 -- the variable
-laid : (c : Start) → VariableLaid c.args.s.now c.args.tab.now c.args.v
-laid c = laid-variable _ _ c.requires.0.formed.placed _ c.requires.1.known
+laid : (c : Start) → VariableLaid (bytes c.args.evaluator.now) c.args.evaluator.now.ground.table.now c.args.v
+laid c =
+    let placed = c.requires.0.placed in
+    laid-variable _ _ placed _ (omega (arith, c.requires.1.known, laid-length _ _ placed))
 
 -- its first element
-first_is : (c : After-first_element-first) →
-    (laid : VariableLaid c.args.s.now c.args.tab.now c.args.v) →
-    c.first_element-first.result ≡ before (sheet_of c.args.s.now) c.args.v
-first_is c laid =
-    c.first_element-first.ensures ∙ laid.first_is
+first_is : (c : After-first_element-first) → VariableLaid (bytes c.args.evaluator.now) c.args.evaluator.now.ground.table.now c.args.v →
+    c.first_element-first.result ≡ before (sheet c.args.evaluator.now) c.args.v
+first_is c laid = c.first_element-first.ensures ∙ laid.first_is
 
 -- the next is one of its elements
-many : (c : In-loop-i) → c.loop-i.i < size
-    (variable (sheet_of c.args.s.now) c.args.v).head.box
-many c =
-    omega (arith, c.loop-i-test.true, c.requires.1.codes_long)
+many : (c : In-loop-i) → c.loop-i.i < size (variable (sheet c.args.evaluator.now) c.args.v).head.box
+many c = omega (arith, c.loop-i-test.true, c.requires.1.codes_long)
 
-number-low : (c : In-loop-i) →
-    (first_is : c.first_element-first.result ≡ before (sheet_of c.args.s.now) c.args.v) →
-    (laid : VariableLaid c.args.s.now c.args.tab.now c.args.v) →
-    c.first_element-first.result + c.loop-i.i < total (sheet_of c.args.s.now)
-number-low c first_is laid =
-    omega (arith, first_is, many c, before-fits (sheet_of c.args.s.now) c.args.v laid.known)
+number-low : (c : In-loop-i) → c.first_element-first.result ≡ before (sheet c.args.evaluator.now) c.args.v →
+    c.first_element-first.result + c.loop-i.i < total (sheet c.args.evaluator.now)
+number-low c first = omega (arith, first, many c, before-fits (sheet c.args.evaluator.now) c.args.v c.requires.1.known)
 
 pub first_element-first-requires : goal.first_element-first-requires
 first_element-first-requires c = omega (arith, (laid (goal.at.first_element-first-requires c).Start).low)
 
-pub overflow_add-e : goal.overflow_add-e
-overflow_add-e c =
-    let way = goal.at.overflow_add-e c in
+pub overflow_add-first : goal.overflow_add-first
+overflow_add-first c =
+    let way = goal.at.overflow_add-first c in
     let l = laid way.Start in
-    let first = first_is way.After-first_element-first l in
-    omega (arith, number-low way.In-loop-i first l)
+    omega (arith, number-low way.In-loop-i (first_is way.After-first_element-first l), c.args.evaluator.now.ready.few)
 
 pub settle-o-requires : goal.settle-o-requires
 settle-o-requires c =
     let way = goal.at.settle-o-requires c in
-    let l = laid way.Start in
-    let first = first_is way.After-first_element-first l in
-    let m = c.loop-i.invariant.advances in
-    (setting-with _ _ _ _ _ _ c.requires.0 m.ready, record { idle = m.idle; element = omega (arith, number-low way.In-loop-i first l) })
+    let first = first_is way.After-first_element-first (laid way.Start) in
+    let so_far = c.loop-i.invariant in
+    rw so_far.same.ground (c.requires.0, record { idle = so_far.filled.advances.idle; element = number-low way.In-loop-i first })
 
 pub loop-i-preserved : goal.loop-i-preserved
 loop-i-preserved c =
     let way = goal.at.loop-i-preserved c in
-    let l = laid way.Start in
-    let first = first_is way.After-first_element-first l in
-    let w = c.put.ensures in
-    fills-next _ _ _ _ _ _ _ _ c.loop-i.invariant (many way.In-loop-i) (rw first at (number-low way.In-loop-i first l)) _ (rw first at c.settle-o.ensures) _ _
-    w.0 w.1
+    let first = first_is way.After-first_element-first (laid way.Start) in
+    let so_far = c.loop-i.invariant in
+    let settled = rw (so_far.same.ground, first) at c.settle-o.ensures.settled in
+    let small = value-small _ settled.says.small in
+    let value = kept32 _ _ small (small-same c.value.result (rw c.value.ensures small) ∙ c.value.ensures) in
+    record {
+      same = record { ground = c.settle-o.ensures.same.ground ∙ so_far.same.ground; memo = c.settle-o.ensures.same.memo ∙ so_far.same.memo };
+      filled =
+          fills-next _ _ _ _ _ _ _ _ so_far.filled (many way.In-loop-i) (rw first at (number-low way.In-loop-i first)) _ settled _ _
+          (ap (λ n. set c.loop-i.codes c.loop-i.i n) c.code.ensures) (ap (λ n. set c.loop-i.values c.loop-i.i n) value);
+    }

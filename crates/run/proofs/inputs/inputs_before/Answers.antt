@@ -11,7 +11,7 @@ use Rattle.run.proofs.inputs.inputs_before.Goals.{After-input_size-n}
 use Rattle.run.proofs.inputs.inputs_before.Goals as goal
 
 -- the sum with one variable more
-step : (c : After-input_size-n) → c.loop-k.n + c.input_size-n.result ≡ inputs_before (sheet_of c.args.s.now)
+step : (c : After-input_size-n) → c.loop-k.n + c.input_size-n.result ≡ inputs_before (sheet_of c.args.ground.now.sheet.now)
     (c.loop-k.k + 1)
 step c =
     let low = laid-length _ _ c.requires.0.placed in
@@ -20,16 +20,16 @@ step c =
       arith,
       c.loop-k.invariant.0,
       c.input_size-n.ensures,
-      before-step (sheet_of c.args.s.now) c.loop-k.k (omega (arith, c.requires.1, c.loop-k-test.true)),
+      before-step (sheet_of c.args.ground.now.sheet.now) c.loop-k.k (omega (arith, c.requires.1, c.loop-k-test.true)),
     ))
 
 -- it is small
-few : (c : After-input_size-n) → inputs_before (sheet_of c.args.s.now) (c.loop-k.k + 1) ≤ 4096
+few : (c : After-input_size-n) → inputs_before (sheet_of c.args.ground.now.sheet.now) (c.loop-k.k + 1) ≤ 4096
 few c =
     omega (
       arith,
-      before-count (sheet_of c.args.s.now) (c.loop-k.k + 1),
-      count-total (sheet_of c.args.s.now),
+      before-count (sheet_of c.args.ground.now.sheet.now) (c.loop-k.k + 1),
+      count-total (sheet_of c.args.ground.now.sheet.now),
       laid-total _ _ c.requires.0.placed,
     )
 

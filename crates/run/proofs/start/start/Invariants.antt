@@ -1,6 +1,5 @@
--- `run::start` meets its contract. The loop's invariant: the entries of the variables before v are those before the run. The measure is how
--- many are left. Assumes nothing.
-use Prim.Native.Nat.{◌-◌, ◌≤◌}
+-- `run::start` meets its contract. The loop's invariant: the entries of the variables before v are those before the run.
+-- Assumes nothing.
 use Rattle.alpha.specs.Ask.{before}
 use Rattle.laws.specs.Sheets.{sheet_of}
 use Rattle.evaluate.specs.Memo.{memo_of}
@@ -8,7 +7,4 @@ use Rattle.run.specs.Starting.{Started}
 use Rattle.run.proofs.start.start.Given as goal
 
 abbrev pub invariant-loop-v : goal.invariant-loop-v
-invariant-loop-v l = Started (sheet_of l.s) l.ins (memo_of l.memo) (before (sheet_of l.s) l.v) × (l.v ≤ l.n)
-
-abbrev pub decreases-loop-v : goal.decreases-loop-v
-decreases-loop-v l = l.n - l.v
+invariant-loop-v l = Started (sheet_of l.ground.sheet.now) l.ins (memo_of l.memo) (before (sheet_of l.ground.sheet.now) l.v)

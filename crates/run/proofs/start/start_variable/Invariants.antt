@@ -1,6 +1,6 @@
 -- `run::start_variable` meets its contract. The loop's invariant: the entries of the variable's first i elements are those before the run.
--- The measure is how many are left. Assumes nothing.
-use Prim.Native.Nat.{◌+◌, ◌-◌, ◌≤◌}
+-- Assumes nothing.
+use Prim.Native.Nat.{◌+◌}
 use Rattle.alpha.specs.Ask.{before}
 use Rattle.laws.specs.Sheets.{sheet_of}
 use Rattle.evaluate.specs.Memo.{memo_of}
@@ -8,7 +8,4 @@ use Rattle.run.specs.Starting.{Started}
 use Rattle.run.proofs.start.start_variable.Given as goal
 
 abbrev pub invariant-loop-i : goal.invariant-loop-i
-invariant-loop-i l = Started (sheet_of l.s) l.ins (memo_of l.memo) (before (sheet_of l.s) l.v + l.i) × (l.i ≤ l.size)
-
-abbrev pub decreases-loop-i : goal.decreases-loop-i
-decreases-loop-i l = l.size - l.i
+invariant-loop-i l = Started (sheet_of l.ground.sheet.now) l.ins (memo_of l.memo) (before (sheet_of l.ground.sheet.now) l.v + l.i)

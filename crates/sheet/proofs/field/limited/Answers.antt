@@ -1,30 +1,25 @@
 -- `limited` meets its contract: cut, within the limits or off them. Assumes nothing.
-use borrow.Author.Rules.{rules}
 use native.Mathlib.Omega.{arith}
-use mathlib.Core.Path.{sym, ap, ◌∙◌}
-use Rattle.sheet.proofs.Places.{passing-cut, passing-to, passing-refused}
+use mathlib.Core.Path.{◌≡◌, sym, ap, ◌∙◌}
+use mathlib.Core.Bool.{true, false}
+use Rattle.std.proofs.lemmas.Int.{ints, to_z-of_z}
 use Rattle.alpha.specs.Answer.{refused}
 use Rattle.alpha.specs.Box.{within}
 use Rattle.alpha.specs.Verdict.{number_of}
+use Rattle.sheet.proofs.Places.{passing-cut, passing-refused, passing-to}
 use Rattle.sheet.proofs.field.limited.Goals as goal
 
-pub returns-then-s-lt8 : goal.returns-then-s-lt8
-returns-then-s-lt8 c = sym (passing-cut _ _ _ _ (omega arith))
+pub returns-then-not-room : goal.returns-then-not-room
+returns-then-not-room c = passing-cut _ _ _ _ c.if-not-room.ensures
 
-pub returns-then-s-at : goal.returns-then-s-at
-returns-then-s-at c = sym (passing-cut _ _ _ _ (omega arith))
-
-pub returns-then-within : goal.returns-then-within
-returns-then-within c =
+pub returns-then-x-hi : goal.returns-then-x-hi
+returns-then-x-hi c =
     let a = c.args in
-    let w = sym c.within.ensures ∙ c.if-within.true in
-    let fine = sym (ap (within a.lo.v a.hi.v) c.number_at-x.ensures) ∙ w in
-    sym (passing-to _ _ _ _ (search rules) fine)
+    let w : within a.lo a.hi c.number_at-x.result ≡ true = grind (arith, ints, to_z-of_z) in
+    passing-to _ _ _ _ c.if-not-room.ensures (rw c.number_at-x.ensures at (sym w))
 
-pub returns-else-within : goal.returns-else-within
-returns-else-within c =
+pub returns-else-lo-x : goal.returns-else-lo-x
+returns-else-lo-x c =
     let a = c.args in
-    let w = sym c.within.ensures ∙ c.if-within.false in
-    let off = sym (ap (within a.lo.v a.hi.v) c.number_at-x.ensures) ∙ w in
-    ap (refused (number_of a.off)) c.requires
-    ∙ sym (passing-refused (number_of a.off) (within a.lo.v a.hi.v) a.s.now a.at (search rules) off)
+    let w : within a.lo a.hi c.number_at-x.result ≡ false = grind (arith, ints, to_z-of_z) in
+    ap (refused (number_of a.off)) c.requires ∙ passing-refused _ _ _ _ c.if-not-room.ensures (rw c.number_at-x.ensures at (sym w))

@@ -1,22 +1,23 @@
--- `name_tail` meets its contract. The invariant: the bytes left continue a name where those at the start do. Assumes nothing.
+-- `name_tail` meets its contract: the bytes from the first that may not stand in a name on are zero. Assumes nothing.
 use borrow.Author.Rules.{rules}
-use mathlib.Core.Path.{sym, ◌∙◌}
-use Rattle.sheet.proofs.Names.{tail_none, tail-ends, tail_more}
+use borrow.Author.Tests.{tests}
+use mathlib.Core.Path.{◌∙◌}
+use mathlib.Core.Bool.{not}
+use Prim.Native.Nat.{◌-◌}
+use lib.ListN.{length, take, drop}
+use lib.Dec.{eqb}
+use Rattle.std.proofs.lemmas.Iterator.{YieldsList-from_slice}
+use Rattle.std.proofs.lemmas.Iterator.Search.{all_from_yields_List, position_from_yields_List}
+use Rattle.sheet.specs.Name.{in_name}
+use Rattle.sheet.proofs.Names.{found-end, tail-all}
 use Rattle.sheet.proofs.name.name_tail.Goals as goal
-
-pub returns-then-not-in_name : goal.returns-then-not-in_name
-returns-then-not-in_name c =
-    let l = c.loop-left in
-    let f = sym c.in_name.ensures ∙ c.if-not-in_name.true in
-    c.all_zero.ensures ∙ sym (l.invariant.1 ∙ tail-ends _ l.p l.left (search rules) f)
-
-pub loop-left-preserved : goal.loop-left-preserved
-loop-left-preserved c =
-    let l = c.loop-left in
-    let t = sym c.in_name.ensures ∙ c.if-not-in_name.false in
-    (search rules, l.invariant.1 ∙ tail_more _ l.p l.left (search rules) t)
 
 pub returns : goal.returns
 returns c =
-    let l = c.loop-left in
-    sym (l.invariant.1 ∙ tail_none _ l.p l.left (search rules))
+    let bytes = c.args.bytes.now in
+    let first = position_from_yields_List (λ b. not (in_name b)) _ _ c.position.result c.position.ensures.ran
+    (YieldsList-from_slice bytes cc) (λ x b q k. search (rules, tests)) in
+    let rest = take (length bytes - c.unwrap_or-end.result) (drop c.unwrap_or-end.result bytes) in
+    let zero = all_from_yields_List (λ b. eqb b 0) _ _ c.all.result c.all.ensures.ran
+    (YieldsList-from_slice rest cc) (λ x b q k. search (rules, tests)) in
+    (rw (found-end bytes first c.unwrap_or-end.ensures) at zero) ∙ tail-all bytes

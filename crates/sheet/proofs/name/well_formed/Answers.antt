@@ -3,6 +3,5 @@ use mathlib.Core.Path.{sym, ◌∙◌}
 use Rattle.sheet.proofs.Names.{name-letter}
 use Rattle.sheet.proofs.name.well_formed.Goals as goal
 
-pub returns : goal.returns
-returns c =
-    c.name_tail.ensures ∙ sym (name-letter _ _ (sym c.is_letter.ensures ∙ c.if-not-is_letter.false))
+pub returns-then-is_letter : goal.returns-then-is_letter
+returns-then-is_letter c = c.name_tail.ensures ∙ sym (name-letter _ _ c.requires c.if-is_letter.ensures)

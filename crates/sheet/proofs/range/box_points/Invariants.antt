@@ -2,8 +2,5 @@
 use Rattle.sheet.proofs.Boxes.{Product}
 use Rattle.sheet.proofs.range.box_points.Given as goal
 
-abbrev pub invariant-loop-left : goal.invariant-loop-left
-invariant-loop-left l = Product l.s l.at l.n l.p l.left l.product
-
-abbrev pub decreases-loop-left : goal.decreases-loop-left
-decreases-loop-left l = l.left
+abbrev pub invariant-loop-i : goal.invariant-loop-i
+invariant-loop-i l = Product l.s l.at l.n l.i l.product

@@ -1,5 +1,7 @@
 -- `tree::keep_tree` and `tree::keep_trees` meet their contracts: a tree ends where its children end, and its entry says so once theirs do.
 -- Assumes nothing.
+use Prim.Native.Nat.{◌+◌, ◌-◌, ◌≤◌}
+use mathlib.Core.Path.{◌≡◌}
 use native.Mathlib.Omega.{arith}
 use Rattle.tree.proofs.Standings.{standing-noded, standing-some, standing-children, first-standing, rest-standing}
 use Rattle.tree.proofs.Standings.{node-ends, none-ends, more-ends}
@@ -35,17 +37,22 @@ keep_tree-returns t c =
 pub keep_trees-keep_tree-next-requires : goal.keep_trees-keep_tree-next-requires
 keep_trees-keep_tree-next-requires t c =
     let is = c.decreases in
-    let first = first-standing _ _ _ _ _ c.loop-more-test.true c.loop-more.invariant.0 in
-    (omega arith, (first, c.loop-more.invariant.1))
+    let loop = c.loop.invariant in
+    (omega arith, (first-standing _ _ _ _ _ (omega arith) loop.stand, loop.kept))
 
-pub keep_trees-loop-more-preserved : goal.keep_trees-loop-more-preserved
-keep_trees-loop-more-preserved t c =
-    let loop = c.loop-more in
-    let more = c.loop-more-test.true in
+pub keep_trees-loop-preserved : goal.keep_trees-loop-preserved
+keep_trees-loop-preserved t c =
+    let loop = c.loop.invariant in
+    let some : 1 ≤ c.args.many - c.loop.counter = omega arith in
+    let less : c.args.many - (c.loop.counter + 1) ≡ c.args.many - c.loop.counter - 1 = omega arith in
     let one = c.keep_tree-next.ensures in
-    (rest-standing _ _ _ _ _ more loop.invariant.0 _ one.0, one.1, λ r h. loop.invariant.2 r (more-ends _ _ _ _ _ _ more one.0 h))
+    record {
+      stand = rw less (rest-standing _ _ _ _ _ some loop.stand _ one.0);
+      end = λ r h. loop.end r (more-ends _ _ _ _ _ _ some one.0 (rw less at h));
+      kept = one.1;
+    }
 
 pub keep_trees-returns : goal.keep_trees-returns
 keep_trees-returns t c =
-    let loop = c.loop-more in
-    (loop.invariant.2 _ (none-ends _ _ _ _ (omega (arith, c.loop-more-test.false))), loop.invariant.1)
+    let loop = c.loop.invariant in
+    (loop.end _ (none-ends _ _ _ _ (omega arith)), loop.kept)

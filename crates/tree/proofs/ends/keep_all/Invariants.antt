@@ -1,10 +1,6 @@
 -- `tree::keep_all` meets its contract: every entry that is kept is right after each body. Assumes nothing.
-use Prim.Native.Nat.{◌-◌}
 use Rattle.tree.specs.Ends.{EndsKept}
 use Rattle.tree.proofs.ends.keep_all.Given as goal
 
 abbrev pub invariant-loop-v : goal.invariant-loop-v
 invariant-loop-v l = EndsKept l.s l.ends
-
-abbrev pub decreases-loop-v : goal.decreases-loop-v
-decreases-loop-v l = l.n - l.v

@@ -9,7 +9,7 @@ use Rattle.tree.proofs.node.children.Goals as goal
 
 a_case : (c : In-Case) → NodedAs c.args.s.now c.args.at Case
 a_case c =
-    noded-as _ _ c.requires _ _ c.class_of-class.ensures c.in-Case.is
+    noded-as _ _ c.requires _ _ c.class_of.ensures c.in-Case.is
 
 pub overflow_add-at : goal.overflow_add-at
 overflow_add-at c = omega (arith, case-there _ _ (a_case (goal.at.overflow_add-at c).In-Case))

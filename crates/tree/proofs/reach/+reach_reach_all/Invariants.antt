@@ -1,7 +1,7 @@
 -- `tree::reach` and `tree::reach_all` meet their contracts: a tree by its node and then by its children. Assumes nothing.
-use Prim.Native.Nat.{◌+◌, ◌*◌}
+use Rattle.std.specs.Prelude.{Option}
+use Prim.Native.Nat.{ℕ, ◌+◌, ◌-◌, ◌*◌}
 use Rattle.laws.specs.Sheets.{vars_of}
-use Rattle.tree.specs.declared.Bounded.{Bounded}
 use Rattle.tree.specs.Standing.{StandingAll}
 use Rattle.tree.specs.Bounding.{TreesBounded}
 use Rattle.tree.proofs.reach.+reach_reach_all.Given as goal
@@ -13,9 +13,8 @@ abbrev pub decreases-reach_all : goal.decreases-reach_all
 decreases-reach_all l = 2 * l.left + 1
 
 -- what the trees from here on come to is what all of them do
-abbrev pub invariant-reach_all-loop-more : goal.invariant-reach_all-loop-more
-invariant-reach_all-loop-more l =
-    StandingAll (vars_of l.s) l.s l.p l.left l.more × ((r : Bounded) → TreesBounded l.s l.p l.around l.more r → TreesBounded l.s l.at l.around l.count r)
-
-abbrev pub decreases-reach_all-loop-more : goal.decreases-reach_all-loop-more
-decreases-reach_all-loop-more l = l.more
+abbrev pub invariant-reach_all-loop : goal.invariant-reach_all-loop
+invariant-reach_all-loop l = record {
+  stand : StandingAll (vars_of l.s) l.s l.next l.left (l.count - l.counter);
+  decide : (r : Option ℕ) → TreesBounded l.s l.next l.around (l.count - l.counter) r → TreesBounded l.s l.at l.around l.count r;
+}

@@ -1,11 +1,12 @@
 -- `tree::restriction_reach` meets its contract: by the constraints that stand there. Assumes nothing.
-use mathlib.Core.Path.{◌≡◌, sym, ◌∙◌}
-use Prim.Native.Nat.{◌+◌}
+use mathlib.Core.Path.{◌≡◌, refl, sym, ◌∙◌}
+use Prim.Native.Nat.{ℕ, ◌+◌}
 use native.Mathlib.Omega.{arith}
-use mathlib.Core.Bool.{true, false}
+use mathlib.Core.Bool.{Bool, true, false}
+use Rattle.std.specs.Bool.{then_some}
 use lib.IntN.{nat_abs}
 use Rattle.alpha.specs.Field.{field}
-use Rattle.tree.specs.Bounding.{constraints_reach}
+use Rattle.tree.specs.Bounding.{constraints_reach, reached_at}
 use Rattle.tree.proofs.Classes.{restriction-fields}
 use Rattle.tree.proofs.Reaching.{constraints-there, restriction-reaches}
 use Rattle.tree.proofs.reach.restriction_reach.Goals.{After-constraints_within}
@@ -44,10 +45,12 @@ constraints_within-requires c =
     let few = (restriction-fields _ _ c.requires.0).dim in
     (record { few = omega (arith, few); there = rw (many, dim) (constraints-there _ _ c.args.around c.requires.0) }, c.requires.1)
 
-pub returns-then-constraints_within : goal.returns-then-constraints_within
-returns-then-constraints_within c =
-    restriction-reaches _ _ _ c.requires.0 true (found (goal.at.returns-then-constraints_within c).After-constraints_within ∙ c.if-constraints_within.true)
+-- `then_some` answers as the test says
+as_tested : (b : Bool) (n : ℕ) → then_some b n ≡ reached_at b n
+as_tested true n = refl
+as_tested false n = refl
 
-pub returns-else-constraints_within : goal.returns-else-constraints_within
-returns-else-constraints_within c =
-    restriction-reaches _ _ _ c.requires.0 false (found (goal.at.returns-else-constraints_within c).After-constraints_within ∙ c.if-constraints_within.false)
+pub returns : goal.returns
+returns c =
+    let says = restriction-reaches _ _ c.args.around c.requires.0 _ (found (goal.at.returns c).After-constraints_within) in
+    c.then_some.ensures ∙ as_tested c.constraints_within.result c.args.around ∙ says

@@ -18,12 +18,12 @@ natural-requires c = omega (arith, leaf-there _ _ c.requires.1)
 
 pub dimension_of-requires : goal.dimension_of-requires
 dimension_of-requires c =
-    let code = c.leaf_of-kind.ensures ∙ ap leaf_code c.in-Variable.is in
+    let code = c.leaf_of.ensures ∙ ap leaf_code c.in-Variable.is in
     let known = variable-known _ _ c.requires.1.noded code (prepared-sections _ _ c.requires.0).some in
     (c.requires.0, omega (arith, c.natural.ensures))
 
 pub returns-in-Variable : goal.returns-in-Variable
 returns-in-Variable c =
-    let code = c.leaf_of-kind.ensures ∙ ap leaf_code c.in-Variable.is in
+    let code = c.leaf_of.ensures ∙ ap leaf_code c.in-Variable.is in
     let is = c.dimension_of.ensures.0 ∙ ap (dimension (heads_of c.args.s.now)) c.natural.ensures in
     λ n. ap (λ x. eqb x n) is ∙ variable-fits _ _ _ n c.requires.1.noded code

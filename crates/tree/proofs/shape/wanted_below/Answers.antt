@@ -10,7 +10,7 @@ use Rattle.tree.proofs.shape.wanted_below.Goals as goal
 
 a-dependence : (c : In-Dependence) → NodedAs c.args.s.now c.args.at Dependence
 a-dependence c =
-    noded-as _ _ c.requires.0 _ _ c.class_of-class.ensures c.in-Dependence.is
+    noded-as _ _ c.requires.0 _ _ c.class_of.ensures c.in-Dependence.is
 
 pub overflow_add-at : goal.overflow_add-at
 overflow_add-at c =

@@ -1,6 +1,5 @@
 -- `tree::kind_of` meets its contract: the field says the kind. Assumes nothing.
 use mathlib.Core.Path.{sym, ap, ◌∙◌}
-use native.Mathlib.Omega.{arith}
 use Rattle.alpha.specs.Read.{kind_of}
 use Rattle.tree.proofs.Heading.{prepared-record}
 use Rattle.tree.proofs.variable.kind_of.Goals as goal
@@ -9,4 +8,4 @@ pub returns : goal.returns
 returns c =
     let h = prepared-record _ _ c.requires.0 _ c.requires.1 in
     let is = c.record_field.ensures in
-    (h.kind-is ∙ ap kind_of (sym is), omega (arith, h.kind-high))
+    h.kind-is ∙ ap kind_of (sym is) ∙ sym c.of.ensures

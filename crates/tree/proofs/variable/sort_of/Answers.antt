@@ -1,6 +1,5 @@
 -- `tree::sort_of` meets its contract: the field says the type. Assumes nothing.
 use mathlib.Core.Path.{sym, ap, ◌∙◌}
-use native.Mathlib.Omega.{arith}
 use Rattle.alpha.specs.Read.{sort_of}
 use Rattle.tree.proofs.Heading.{prepared-record}
 use Rattle.tree.proofs.variable.sort_of.Goals as goal
@@ -9,4 +8,4 @@ pub returns : goal.returns
 returns c =
     let h = prepared-record _ _ c.requires.0 _ c.requires.1 in
     let is = c.record_field.ensures in
-    (h.sort-is ∙ ap sort_of (sym is), omega (arith, h.sort-high))
+    h.sort-is ∙ ap sort_of (sym is) ∙ sym c.of.ensures
