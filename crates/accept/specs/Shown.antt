@@ -7,9 +7,9 @@ use Rattle.alpha.specs.Ask as Ask
 use Rattle.alpha.specs.Ask.{no_part}
 
 -- r is that variable, where the table has so many
-abbrev pub HasVariable : Table → ℕ → Option ℕ → Type 0
-HasVariable tab v (Some r) = (r ≡ v) × (v < tab.variables)
-HasVariable tab v None = tab.variables ≤ v
+abbrev pub IsKnown : Table → ℕ → Option ℕ → Type 0
+IsKnown tab v (Some r) = (r ≡ v) × (v < tab.variables)
+IsKnown tab v None = tab.variables ≤ v
 
 -- the part of the sheet that a range is
 abbrev pub shown : Option (Range ℕ) → Ask.Part

@@ -10,7 +10,7 @@ ghost use Rattle.laws.specs.Sheets.{sheet_of};
 ghost use Rattle.sheet.specs.Table.{read_answer};
 ghost use Rattle.tree.specs.Formed.{Formed};
 ghost use Rattle.accept.specs.Admits.{Begins, Admits, Accepts};
-ghost use Rattle.accept.specs.Shown.{HasVariable, IsPart, asked};
+ghost use Rattle.accept.specs.Shown.{IsKnown, IsPart, asked};
 
 use alpha::{Kind, Refusal};
 use sheet::table::Table;
@@ -65,13 +65,9 @@ pub fn check(s: &[u8]) -> Result<usize, Refusal>
 
 // The variable of that number, where the sheet has one.
 fn known(tab: &Table, variable: u64) -> Option<usize>
-    ensures { HasVariable tab.now variable result }
+    ensures { IsKnown tab.now variable result }
 {
-    if variable < tab.variable_count() as u64 {
-        Some(variable as usize)
-    } else {
-        None
-    }
+    (variable < tab.variable_count() as u64).then_some(variable as usize)
 }
 
 // Where the body of a variable of an accepted sheet stands; nowhere for an input or an unknown number.

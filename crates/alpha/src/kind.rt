@@ -1,5 +1,5 @@
-// The kinds, sorts, relations and operators of a sheet, each with the conversion from its number in a field. What a case means is said by
-// specs/Kinds.antt. A number that no case has is the first case's, as in the definitions. Assumes nothing.
+// The kinds, sorts, relations and operators of a sheet, each from its number in a field, which the reader has tested. What a case means is
+// said by specs/Kinds.antt; a number that no case has is the first case's, as in the definitions. Assumes nothing.
 
 ghost use Rattle.std.specs.Prelude.{◌≡◌};
 ghost use Rattle.alpha.specs.Read.{kind_of, sort_of, relation_of, unary_of, binary_of};
@@ -55,11 +55,11 @@ pub enum Binary {
     One,
 }
 
-impl Kind {
-    // The kind with this number.
-    pub fn of(number: usize) -> Kind
-        ensures { kind_meant result ≡ kind_of number }
-    {
+// The kind with this number.
+impl From<usize> for Kind {
+    ghost from_gives = { λ number it. kind_meant it ≡ kind_of number };
+
+    fn from(number: usize) -> Kind {
         match number {
             1 => Kind::Output,
             2 => Kind::Local,
@@ -68,11 +68,11 @@ impl Kind {
     }
 }
 
-impl Sort {
-    // The sort with this number.
-    pub fn of(number: usize) -> Sort
-        ensures { sort_meant result ≡ sort_of number }
-    {
+// The type with this number.
+impl From<usize> for Sort {
+    ghost from_gives = { λ number it. sort_meant it ≡ sort_of number };
+
+    fn from(number: usize) -> Sort {
         match number {
             1 => Sort::Boolean,
             _ => Sort::Integer,
@@ -80,11 +80,11 @@ impl Sort {
     }
 }
 
-impl Relation {
-    // The relation with this number.
-    pub fn of(number: usize) -> Relation
-        ensures { relation_meant result ≡ relation_of number }
-    {
+// The relation with this number.
+impl From<usize> for Relation {
+    ghost from_gives = { λ number it. relation_meant it ≡ relation_of number };
+
+    fn from(number: usize) -> Relation {
         match number {
             1 => Relation::Equal,
             _ => Relation::AtLeast,
@@ -92,11 +92,11 @@ impl Relation {
     }
 }
 
-impl Unary {
-    // The operator with this number.
-    pub fn of(number: usize) -> Unary
-        ensures { unary_meant result ≡ unary_of number }
-    {
+// The unary operator with this number.
+impl From<usize> for Unary {
+    ghost from_gives = { λ number it. unary_meant it ≡ unary_of number };
+
+    fn from(number: usize) -> Unary {
         match number {
             1 => Unary::Complement,
             _ => Unary::Negate,
@@ -104,11 +104,11 @@ impl Unary {
     }
 }
 
-impl Binary {
-    // The operator with this number.
-    pub fn of(number: usize) -> Binary
-        ensures { binary_meant result ≡ binary_of number }
-    {
+// The binary operator with this number.
+impl From<usize> for Binary {
+    ghost from_gives = { λ number it. binary_meant it ≡ binary_of number };
+
+    fn from(number: usize) -> Binary {
         match number {
             1 => Binary::Minus,
             2 => Binary::Times,

@@ -17,6 +17,7 @@ fn read_full<R: Read>(input: &mut R, buf: &mut [u8]) -> io::Result<usize>
     ensures first { IfOk result (λ n. IfSome (R.remaining input.old) (λ bs. take n buf.new ≡ take (length buf.old) bs)) }
 {
     let mut at = 0;
+    // A while: how many reads it takes is not known before.
     while at < buf.len() {
         let n = input.read(&mut buf[at..])?;
         if n == 0 {

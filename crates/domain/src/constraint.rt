@@ -12,7 +12,7 @@ pub fn meets(s: &[u8], at: usize, n: usize, z: [i64; 4]) -> bool
     requires { Testable s.now at n (point_of n z) }
     ensures { result ≡ Affine.meets (constraint_fields n s.now at) (point_of n z) }
 {
-    let relation = Relation::of(natural(s, at));
+    let relation = Relation::from(natural(s, at));
     let row = affine::row_read(s, at + 8, n);
     affine::meets(relation, row, z)
 }

@@ -47,7 +47,7 @@ pub struct Stood {
 }
 
 // What is known of a sheet where its trees are walked at a point: its bytes, the table of its places, and the table of the elements that
-// are inside their declared domain.
+// are inside their declared domain. That the sheet is formed stays a requirement: a ghost field has to be a proposition, and `Formed` holds trees.
 #[derive(Clone, Copy)]
 pub struct Ground<'a> {
     pub sheet: &'a [u8],

@@ -14,7 +14,7 @@ use Rattle.evaluate.specs.Working.{EvaluatesAt}
 use Rattle.evaluate.specs.Evaluating.{Stands, bytes, memo, Same}
 
 pub same_twice : (g h k : Evaluator) → Same g h → Same h k → Same g k
-same_twice g h k S T = record { ground = T.ground ∙ S.ground; memo = T.memo ∙ S.memo }
+same_twice g h k S T = record { ground = T.ground ∙ S.ground; ends = T.ends ∙ S.ends; memo = T.memo ∙ S.memo }
 
 module _ (g h : Evaluator) (S : Same g h) where
   pub on_ground : Stands g → Stands h

@@ -28,9 +28,10 @@ memo g = memo_of g.memo.now
 abbrev pub Stands : Evaluator → Type 0
 Stands g = Formed (bytes g) g.ground.table.now
 
--- the same ground, and the same memo, which may have other entries
+-- the same ground and ends, and the same memo, which may have other entries
 pub record Same (g h : Evaluator) : Type 0 where
   pub ground : h.ground ≡ g.ground
+  pub ends : h.ends ≡ g.ends
   pub memo : h.memo.ghost_name ≡ g.memo.ghost_name
 
 -- the tree at p was worked out at z

@@ -174,7 +174,7 @@ impl Evaluator<'_, '_> {
         let from = node_end(s, at);
         let a = self.expression(from, n, z, depth)?;
         worked(
-            integer::unary(Unary::of(natural(s, at + 8)), a.value),
+            integer::unary(Unary::from(natural(s, at + 8)), a.value),
             a.next,
         )
     }
@@ -192,7 +192,7 @@ impl Evaluator<'_, '_> {
         let a = self.expression(from, n, z, depth)?;
         let b = self.expression(a.next, n, z, depth)?;
         worked(
-            integer::binary(Binary::of(natural(s, at + 8)), a.value, b.value),
+            integer::binary(Binary::from(natural(s, at + 8)), a.value, b.value),
             b.next,
         )
     }

@@ -45,6 +45,7 @@ pub struct Worked {
 }
 
 // The evaluator: the sheet with its tables, the ends that are kept, and the memo, in which each element that is not settled has a body.
+// That the sheet is formed stays a requirement (`Stands`), as it does of the ground.
 #[derive(Drop)]
 pub struct Evaluator<'a, 'm> {
     pub ground: Ground<'a>,

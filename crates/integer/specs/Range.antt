@@ -1,16 +1,12 @@
 -- The 32-bit range, as a bound that `omega` reads, and what a checked operator answers. Assumes nothing.
-use Rattle.std.specs.Prelude.{◌<◌, ◌^◌, ◌≡◌, ℤ}
+use Rattle.std.specs.Prelude.{◌<◌, ◌≡◌, ℤ}
 use Rattle.std.specs.Int.Signed.{mag}
 use Rattle.alpha.specs.declared.Outcome.{Outcome}
 use Rattle.alpha.specs.declared.Outcome.TheVariants.{Outside, Value, DivZero, Overflow, Loop}
 use Rattle.alpha.specs.Outcome as Outcomes
 use Rattle.alpha.specs.Verdict.{outcome_of}
 
--- from -2^63 to 2^63 - 1, which every `Int` is: `mag` is n both for n and for -(n + 1)
-abbrev pub In64 : ℤ → Type 0
-In64 x = mag x < 2 ^ 63
-
--- from -2147483648 to 2147483647
+-- from -2147483648 to 2147483647: `mag` is n both for n and for -(n + 1)
 abbrev pub In32 : ℤ → Type 0
 In32 x = mag x < 2147483648
 

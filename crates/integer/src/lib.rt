@@ -8,7 +8,8 @@ ghost use Rattle.alpha.specs.Field.{field, num, nat};
 ghost use Rattle.alpha.specs.Kinds.{unary_meant, binary_meant};
 ghost use Rattle.alpha.specs.Outcome as Outcomes;
 ghost use Rattle.laws.specs.Coded.{decoded};
-ghost use Rattle.integer.specs.Range.{In32, Says};
+ghost use Rattle.alpha.specs.Verdict.{outcome_of};
+ghost use Rattle.integer.specs.Range.{In32, Small, Says};
 
 use alpha::{Binary, Outcome, Unary};
 
@@ -59,8 +60,8 @@ pub fn put_nat(b: &mut [u8], at: usize, n: usize)
 
 // The outcome with a code and a value: every code past 3 is LOOP.
 pub fn decoded(code: u8, x: i64) -> Outcome
-    requires { In32 x }
-    ensures { Says result (decoded code x) }
+    ensures is { outcome_of result ≡ decoded code x }
+    ensures small { In32 x → Small result }
 {
     match code {
         0 => Outcome::Outside,
@@ -74,7 +75,7 @@ pub fn decoded(code: u8, x: i64) -> Outcome
 // ---- the operators of document 01
 
 // The exact result, or OVERFLOW where it leaves the 32-bit range.
-fn exact(x: i64) -> Outcome
+pub fn exact(x: i64) -> Outcome
     ensures { Says result (Outcomes.exact x) }
 {
     if i32::try_from(x).is_ok() {
@@ -85,7 +86,7 @@ fn exact(x: i64) -> Outcome
 }
 
 // False is 0 and true 1.
-fn truth(t: bool) -> Outcome
+pub fn truth(t: bool) -> Outcome
     ensures { Says result (Outcomes.truth t) }
 {
     Outcome::Value(i64::from(t))
@@ -126,8 +127,8 @@ pub fn binary(op: Binary, a: i64, b: i64) -> Outcome
         Binary::Quotient | Binary::Remainder if b == 0 => Outcome::DivZero,
         Binary::Quotient => exact(a / b),
         Binary::Remainder => exact(a % b),
-        Binary::Least => choose(a <= b, a, b),
-        Binary::Most => choose(a <= b, b, a),
+        Binary::Least => Outcome::Value(a.min(b)),
+        Binary::Most => Outcome::Value(a.max(b)),
         Binary::Same => truth(a == b),
         Binary::Differ | Binary::One => truth(a != b),
         Binary::Under => truth(a < b),

@@ -58,7 +58,7 @@ pub enum Mode {
 }
 
 // A walk along a branch: over which sheet, for which half of the branch, and what becomes of its bytes. A place and how many nodes stand from
-// it on at most stay two numbers, as in the walks of crate tree: as a pair they would be made anew at each call.
+// it on at most stay two numbers.
 #[derive(Clone, Copy)]
 pub struct Walk<'a> {
     pub sheet: &'a [u8],

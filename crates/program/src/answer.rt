@@ -16,10 +16,10 @@ fn reported(input: &[u8], w: &mut Writer<'_>) -> Result<(), Refusal>
 {
     let frame = frame_of(input)?;
     let mut list = [0i32; 4097];
-    let ins = values(frame.values, &mut list);
+    let many = values(frame.values, &mut list);
     let mut codes = [0u8; 4096];
     let mut numbers = [0i32; 4096];
-    let total = run::run(frame.sheet, ins, &mut codes, &mut numbers)?;
+    let total = run::run(frame.sheet, &list[..many], &mut codes, &mut numbers)?;
     report(frame.sheet, total, &codes, &numbers, w);
     Ok(())
 }

@@ -1,6 +1,6 @@
 // The program's input: the sheet's length, the sheet, then 4-byte values. Assumes nothing.
-ghost use Rattle.std.specs.Prelude.{◌≡◌, ◌≤◌, length};
-ghost use Rattle.program.specs.Given.{Frames, Lists};
+ghost use Rattle.std.specs.Prelude.{◌≡◌, ◌≤◌, length, take, IfOk};
+ghost use Rattle.program.specs.Given.{Frames, PartsOf, Lists};
 
 use alpha::Refusal;
 
@@ -12,7 +12,8 @@ pub struct Frame<'a> {
 }
 
 pub fn frame_of(input: &[u8]) -> Result<Frame<'_>, Refusal>
-    ensures { Frames input.now result }
+    ensures answer { Frames input.now result }
+    ensures parts { IfOk result (PartsOf input.now) }
 {
     let (field, rest) = input.split_first_chunk().ok_or(Refusal::Cut(0))?;
     let n = i64::from_le_bytes(*field);
@@ -28,15 +29,17 @@ pub fn frame_of(input: &[u8]) -> Result<Frame<'_>, Refusal>
 
 // The values as a list; where the last one is broken, or there are more than any sheet asks for, some list of 4,097 entries, which no
 // sheet asks for either.
-pub fn values<'a>(rest: &[u8], list: &'a mut [i32; 4097]) -> &'a [i32]
-    ensures { Lists rest.now result.now }
+// A length and not the part of `ins` itself is answered, since the promise speaks of what is lent.
+pub fn values(rest: &[u8], ins: &mut [i32]) -> usize
+    requires { 4097 ≤ length ins.old }
+    ensures { Lists rest.now (take result ins.new) × (result ≤ 4097) }
 {
     let (words, broken) = rest.as_chunks();
     if 4096 < words.len() || !broken.is_empty() {
-        return list;
+        return 4097;
     }
     for (i, word) in words.iter().enumerate() {
-        list[i] = i32::from_le_bytes(*word);
+        ins[i] = i32::from_le_bytes(*word);
     }
-    &list[..words.len()]
+    words.len()
 }

@@ -18,7 +18,7 @@ use Rattle.evaluate.specs.Working.{element_at}
 -- what is stored of element m, by whether it lies in its declared domain and whether it is an input's, whose entry of the list is x: any
 -- other has to be worked out
 abbrev pub first_answer : Bool → Bool → ℤ → ℕ → Work
-first_answer domain input x m = ifb domain (λ _. ifb input (λ _. Ok (Value (x))) (λ _. Err (record { element = m }))) (λ _. Ok Outside)
+first_answer domain input x m = ifb domain (λ _. ifb input (λ _. Ok (Value x)) (λ _. Err (record { element = m }))) (λ _. Ok Outside)
 
 -- where an element's entry in the input list stands
 abbrev pub entry_place : Sheet → Element → ℕ

@@ -14,7 +14,8 @@ use evaluate::Awaited;
 use evaluate::memo::note;
 use tree::variable::kind_of;
 
-// Element e, whose entry in the input list stands at i where it is an input's.
+// Element e, whose entry in the input list stands at i where it is an input's. A flag and a place, and no Option of a place: the flag is the
+// variable's, asked once, and the place counts on in any case.
 fn start_element(
     inside: &[bool; 4096],
     ins: &[i32],

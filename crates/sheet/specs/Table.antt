@@ -1,5 +1,5 @@
 -- The table of places that reading leaves for the layers above, and the promise of reading. Assumes nothing.
-use Rattle.std.specs.Prelude.{ℕ, ◌+◌, ◌≤◌, ◌<◌, ◌≡◌, List, length, get_or, set, Result}
+use Rattle.std.specs.Prelude.{ℕ, ◌+◌, ◌≤◌, ◌<◌, ◌≡◌, List, length, get_or, set, replicate, Result}
 use Rattle.alpha.specs.Answer.{Answer, accepted, refused}
 use Rattle.alpha.specs.Sheet.{Raw}
 use Rattle.alpha.specs.Read.{Got, got, bad, read, no_head}
@@ -23,6 +23,18 @@ pub record TableOf (tab : Table) (r : Raw) : Type 0 where
   pub nodes : tab.nodes ≡ r.nodes
   -- the first node stands after the third section's count
   pub first_node : r.first ≡ r.third + 8
+
+-- a table that says nothing yet
+abbrev pub blank : Table
+blank = record {
+  records = replicate 32 0;
+  firsts = replicate 33 0;
+  variables = 0;
+  second = 0;
+  third = 0;
+  nodes = 0;
+  bodies = replicate 33 0;
+}
 
 -- a table with the numbers of the sections: the variables, the places of the second and third, the nodes
 abbrev pub noted : Table → ℕ → ℕ → ℕ → ℕ → Table

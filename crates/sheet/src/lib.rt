@@ -23,7 +23,7 @@ mod field;
 mod name;
 mod node;
 pub mod range;
-mod sequence;
+pub mod sequence;
 pub mod table;
 mod variable;
 

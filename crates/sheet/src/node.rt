@@ -37,8 +37,8 @@ fn constant(s: &[u8], at: usize) -> Result<usize, Refusal>
     number_field(s, at, -2147483648, 2147483647)
 }
 
-// The fields of a node by its code, where there are so many variables. The codes are the sheet's own numbers, and an enum of them would
-// be matched nowhere else.
+// The fields of a node by its code, where there are so many variables. The codes are the sheet's own numbers, in the definition's
+// order: an enum of them would be made and matched here alone.
 fn node_fields(s: &[u8], at: usize, code: usize, variables: usize) -> Result<usize, Refusal>
     requires { (code ≤ 8) × VariableCount variables }
     ensures { told result ≡ place_after (get_or (Read.nodes variables) code (Read.pure n_if) s.now at) }

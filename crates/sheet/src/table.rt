@@ -20,10 +20,12 @@ pub struct Table {
 }
 
 impl Table {
-    ghost use Rattle.sheet.specs.Table.{noted, with_body};
+    ghost use Rattle.sheet.specs.Table.{blank, noted, with_body};
 
-    // A table to read into.
-    pub fn new() -> Table {
+    // A table to read into, which says nothing yet.
+    pub fn new() -> Table
+        ensures { result ≡ blank }
+    {
         Table {
             records: [0; 32],
             firsts: [0; 33],

@@ -41,7 +41,7 @@ impl Report<'_> {
     }
 
     // The whole line, with the outcome that the tables have: 15 bytes more at most.
-    fn line(&self, v: usize, i: usize, w: &mut Writer<'_>)
+    pub fn line(&self, v: usize, i: usize, w: &mut Writer<'_>)
         requires accepted { Accepted self.now }
         requires point { PointOf self.now.sheet.now v i }
         requires room { Room 51 w.old }

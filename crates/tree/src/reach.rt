@@ -25,6 +25,7 @@ fn constraints_within(s: &[u8], at: usize, count: usize, n: usize, around: u64) 
     ensures { result ≡ constraints_reach around n count s.now at }
 {
     let step = 16 + 8 * n;
+    // A loop: of `all` it stayed open, when it was tried, that its closure may be called at each number.
     for i in 0..count {
         if !row_within(s, at + i * step + 8, n, around) {
             return false;

@@ -97,11 +97,11 @@ fn operator_type(s: &[u8], tab: &Table, at: usize, left: usize) -> Option<Typed>
     match operator_of(s, at) {
         OperatorKind::Unary => {
             let t = type_of(s, tab, next, left - 1)?;
-            unary_type(Unary::of(natural(s, at + 8)), t)
+            unary_type(Unary::from(natural(s, at + 8)), t)
         }
         OperatorKind::Binary => {
             let t = type_all(s, tab, next, left - 1, 2)?;
-            binary_type(Binary::of(natural(s, at + 8)), t)
+            binary_type(Binary::from(natural(s, at + 8)), t)
         }
         OperatorKind::If => type_if(s, tab, next, left - 1),
     }

@@ -24,7 +24,7 @@ pub fn kind_of(s: &[u8], tab: &Table, v: usize) -> Kind
     requires { Prepared s.now tab.now × (v < vars_of s.now) }
     ensures { (get_or (heads_of s.now) v no_head).kind ≡ kind_meant result }
 {
-    Kind::of(record_field(s, tab, v, 8))
+    Kind::from(record_field(s, tab, v, 8))
 }
 
 // Its type.
@@ -32,7 +32,7 @@ pub fn sort_of(s: &[u8], tab: &Table, v: usize) -> Sort
     requires { Prepared s.now tab.now × (v < vars_of s.now) }
     ensures { (get_or (heads_of s.now) v no_head).sort ≡ sort_meant result }
 {
-    Sort::of(record_field(s, tab, v, 16))
+    Sort::from(record_field(s, tab, v, 16))
 }
 
 // Its dimension.

@@ -237,7 +237,7 @@ one-returns-clause-done t c =
     let next = c.node_end-from.ensures in
     let small = small-value _ _ _ _ (only-operand _ _ _ _ _ next node) _ _ _ c.in_ok-a.ensures.done in
     let says = rw (small-same c.in_ok-a.a.value small) at c.unary.ensures in
-    one_way _ _ c.args.z node.code_is _ next _ _ _ c.in_ok-a.ensures.done _ _ (c.of.ensures ∙ ap unary_of c.natural.ensures) says _ c.worked.ensures
+    one_way _ _ c.args.z node.code_is _ next _ _ _ c.in_ok-a.ensures.done _ _ (c.from.ensures ∙ ap unary_of c.natural.ensures) says _ c.worked.ensures
 
 pub one-returns-in_err-a-clause-done : goal.one-returns-in_err-a-clause-done
 one-returns-in_err-a-clause-done t c =
@@ -417,7 +417,7 @@ two-returns-clause-done t c =
     let same = small-same c.in_ok-a.a.value (small-value _ _ _ _ left _ _ _ a.done) in
     let too = small-same c.in_ok-b.b.value (small-value _ _ _ _ right _ _ _ b) in
     let says = rw (same, too) at c.binary.ensures in
-    two-way _ _ c.args.z node.code_is _ next _ _ _ a.done _ _ b _ _ (c.of.ensures ∙ ap binary_of c.natural.ensures) says _ c.worked.ensures
+    two-way _ _ c.args.z node.code_is _ next _ _ _ a.done _ _ b _ _ (c.from.ensures ∙ ap binary_of c.natural.ensures) says _ c.worked.ensures
 
 pub two-returns-in_err-a-clause-done : goal.two-returns-in_err-a-clause-done
 two-returns-in_err-a-clause-done t c =

@@ -9,6 +9,7 @@ use Rattle.evaluate.specs.Memo.{busy, noted}
 use Rattle.evaluate.specs.Evaluating.{sheet, memo}
 use Rattle.evaluate.proofs.Stacks.{Going, going-first, going_on, going-last}
 use Rattle.evaluate.proofs.Evaluator.settle_deep.Goals.{After-loop-stack, After-push}
+use Rattle.evaluate.proofs.Grounded.{same_twice}
 use Rattle.evaluate.proofs.Evaluator.settle_deep.Goals as goal
 
 -- the element was put on an empty stack
@@ -38,7 +39,7 @@ push-requires c = (omega arith, omega (arith, c.requires.1.alone.element, c.args
 
 pub loop-stack-init : goal.loop-stack-init
 loop-stack-init c =
-    record { same = record { ground = refl; memo = refl }; going = rw c.mark.ensures (first (goal.at.loop-stack-init c).After-push) }
+    record { same = record { ground = refl; ends = refl; memo = refl }; going = rw c.mark.ensures (first (goal.at.loop-stack-init c).After-push) }
 
 pub turn-requires : goal.turn-requires
 turn-requires c =
@@ -50,7 +51,7 @@ loop-stack-preserved c =
     let so_far = c.loop-stack.invariant in
     let turned = rw so_far.same.ground at c.turn.ensures.turned in
     record {
-      same = record { ground = c.turn.ensures.same.ground ∙ so_far.same.ground; memo = c.turn.ensures.same.memo ∙ so_far.same.memo };
+      same = same_twice _ _ _ so_far.same c.turn.ensures.same;
       going = going_on _ _ _ _ _ _ _ _ _ so_far.going turned;
     }
 

@@ -14,6 +14,7 @@ use Rattle.evaluate.proofs.Entries.{value-small}
 use Rattle.evaluate.specs.Evaluating.{bytes, sheet}
 use Rattle.run.proofs.Tabling.{kept32, fills-next}
 use Rattle.run.proofs.fill.fill.Goals.{After-first_element-first, In-loop-i, Start}
+use Rattle.evaluate.proofs.Grounded.{same_twice}
 use Rattle.run.proofs.fill.fill.Goals as goal
 
 -- the variable
@@ -60,7 +61,7 @@ loop-i-preserved c =
     let small = value-small _ settled.says.small in
     let value = kept32 _ _ small (small-same c.value.result (rw c.value.ensures small) ∙ c.value.ensures) in
     record {
-      same = record { ground = c.settle-o.ensures.same.ground ∙ so_far.same.ground; memo = c.settle-o.ensures.same.memo ∙ so_far.same.memo };
+      same = same_twice _ _ _ so_far.same c.settle-o.ensures.same;
       filled =
           fills-next _ _ _ _ _ _ _ _ so_far.filled (many way.In-loop-i) (rw first at (number-low way.In-loop-i first)) _ settled _ _
           (ap (λ n. set c.loop-i.codes c.loop-i.i n) c.code.ensures) (ap (λ n. set c.loop-i.values c.loop-i.i n) value);

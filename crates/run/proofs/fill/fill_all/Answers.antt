@@ -14,6 +14,7 @@ use Rattle.laws.proofs.Elements.{before-fits, before-suc}
 use Rattle.domain.proofs.Records.{VariableLaid, laid-variable}
 use Rattle.run.proofs.Tabling.{part-long, advances-on, fills-on, fills-at}
 use Rattle.run.proofs.fill.fill_all.Goals.{After-first_element-from, After-first_element-to, After-variable_count-n, In-loop-v}
+use Rattle.evaluate.proofs.Grounded.{same_twice}
 use Rattle.run.proofs.fill.fill_all.Goals as goal
 
 -- the table says how many variables the sheet has
@@ -167,7 +168,7 @@ loop-v-preserved c =
     fills-on (sheet c.args.evaluator.now) c.loop-v.v _ _ from (to_is way.After-first_element-to l) _ _ _ so_far.advances _ _ _ _ _ _ so_far.filled F
     (omega (arith, (room way.After-first_element-to l).0)) (omega (arith, (room way.After-first_element-to l).1)) in
     record {
-      same = record { ground = c.fill.ensures.same.ground ∙ so_far.same.ground; memo = c.fill.ensures.same.memo ∙ so_far.same.memo };
+      same = same_twice _ _ _ so_far.same c.fill.ensures.same;
       advances = advances-on _ _ _ _ so_far.advances F.advances;
       filled = fills-at _ _ _ _ _ _ _ _ (ends way.After-first_element-to l) next;
     }

@@ -91,13 +91,13 @@ pub operator_type-returns-in_ok-t-in-Unary : goal.operator_type-returns-in_ok-t-
 operator_type-returns-in_ok-t-in-Unary t c =
     let code = c.operator_of.ensures ∙ ap operator_code c.in-Unary.is in
     let says = c.in_ok-t-in-Unary.ensures in
-    unary-typed _ _ _ c.node_end-next.ensures code _ says _ (c.of.ensures ∙ ap unary_of c.natural.ensures) _ c.unary_type.ensures
+    unary-typed _ _ _ c.node_end-next.ensures code _ says _ (c.from.ensures ∙ ap unary_of c.natural.ensures) _ c.unary_type.ensures
 
 pub operator_type-returns-in_ok-t-in-Binary : goal.operator_type-returns-in_ok-t-in-Binary
 operator_type-returns-in_ok-t-in-Binary t c =
     let code = c.operator_of.ensures ∙ ap operator_code c.in-Binary.is in
     let says = c.in_ok-t-in-Binary.ensures in
-    binary-typed _ _ _ c.node_end-next.ensures code _ says _ (c.of-in-Binary.ensures ∙ ap binary_of c.natural-in-Binary.ensures) _ c.binary_type.ensures
+    binary-typed _ _ _ c.node_end-next.ensures code _ says _ (c.from-in-Binary.ensures ∙ ap binary_of c.natural-in-Binary.ensures) _ c.binary_type.ensures
 
 pub operator_type-returns-in-If : goal.operator_type-returns-in-If
 operator_type-returns-in-If t c =

@@ -8,4 +8,4 @@ pub returns : goal.returns
 returns c =
     let h = prepared-record _ _ c.requires.0 _ c.requires.1 in
     let is = c.record_field.ensures in
-    h.sort-is ∙ ap sort_of (sym is) ∙ sym c.of.ensures
+    h.sort-is ∙ ap sort_of (sym is) ∙ sym c.from.ensures

@@ -6,7 +6,7 @@ use lib.ListN.{length, get_or}
 use lib.IntN.{pos}
 use lib.Signed.{mag}
 use mir.Syntax.{w32, w64}
-use Rattle.std.proofs.lemmas.Int.{to_z-of_z}
+use Rattle.std.proofs.lemmas.Int.{to_z-of_z, ints}
 use borrow.Author.Rules.{sfits_of}
 use Rattle.alpha.specs.Kinds.{sort_meant}
 use Rattle.alpha.specs.Holds.{variable}
@@ -46,7 +46,10 @@ outcome-is c number_is =
 
 -- and it is short
 outcome-few : (c : After-sort_of-sort) → length (outcome_text (sort_meant c.sort_of-sort.result) (outcome_of c.decoded-o.result)) ≤ 14
-outcome-few c = outcome-length (sort_meant c.sort_of-sort.result) c.decoded-o.result _ c.decoded-o.ensures
+outcome-few c =
+    let fits : mag (get_or c.args.self.now.values.now (c.first_element.result + c.args.i) (pos 0)) < 2147483648 = omega arith in
+    let small = c.decoded-o.ensures.small (rw (c.from.ensures) (grind (arith, ints, to_z-of_z))) in
+    outcome-length (sort_meant c.sort_of-sort.result) c.decoded-o.result _ (record { is = c.decoded-o.ensures.is; small = small })
 
 pub first_element-requires : goal.first_element-requires
 first_element-requires c = omega (arith, (laid _ _ c.requires.accepted.formed _ c.requires.point.known).low)
