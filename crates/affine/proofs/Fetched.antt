@@ -4,6 +4,8 @@ use mathlib.Core.Path.{◌≡◌, refl, sym, ap, ◌∙◌}
 use mathlib.Core.Logic.{⊎_elim}
 use mathlib.Core.List.{List, [], ◌∷◌}
 use native.Mathlib.Omega.{arith}
+use native.Mathlib.Nat.{suc-mul, mul-le-mul, mul-le-mul_right}
+use lib.ListN.{length}
 use lib.IntN.{ℤ, pos, nat_abs}
 use Rattle.alpha.specs.Field.{field}
 use Rattle.alpha.specs.Sheet as Sheet
@@ -12,11 +14,18 @@ use Rattle.affine.specs.declared.Row.{Row}
 use Rattle.affine.specs.declared.Map.{Map}
 use Rattle.affine.specs.Value.{at, line, row_of, map_of, NeatRow, Neat}
 use Rattle.affine.specs.Reading.{row_fields, rows_fields, map_fields, RowAmong, MapRead, MapThere}
-use Rattle.affine.proofs.Several.{lt-or-le, several-same, below-four, past-four}
+use Rattle.affine.proofs.Several.{lt-or-le, several-same, below-four, past-four, zeros-at}
 use Rattle.affine.proofs.Meaning.{padded-more, row_same, map_same, past-line}
 use Rattle.affine.proofs.Reader.{MapGot, dependence-got}
 
 -- ---- places
+
+-- k rows of n coefficients take few bytes, and row i of them lies among them
+pub span_small : (k n : ℕ) → k ≤ 4 → n ≤ 4 → k * (8 * n + 8) ≤ 160
+span_small k n h l = let s : 8 * n + 8 ≤ 40 = omega arith in omega (arith, mul-le-mul h s)
+
+pub place_inside : (i k n : ℕ) → i < k → i * (8 * n + 8) + (8 * n + 8) ≤ k * (8 * n + 8)
+place_inside i k n h = omega (arith, mul-le-mul_right (8 * n + 8) h, suc-mul i (8 * n + 8))
 
 pub span_same : {n m k l : ℕ} → n ≡ m → k ≡ l → k * (8 * n + 8) ≡ l * (8 * m + 8)
 span_same {n} {m} {k} {l} e h = ap (λ i. i * (8 * n + 8)) h ∙ ap (λ i. l * (8 * i + 8)) e
@@ -40,6 +49,24 @@ module _ (bs : List ℕ) (p n : ℕ) (few : n ≤ 4) (a b c d k : ℤ) where
         row_same (several-same n (at y) (λ i. field bs (p + 8 * i)) (λ i h. (each i (omega arith)).0 h)) ek,
         record { few = few; rest = λ j l. ⊎_elim (λ q. (each j q).1 l) (past j) (lt-or-le j 4) },
       )
+
+-- ---- a row among others
+
+-- a row of zeros
+abbrev zeros_row : Row
+zeros_row = record { coef = pos 0 ∷ pos 0 ∷ pos 0 ∷ pos 0 ∷ []; constant = pos 0 }
+
+module _ {bs : List ℕ} {p i k n : ℕ} where
+  pub row-among : {r : Row} → i < k → row_of n r ≡ row_fields n bs (p + i * (8 * n + 8)) → NeatRow n r → RowAmong bs p i k n r
+  row-among l e neat = record { is = λ h. e; rest = neat.rest; zeros = λ h. absurd (omega arith) }
+
+  pub past-among : k ≤ i → RowAmong bs p i k n zeros_row
+  past-among l =
+      record {
+        is = λ h. absurd (omega arith);
+        rest = λ j h. zeros-at j;
+        zeros = λ h. record { coefs = λ j q. zeros-at j; const = refl };
+      }
 
 -- ---- a map
 
@@ -94,6 +121,11 @@ map-there bs p e =
     let g = dependence-got bs p e in record { cols_few = g.cols_few; rows_few = g.rows_few; inside = rw g.next at g.inside }
 
 module _ (bs : List ℕ) (p n k : ℕ) (wide : n ≡ nat_abs (field bs p)) (high : k ≡ nat_abs (field bs (p + 8))) where
-  -- the map of its rows is its map
+  -- its rows can be read
+  pub rows-there : MapThere bs p → (n ≤ 4) × (k ≤ 4) × (p + 16 + k * (8 * n + 8) ≤ length bs)
+  rows-there t =
+      let low = t.cols_few in let few = t.rows_few in (omega arith, omega arith, omega (arith, span_same wide high, t.inside))
+
+  -- and the map of these is its map
   pub rows-map : (m : Map) → RowsMap bs (p + 16) n k m → MapRead bs p m
   rows-map m e = map_is bs p m e.1 n k e.0 e.3 e.2 wide high

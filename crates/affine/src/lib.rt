@@ -174,14 +174,20 @@ const LIMIT: u64 = 0x100_0000_0000;
 fn sum(s: u64, t: u64) -> Option<u64>
     ensures { Tells result (s + t) }
 {
-    s.checked_add(t).filter(|n| *n <= LIMIT)
+    if LIMIT < s || LIMIT - s < t {
+        return None;
+    }
+    Some(s + t)
 }
 
 // s * t, if it stays within the limit.
 fn product(s: u64, t: u64) -> Option<u64>
     ensures { Tells result (s * t) }
 {
-    s.checked_mul(t).filter(|n| *n <= LIMIT)
+    if 0 < t && LIMIT / t < s {
+        return None;
+    }
+    Some(s * t)
 }
 
 // The sum of the sizes of the coefficients.

@@ -1,11 +1,11 @@
 -- A field is read and stored whole: std's bytes of a number are those of the definitions, and what is copied over a part of a list is
 -- stored there. A word depends on its eight bytes only. Assumes nothing.
-use Prim.Native.Nat.{ℕ, ◌+◌, ◌-◌, ◌≤◌, ◌<◌}
+use Prim.Native.Nat.{ℕ, zero, suc, ◌+◌, ◌-◌, ◌/◌, ◌%◌, ◌≤◌, ◌<◌}
 use mathlib.Core.Path.{◌≡◌, refl, sym, ap, ◌∙◌}
 use mathlib.Core.List.{List, ◌++◌}
 use native.Mathlib.Omega.{arith}
 use lib.IntN.{ℤ, pos, negsuc}
-use lib.ListN.{length, get_or, take, drop}
+use lib.ListN.{length, get_or, set, take, drop}
 use lib.Seq.{sets, sets-eq}
 use mir.Syntax.{w64}
 use mir.Val.{of_z}
@@ -38,6 +38,16 @@ pub put_mid-sets : (a k : ℕ) (xs ys : List ℕ) → length ys ≡ k → a + k 
 put_mid-sets a k xs ys e h =
     let stored = sets-eq ys xs a (rw e h) in
     ap (λ l. take a xs ++ (ys ++ l)) (drop-drop k a xs ∙ ap (λ n. drop (a + n) xs) (sym e)) ∙ sym (append_assoc (take a xs) ys _) ∙ sym stored
+
+-- one byte stored, and the rest to store
+pub sets-bytes_of :
+    (b : List ℕ) (p left n : ℕ) → 0 < left →
+    sets b p (bytes_of left n) ≡ sets (set b p (n % 256)) (p + 1) (bytes_of (left - 1) (n / 256))
+unfolding bytes_of
+sets-bytes_of b p zero n h = absurd (omega arith)
+sets-bytes_of b p (suc k) n h =
+    let e : suc k - 1 ≡ k = omega arith in
+    let q : p + 1 ≡ suc p = omega arith in rw (e, q)
 
 -- the eight bytes of a word, copied over a field
 pub put_field :

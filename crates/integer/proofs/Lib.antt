@@ -4,4 +4,5 @@ pub mod Order
 pub mod Complement
 pub mod Fields
 pub mod Division
+pub mod Operators
 pub mod Machine

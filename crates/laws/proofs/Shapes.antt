@@ -51,6 +51,17 @@ module _ (vars : ℕ) (bs : List ℕ) where
   pub at_code : (e : Expr) (p q : ℕ) → At e vars bs p q → field bs p ≡ pos (code_number e)
   at_code e p q h = (at-node e p q h).code
 
+pub code-high : (e : Expr) → code_number e ≤ 8
+code-high (var v) = omega arith
+code-high (int c) = omega arith
+code-high (boo b) = omega arith
+code-high (un o a) = omega arith
+code-high (bin o a b) = omega arith
+code-high (ite a b c) = omega arith
+code-high (kase es) = omega arith
+code-high (restr d cs a) = omega arith
+code-high (dep f a) = omega arith
+
 -- ---- how far a tree goes: each of its nodes has at least eight bytes, and they are there
 
 pub node_count-pos : (e : Expr) → 1 ≤ node_count e
@@ -261,6 +272,19 @@ module _ (vars : ℕ) (bs : List ℕ) where
 
     pub at-ite : field bs p ≡ pos 5 → IteAt e vars bs p q
     at-ite c = at-coded 5 c
+
+    pub at-kase : field bs p ≡ pos 6 → KaseAt e vars bs p q
+    at-kase c = at-coded 6 c
+
+    pub at-restr : field bs p ≡ pos 7 → RestrAt e vars bs p q
+    at-restr c = at-coded 7 c
+
+    pub at-dep : field bs p ≡ pos 8 → DepAt e vars bs p q
+    at-dep c = at-coded 8 c
+
+-- there is such a variable, where there is any
+pub var-known : {e : Expr} {vars : ℕ} {bs : List ℕ} {p q : ℕ} (h : VarAt e vars bs p q) → 0 < vars → h.number < vars
+var-known h l = omega (arith, h.stands.high)
 
 -- ---- branches
 

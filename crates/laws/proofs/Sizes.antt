@@ -35,3 +35,9 @@ nat_abs-add (negsuc a) (negsuc b) = omega arith
 
 pub nat_abs-sub : (a b : ℤ) → nat_abs (a -ℤ b) ≤ nat_abs a + nat_abs b
 nat_abs-sub a b = let h = nat_abs-add a (neg_ℤ b) in let k = nat_abs-neg b in omega arith
+
+pub nat_abs-quot : (a b : ℤ) → nat_abs (quot_z a b) ≤ nat_abs a
+nat_abs-quot (pos a) (pos b) = div-le_self a b
+nat_abs-quot (pos a) (negsuc b) = let e = nat_abs-neg (pos (a / suc b)) in let h = div-le_self a (suc b) in omega arith
+nat_abs-quot (negsuc a) (pos b) = let e = nat_abs-neg (pos (suc a / b)) in let h = div-le_self (suc a) b in omega arith
+nat_abs-quot (negsuc a) (negsuc b) = div-le_self (suc a) (suc b)

@@ -40,3 +40,7 @@ within-small bs p h x e =
 -- so is its least number
 pub least-small : (bs : List ℕ) (p : ℕ) → Ranges bs p 1 → nat_abs (field bs p) ≤ 32768
 least-small bs p h = let here : p + 16 * 0 ≡ p = omega arith in low-size (field bs p) (rw here at (h.low 0 (omega arith)))
+
+-- the box of a record that stands there
+pub record-boxed : {bs : List ℕ} {p : ℕ} → Recorded bs p → size (box_of bs p) ≤ 4096 → Boxed bs (p + 32) (dimension_at bs p)
+record-boxed h small = record { few = h.small; ranges = h.ranges; small = small }

@@ -118,6 +118,9 @@ module _ {bs : List ℕ} {asked : Option ℕ} {z : List ℤ} {p e i : ℕ} where
   kept_off (suc n) l h d =
       sym (ap (number_from e (box_at bs p (suc n))) (from-next z i n) ∙ step-off bs p e n (at z i) (from z (i + 1) n) d) ∙ h.number
 
+  pub kept-head : (n : ℕ) → 0 < n → Kept bs asked z p e i n → Ranges bs p 1
+  kept-head n l h = ranges-first bs p n l h.ranges
+
   more : (n d : ℕ) → Kept bs asked z p e i (suc n) → digit_in (range_at bs p) (at z i) ≡ Some d →
       Kept bs asked z (p + 16) (e * side (range_at bs p) + d) (i + 1) n
   unfolding box_at
