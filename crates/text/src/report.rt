@@ -94,7 +94,7 @@ impl Report<'_> {
 }
 
 // The line of a refusal: its number and its place, each of at most 20 digits.
-#[tactic(auto, using(crate::proofs::Numbers::nat_text_few))]
+#[tactic(auto, using(crate::proofs::Numbers::few_digits))]
 pub fn refusal(why: Refusal, w: &mut Writer<'_>)
     requires { Room 56 w.old }
     ensures { WroteFew 56 w.old w.new (Program.refusal (number_of why) (place_of why)) }

@@ -15,7 +15,7 @@ use Rattle.text.proofs.report.Report.write.Goals as goal
 total-few : (c : Start) → (c.args.self.now.total ≤ 4096) × (length (nat_text c.args.self.now.total) ≤ 4)
 total-few c =
     let few : c.args.self.now.total ≤ 4096 = omega (arith, c.requires.accepted.counted, laid-total _ _ c.requires.accepted.formed.placed) in
-    (few, nat_text-length c.args.self.now.total 3 (omega arith) (omega arith))
+    (few, nat_text-length c.args.self.now.total 3 (omega arith))
 
 pub natural-requires : goal.natural-requires
 natural-requires c = omega (arith, (total-few (goal.at.natural-requires c).Start).1, c.requires.room)
