@@ -26,7 +26,7 @@ byte-requires c = omega (arith, (total-few (goal.at.byte-requires c).Start).1, c
 pub lines-requires : goal.lines-requires
 lines-requires c =
     let few = total-few (goal.at.lines-requires c).Start in
-    record { accepted = c.requires.accepted; room = omega (arith, few.0, few.1, c.requires.room) }
+    record { formed = c.requires.accepted.formed; room = omega (arith, c.requires.accepted.counted, few.0, few.1, c.requires.room) }
 
 pub returns : goal.returns
 unfolding report_in
@@ -34,4 +34,4 @@ returns c =
     let few = total-few (goal.at.returns c).Start in
     let number = wrote-is c.natural.ensures (ap nat_text c.requires.accepted.counted) in
     let opened = wrote-more (wrote-more c.word.ensures number) c.byte.ensures in
-    record { wrote = wrote-more opened c.lines.ensures.wrote; few = omega (arith, c.lines.ensures.few, few.0, few.1) }
+    record { wrote = wrote-more opened c.lines.ensures.wrote; few = omega (arith, c.requires.accepted.counted, c.lines.ensures.few, few.0, few.1) }
