@@ -115,20 +115,6 @@ nat_text-count n k l h g = omega (arith, digits-many 20 k n l h, nat_text-length
 pub nat_text-some : (n : ℕ) → 0 < length (nat_text n)
 nat_text-some n = digits-some 19 n
 
-pub nat_text-single : (n : ℕ) → n < 18446744073709551616 → length (nat_text n) ≤ 1 → n < 10
-nat_text-single n h f = go (dec_lt n 10)
-  where
-    go : Dec (n < 10) → n < 10
-    go (yes l) = l
-    go (no l) = absurd (omega (arith, f, nat_text-longer n h (omega arith), nat_text-some (n / 10)))
-
-pub nat_text-several : (n : ℕ) → 1 < length (nat_text n) → 10 ≤ n
-nat_text-several n m = go (dec_lt n 10)
-  where
-    go : Dec (n < 10) → 10 ≤ n
-    go (yes l) = absurd (omega (arith, m, ap length (nat_text-one n l)))
-    go (no l) = omega arith
-
 -- ---- signed numbers
 
 pub int_text-natural : (x : ℤ) → non_neg x ≡ true → int_text x ≡ nat_text (nat_abs x)

@@ -87,12 +87,13 @@ sets-apart l i j (x ∷ xs) b h = ap (λ m. sets m (suc i) xs) (set-apart l i j 
 pub record Backward (before now : Writer) (whole left : List ℕ) (p : ℕ) : Type 0 where
   pub is : sets now.out.now now.at left ≡ sets before.out.now before.at whole
   pub place : p ≡ now.at + length left
+  pub fits : p ≤ before.at + length whole
   pub start : now.at ≡ before.at
   pub sized : length now.out.now ≡ length before.out.now
   pub same : now.out.ghost_name ≡ before.out.ghost_name
 
 pub backward_start : (before : Writer) (whole : List ℕ) (p : ℕ) → p ≡ before.at + length whole → Backward before before whole whole p
-backward_start before whole p e = record { is = refl; place = e; start = refl; sized = refl; same = refl }
+backward_start before whole p e = record { is = refl; place = e; fits = omega arith; start = refl; sized = refl; same = refl }
 
 module _ {before now : Writer} {whole left : List ℕ} {p : ℕ} (g : Backward before now whole left p) where
   -- the last byte that is left
@@ -107,6 +108,7 @@ module _ {before now : Writer} {whole left : List ℕ} {p : ℕ} (g : Backward b
             ∙ ap (sets now.out.now now.at) (sym e)
             ∙ g.is;
         place = last ∙ ap (λ k. k + length rest) (sym at);
+        fits = omega (arith, g.fits);
         start = at ∙ g.start;
         sized = ap length is ∙ length-set now.out.now q b ∙ g.sized;
         same = same ∙ g.same;

@@ -19,8 +19,11 @@ impl Writer<'_> {
         ensures { Wrote self.old self.new (nat_text n) }
     {
         let end = self.at + digit_count(n);
+        let mut place = end;
         let mut left = n;
-        for place in (self.at + 1..end).rev() {
+        // A while: what is left says when the first digit is reached.
+        while 10 <= left {
+            place -= 1;
             self.out[place] = b'0' + (left % 10) as u8;
             left /= 10;
         }
