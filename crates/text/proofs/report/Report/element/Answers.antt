@@ -8,7 +8,7 @@ use Rattle.alpha.specs.Program.{spaced}
 use Rattle.laws.specs.Sheets.{sheet_of}
 use Rattle.text.proofs.Writing.{wrote-more, wrote-is}
 use Rattle.text.proofs.Elements.{name-length}
-use Rattle.text.proofs.Variables.{laid, laid-name, laid-point, laid-length}
+use Rattle.text.proofs.Variables.{laid, laid-name, laid-part, laid-length}
 use Rattle.text.proofs.report.Report.element.Goals.{After-dimension_of-n}
 use Rattle.text.proofs.report.Report.element.Goals as goal
 
@@ -19,7 +19,7 @@ point-is c =
     let at = rw c.record_place-place.ensures at c.point-z.ensures in
     let point = c.requires.point in
     let n = c.dimension_of-n.ensures in
-    laid-point _ _ c.requires.formed _ point.known c.args.i point.low _ _ n.0 at (omega (arith, n.1))
+    laid-part _ _ c.requires.formed _ point.known c.args.i point.low _ _ n.0 at (omega (arith, n.1))
 
 pub record_place-place-requires : goal.record_place-place-requires
 record_place-place-requires c = (laid _ _ c.requires.formed _ c.requires.point.known).low
