@@ -9,7 +9,7 @@ use lib.ListN.{length, get_or, take, drop, length-append}
 use lib.Seq.{drop-cons}
 use lib.IntN.{ℤ, pos, nat_abs}
 use lib.Dec.{eqb, ltb}
-use borrow.Author.Tests.{ltb-false}
+use borrow.Author.Tests.{ltb-false, eq-eqb, ne_eqb}
 use Rattle.std.specs.Prelude.{Option, None, Some}
 use Rattle.std.specs.Option.{unwrap_or}
 use Rattle.std.specs.List.{position, position_or_len}
@@ -18,6 +18,8 @@ use Rattle.alpha.specs.Pick.{ifb}
 use Rattle.alpha.specs.Field.{byte, eight}
 use Rattle.alpha.specs.Sheet.{Point}
 use Rattle.alpha.specs.Program.{int_text, trimmed, spaced}
+use Rattle.sheet.specs.Name.{bytes_at}
+use Rattle.sheet.proofs.Names.{bytes-none, bytes-more}
 use Rattle.text.proofs.Numbers.{int_text-length}
 
 -- ---- a name
@@ -44,6 +46,17 @@ found-or bs = go (ltb n (length bs)) refl
 
 pub trimmed-found : (bs : List ℕ) (r : Option ℕ) (n : ℕ) → r ≡ position (λ b. eqb b 0) bs → n ≡ unwrap_or r (length bs) → take n bs ≡ trimmed bs
 trimmed-found bs r n f e = ap (λ k. take k bs) (e ∙ ap (λ o. unwrap_or o (length bs)) f ∙ found-or bs) ∙ trimmed-take bs
+
+-- byte by byte
+module _ (bs : List ℕ) (p n : ℕ) where
+  pub trimmed-none : n ≡ 0 → trimmed (bytes_at bs p n) ≡ []
+  trimmed-none e = ap trimmed (bytes-none bs p n e)
+
+  pub trimmed-stop : 0 < n → byte bs p ≡ 0 → trimmed (bytes_at bs p n) ≡ []
+  trimmed-stop h z = rw (bytes-more bs p n h, eq-eqb (byte bs p) 0 z)
+
+  pub trimmed-more : 0 < n → (byte bs p ≡ 0 → ⊥) → trimmed (bytes_at bs p n) ≡ byte bs p ∷ trimmed (bytes_at bs (p + 1) (n - 1))
+  trimmed-more h z = rw (bytes-more bs p n h, ne_eqb (byte bs p) 0 z)
 
 -- the field at a place, byte by byte
 cut : (bs : List ℕ) (n p q : ℕ) → p < length bs → q ≡ p + 1 → take (suc n) (drop p bs) ≡ byte bs p ∷ take n (drop q bs)
@@ -86,4 +99,4 @@ pub spaced-length : (z : Point) → ((i : ℕ) → nat_abs (get_or z i (pos 0)) 
 spaced-length [] h = omega arith
 spaced-length (x ∷ z) h =
     omega
-    (arith, length-append (32 ∷ int_text x) (spaced z), int_text-length x 4 (omega (arith, h 0)) (omega (arith, h 0)), spaced-length z (λ i. h (suc i)))
+    (arith, length-append (32 ∷ int_text x) (spaced z), int_text-length x 4 (omega (arith, h 0)), spaced-length z (λ i. h (suc i)))

@@ -17,7 +17,7 @@ use Rattle.integer.specs.Range.{In32, Says}
 use Rattle.text.proofs.Numbers.{int_text-length}
 
 value-length : (t : Sort) (x : ℤ) → In32 x → length (value_text t x) ≤ 11
-value-length integer x h = int_text-length x 9 (omega (arith, nat_abs-le x h)) (omega (arith, nat_abs-le x h))
+value-length integer x h = int_text-length x 9 (omega (arith, nat_abs-le x h))
 value-length boolean x h = go (is_zero x)
   where
     go : (b : Bool) → length (ifb b (λ _. false_word) (λ _. true_word)) ≤ 11

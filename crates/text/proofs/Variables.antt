@@ -67,8 +67,13 @@ module _ (bs : List ℕ) (tab : Table) (f : Formed bs tab) (v : ℕ) (lt : v < v
     box = (variable (sheet_of bs) v).head.box
 
     pub laid-point : (n : ℕ) (z : List ℤ) → n ≡ dimension (heads_of bs) v → PointAt bs (get_or tab.records v 0) i z →
+        spaced (point_of n z) ≡ spaced (point_at box i)
+    laid-point n z e at = ap spaced (ap (λ k. point_of k z) e ∙ point_at_lem bs tab v i laid low z at)
+
+    -- the same of the first numbers of an array
+    pub laid-part : (n : ℕ) (z : List ℤ) → n ≡ dimension (heads_of bs) v → PointAt bs (get_or tab.records v 0) i z →
         n ≤ length z → spaced (take n z) ≡ spaced (point_at box i)
-    laid-point n z e p h = ap spaced (sym (several-take n z h) ∙ ap (λ k. point_of k z) e ∙ point_at_lem bs tab v i laid low z p)
+    laid-part n z e at h = ap spaced (sym (several-take n z h)) ∙ laid-point n z e at
 
     pub laid-length : length (spaced (point_at box i)) ≤ 28
     laid-length =

@@ -2,9 +2,11 @@
 ghost use Rattle.std.specs.Prelude.{◌*◌, ◌<◌};
 ghost use Rattle.alpha.specs.Box.{size};
 ghost use Rattle.alpha.specs.Holds.{variable};
+ghost use Rattle.alpha.specs.Check.{total};
 ghost use Rattle.alpha.specs.Verdict.{number_of, place_of};
 ghost use Rattle.alpha.specs.Program as Program;
 ghost use Rattle.laws.specs.Sheets.{vars_of, sheet_of};
+ghost use Rattle.tree.specs.Formed.{Formed};
 ghost use Rattle.domain.specs.Element.{PointOf};
 ghost use Rattle.text.specs.Wrote.{WroteFew, Room};
 ghost use Rattle.text.specs.Reports.{Accepted, text_of_element, text_of_line, text_of_variable, text_of_lines, text_of_report};
@@ -15,7 +17,8 @@ use sheet::table::Table;
 use tree::variable::{dimension_of, sort_of};
 
 // An accepted run: the sheet with its table of places, its element total, and the two tables that the run filled.
-// `Accepted` stands in each contract, and not as a ghost field: antt finds no proof that a formed sheet is a proposition.
+// `Formed` stands in each contract, and not as a ghost field: antt finds no proof that a formed sheet is a proposition. What writes the
+// total requires `Accepted`.
 #[derive(Clone, Copy)]
 pub struct Report<'a> {
     pub sheet: &'a [u8],
@@ -28,7 +31,7 @@ pub struct Report<'a> {
 impl Report<'_> {
     // The name of variable v, and the coordinates of the i-th point of its box: at most 8 bytes and 4 times 7.
     fn element(&self, v: usize, i: usize, w: &mut Writer<'_>)
-        requires accepted { Accepted self.now }
+        requires formed { Formed self.now.sheet.now self.now.tab.now }
         requires point { PointOf self.now.sheet.now v i }
         requires room { Room 36 w.old }
         ensures { WroteFew 36 w.old w.new (text_of_element self.now v i) }
@@ -42,7 +45,7 @@ impl Report<'_> {
 
     // The whole line, with the outcome that the tables have: 15 bytes more at most.
     pub fn line(&self, v: usize, i: usize, w: &mut Writer<'_>)
-        requires accepted { Accepted self.now }
+        requires formed { Formed self.now.sheet.now self.now.tab.now }
         requires point { PointOf self.now.sheet.now v i }
         requires room { Room 51 w.old }
         ensures { WroteFew 51 w.old w.new (text_of_line self.now v i) }
@@ -57,7 +60,7 @@ impl Report<'_> {
 
     // The lines of the elements of variable v, each of at most 51 bytes.
     fn variable_lines(&self, v: usize, w: &mut Writer<'_>)
-        requires accepted { Accepted self.now }
+        requires formed { Formed self.now.sheet.now self.now.tab.now }
         requires known { v < vars_of self.now.sheet.now }
         requires room { Room (51 * size (variable (sheet_of self.now.sheet.now) v).head.box) w.old }
         ensures { WroteFew (51 * size (variable (sheet_of self.now.sheet.now) v).head.box) w.old w.new (text_of_variable self.now v) }
@@ -71,9 +74,9 @@ impl Report<'_> {
 
     // The lines of all elements.
     fn lines(&self, w: &mut Writer<'_>)
-        requires accepted { Accepted self.now }
-        requires room { Room (51 * self.now.total) w.old }
-        ensures { WroteFew (51 * self.now.total) w.old w.new (text_of_lines self.now) }
+        requires formed { Formed self.now.sheet.now self.now.tab.now }
+        requires room { Room (51 * total (sheet_of self.now.sheet.now)) w.old }
+        ensures { WroteFew (51 * total (sheet_of self.now.sheet.now)) w.old w.new (text_of_lines self.now) }
     {
         for v in 0..self.tab.variable_count() {
             self.variable_lines(v, w);
@@ -94,7 +97,7 @@ impl Report<'_> {
 }
 
 // The line of a refusal: its number and its place, each of at most 20 digits.
-#[tactic(auto, using(crate::proofs::Numbers::nat_text_few))]
+#[tactic(auto, using(crate::proofs::Numbers::few_digits))]
 pub fn refusal(why: Refusal, w: &mut Writer<'_>)
     requires { Room 56 w.old }
     ensures { WroteFew 56 w.old w.new (Program.refusal (number_of why) (place_of why)) }

@@ -5,8 +5,8 @@ ghost use Rattle.text.specs.Wrote.{Wrote, Room};
 // What is written stands before `at`.
 #[derive(Drop)]
 pub struct Writer<'a> {
-    out: &'a mut [u8],
-    at: usize,
+    pub(crate) out: &'a mut [u8],
+    pub(crate) at: usize,
 }
 
 impl<'a> Writer<'a> {

@@ -23,12 +23,12 @@ use Rattle.text.proofs.report.Report.line.Goals as goal
 
 -- the element's number has an entry in the tables
 number-low : (c : After-first_element) → c.first_element.result + c.args.i < 4096
-number-low c = rw c.first_element.ensures (laid-number _ _ c.requires.accepted.formed _ c.requires.point.known c.args.i c.requires.point.low)
+number-low c = rw c.first_element.ensures (laid-number _ _ c.requires.formed _ c.requires.point.known c.args.i c.requires.point.low)
 
 -- its number is that of the definition
 number_is : (c : After-first_element) → c.first_element.result + c.args.i ≡ before (sheet_of c.args.self.now.sheet.now) c.args.v + c.args.i
 number_is c =
-    ap (λ n. n + c.args.i) (c.first_element.ensures ∙ (laid _ _ c.requires.accepted.formed _ c.requires.point.known).first_is)
+    ap (λ n. n + c.args.i) (c.first_element.ensures ∙ (laid _ _ c.requires.formed _ c.requires.point.known).first_is)
 
 -- the outcome's text is that of the definition
 outcome-is : (c : After-sort_of-sort) →
@@ -38,7 +38,7 @@ outcome-is : (c : After-sort_of-sort) →
     (outcome_in c.args.self.now.codes.now c.args.self.now.values.now (before (sheet_of c.args.self.now.sheet.now) c.args.v + c.args.i))
 outcome-is c number_is =
     let r = c.args.self.now in
-    let sort = laid-sort r.sheet.now _ c.requires.accepted.formed c.args.v c.requires.point.known c.sort_of-sort.result c.sort_of-sort.ensures in
+    let sort = laid-sort r.sheet.now _ c.requires.formed c.args.v c.requires.point.known c.sort_of-sort.result c.sort_of-sort.ensures in
     let fits : mag (get_or r.values.now (c.first_element.result + c.args.i) (pos 0)) < 2147483648 = omega arith in
     let wide : mag (get_or r.values.now (c.first_element.result + c.args.i) (pos 0)) < 2 ^ 63 = omega arith in
     let x = get_or r.values.now (c.first_element.result + c.args.i) (pos 0) in
@@ -52,7 +52,7 @@ outcome-few c =
     outcome-length (sort_meant c.sort_of-sort.result) c.decoded-o.result _ (record { is = c.decoded-o.ensures.is; small = small })
 
 pub first_element-requires : goal.first_element-requires
-first_element-requires c = omega (arith, (laid _ _ c.requires.accepted.formed _ c.requires.point.known).low)
+first_element-requires c = omega (arith, (laid _ _ c.requires.formed _ c.requires.point.known).low)
 
 pub overflow_add-n : goal.overflow_add-n
 overflow_add-n c = omega (arith, number-low (goal.at.overflow_add-n c).After-first_element)

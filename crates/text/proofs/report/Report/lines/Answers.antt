@@ -14,7 +14,7 @@ use Rattle.text.proofs.report.Report.lines.Goals as goal
 -- the table says how many variables the sheet has
 count-is : (c : After-variable_count-v-end) → c.variable_count-v-end.result ≡ length (sheet_of c.args.self.now.sheet.now)
 count-is c =
-    let placed = c.requires.accepted.formed.placed in
+    let placed = c.requires.formed.placed in
     c.variable_count-v-end.ensures ∙ placed.prepared.table.variables ∙ sym placed.many
 
 pub variable_lines-requires : goal.variable_lines-requires
@@ -24,9 +24,9 @@ variable_lines-requires c =
     let many = count-is (goal.at.variable_lines-requires c).After-variable_count-v-end in
     let fits = before-fits s l.v (omega (arith, many, c.loop-v-test.true)) in
     record {
-      accepted = c.requires.accepted;
-      known = omega (arith, many, c.requires.accepted.formed.placed.many, c.loop-v-test.true);
-      room = omega (arith, l.invariant.going.sized, l.invariant.few, fits, c.requires.room, c.requires.accepted.counted);
+      formed = c.requires.formed;
+      known = omega (arith, many, c.requires.formed.placed.many, c.loop-v-test.true);
+      room = omega (arith, l.invariant.going.sized, l.invariant.few, fits, c.requires.room);
     }
 
 pub loop-v-init : goal.loop-v-init
@@ -54,4 +54,4 @@ returns c =
     omega (arith, count-is (goal.at.returns c).After-variable_count-v-end, c.loop-v-test.false, l.auto.v-end) in
     let none = variables-end (sheet_of r.sheet.now) r.codes.now r.values.now l.v (omega (arith, all)) in
     let total = ap (before (sheet_of r.sheet.now)) (sym all) ∙ before-all (sheet_of r.sheet.now) in
-    record { wrote = going_end l.invariant.going none; few = omega (arith, l.invariant.few, total, c.requires.accepted.counted) }
+    record { wrote = going_end l.invariant.going none; few = omega (arith, l.invariant.few, total) }

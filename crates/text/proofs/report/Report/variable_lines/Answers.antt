@@ -15,21 +15,21 @@ use Rattle.text.proofs.report.Report.variable_lines.Goals as goal
 size_is : (c : After-first_element-next) → c.first_element-next.result - c.first_element-first.result
     ≡ Box.size (variable (sheet_of c.args.self.now.sheet.now) c.args.v).head.box
 size_is c =
-    let l = laid _ _ c.requires.accepted.formed _ c.requires.known in
+    let l = laid _ _ c.requires.formed _ c.requires.known in
     omega (arith, l.first_is, l.last-is, c.first_element-first.ensures, c.first_element-next.ensures)
 
 pub first_element-first-requires : goal.first_element-first-requires
-first_element-first-requires c = omega (arith, (laid _ _ c.requires.accepted.formed _ c.requires.known).low)
+first_element-first-requires c = omega (arith, (laid _ _ c.requires.formed _ c.requires.known).low)
 
 pub overflow_add-v : goal.overflow_add-v
-overflow_add-v c = omega (arith, (laid _ _ c.requires.accepted.formed _ c.requires.known).low)
+overflow_add-v c = omega (arith, (laid _ _ c.requires.formed _ c.requires.known).low)
 
 pub first_element-next-requires : goal.first_element-next-requires
-first_element-next-requires c = omega (arith, (laid _ _ c.requires.accepted.formed _ c.requires.known).low)
+first_element-next-requires c = omega (arith, (laid _ _ c.requires.formed _ c.requires.known).low)
 
 pub overflow_sub-i-end : goal.overflow_sub-i-end
 overflow_sub-i-end c =
-    let l = laid _ _ c.requires.accepted.formed _ c.requires.known in
+    let l = laid _ _ c.requires.formed _ c.requires.known in
     omega (arith, l.first_is, l.last-is, c.first_element-first.ensures, c.first_element-next.ensures)
 
 pub loop-i-init : goal.loop-i-init
@@ -40,7 +40,7 @@ line-requires c =
     let l = c.loop-i in
     let many = size_is (goal.at.line-requires c).After-first_element-next in
     record {
-      accepted = c.requires.accepted;
+      formed = c.requires.formed;
       point = record { known = c.requires.known; low = omega (arith, many) };
       room = omega (arith, l.invariant.going.sized, l.invariant.few, many, c.loop-i-test.true, c.requires.room);
     }

@@ -15,7 +15,7 @@ use Rattle.text.proofs.report.Report.write.Goals as goal
 total-few : (c : Start) → (c.args.self.now.total ≤ 4096) × (length (nat_text c.args.self.now.total) ≤ 4)
 total-few c =
     let few : c.args.self.now.total ≤ 4096 = omega (arith, c.requires.accepted.counted, laid-total _ _ c.requires.accepted.formed.placed) in
-    (few, nat_text-length c.args.self.now.total 3 (omega arith) (omega arith))
+    (few, nat_text-length c.args.self.now.total 3 (omega arith))
 
 pub natural-requires : goal.natural-requires
 natural-requires c = omega (arith, (total-few (goal.at.natural-requires c).Start).1, c.requires.room)
@@ -26,7 +26,7 @@ byte-requires c = omega (arith, (total-few (goal.at.byte-requires c).Start).1, c
 pub lines-requires : goal.lines-requires
 lines-requires c =
     let few = total-few (goal.at.lines-requires c).Start in
-    record { accepted = c.requires.accepted; room = omega (arith, few.0, few.1, c.requires.room) }
+    record { formed = c.requires.accepted.formed; room = omega (arith, c.requires.accepted.counted, few.0, few.1, c.requires.room) }
 
 pub returns : goal.returns
 unfolding report_in
@@ -34,4 +34,4 @@ returns c =
     let few = total-few (goal.at.returns c).Start in
     let number = wrote-is c.natural.ensures (ap nat_text c.requires.accepted.counted) in
     let opened = wrote-more (wrote-more c.word.ensures number) c.byte.ensures in
-    record { wrote = wrote-more opened c.lines.ensures.wrote; few = omega (arith, c.lines.ensures.few, few.0, few.1) }
+    record { wrote = wrote-more opened c.lines.ensures.wrote; few = omega (arith, c.requires.accepted.counted, c.lines.ensures.few, few.0, few.1) }
