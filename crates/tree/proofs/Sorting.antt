@@ -1,7 +1,7 @@
 -- The ways through the walk that judges TYPE: what an operator gives, and for each way the type of the tree or trees from what the code
 -- has found. Assumes nothing.
 use Rattle.std.specs.Prelude.{Option, Some, None}
-use mathlib.Core.Path.{◌≡◌, refl, sym, ap, ◌∙◌}
+use mathlib.Core.Path.{◌≡◌, refl, sym, ap, subst, ◌∙◌}
 use Prim.Native.Nat.{ℕ, ◌+◌, ◌-◌, ◌≤◌}
 use native.Mathlib.Omega.{arith}
 use mathlib.Core.List.{List}
@@ -108,6 +108,16 @@ module _ (bs : List ℕ) (p : ℕ) (x : Code.Sort) where
       let f = typed-ends t (type_of e (heads_of bs)) q (says e q h) in
       ap (typed_at (agree (some (sort_meant x)) (some (sort_meant t.sort)))) f.end_is
       ∙ ap (λ o. typed_at (agree (some (sort_meant x)) o) q) (sym f.sort-is)
+
+-- where a type is wanted, the answer has it
+pub wanted-sort : (t : Typed) (x : Code.Sort) (w : Typed) → wanted t x ≡ Some w → w.sort ≡ x
+wanted-sort t x w h = go x t.sort t.next w h
+  where
+    go : (x y : Code.Sort) (q : ℕ) (w : Typed) → typed_at (agree (some (sort_meant x)) (some (sort_meant y))) q ≡ Some w → w.sort ≡ x
+    go Integer Integer q w h = let e : w ≡ record { sort = Integer; next = q } = cc in rw e
+    go Boolean Boolean q w h = let e : w ≡ record { sort = Boolean; next = q } = cc in rw e
+    go Integer Boolean q w h = absurd cc
+    go Boolean Integer q w h = absurd cc
 
 -- ---- a tree, by its class
 
@@ -316,6 +326,11 @@ module _ (bs : List ℕ) (left p n : ℕ) where
                 ∙ ap (λ o. typed_at (agreeing f.rest (heads_of bs) o) q) (sym x.sort-is)
                 ∙ ap (λ l. typed_at (agreeing l (heads_of bs) (some (sort_meant all.sort))) q) (sym f.is));
           }
+
+      -- the type stays, and the place is the next one
+      pub types-on : (t : Typed) → t.sort ≡ all.sort → WantedAt bs all.next all.sort (Some t) → (k : ℕ) → k + 1 ≡ more →
+          TypesLeft bs left p n (record { sort = all.sort; next = t.next }) k
+      types-on t is says k less = subst (λ (x : Code.Sort). TypesLeft bs left p n (record { sort = x; next = t.next }) k) is (types-go t says k less)
 
 -- ---- the parts of an if
 
