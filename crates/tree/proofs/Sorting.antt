@@ -24,6 +24,7 @@ use Rattle.laws.specs.Sheets.{heads_of, vars_of}
 use Rattle.laws.proofs.Readers.{counted_is}
 use Rattle.laws.proofs.Shapes.{at-var, at-int, at-boo, at-un, at-bin, at-ite, all_at-none}
 use Rattle.laws.proofs.Children.{at-children}
+use Rattle.laws.proofs.Nodes.{NodeAt}
 use Rattle.alpha.specs.declared.kind.Sort as Code
 use Rattle.alpha.specs.declared.kind.Sort.TheVariants.{Integer, Boolean}
 use Rattle.alpha.specs.declared.kind.Unary.{Unary as UnaryCase}
@@ -226,13 +227,28 @@ module _ (bs : List ℕ) (p : ℕ) where
 
   -- ---- the field of an operator that has one, and the operands
 
+  high-of : (nd : Node) → NodeAt (vars_of bs) bs p nd → code_of nd ≡ 3 → nat_abs (field bs (p + 8)) ≤ 1
+  high-of nd h e = (rw (node_of nd 3 e).1 at h).fields.high
+
+  high-of-two : (nd : Node) → NodeAt (vars_of bs) bs p nd → code_of nd ≡ 4 → nat_abs (field bs (p + 8)) ≤ 15
+  high-of-two nd h e = (rw (node_of nd 4 e).1 at h).fields.high
+
   pub unary-size : code_of nd ≡ 3 → 16 ≡ node_size nd
   unary-size e = let o = node_of nd 3 e in rw o.1
 
   pub binary-size : code_of nd ≡ 4 → 16 ≡ node_size nd
   binary-size e = let o = node_of nd 4 e in rw o.1
 
+  pub if-size : code_of nd ≡ 5 → 8 ≡ node_size nd
+  if-size e = rw (node_of nd 5 e)
+
   module _ (h : Noded (vars_of bs) bs p) where
+    pub unary-known : code_of nd ≡ 3 → nat_abs (field bs (p + 8)) ≤ 1
+    unary-known e = high-of nd (node-here bs p h) e
+
+    pub binary-known : code_of nd ≡ 4 → nat_abs (field bs (p + 8)) ≤ 15
+    binary-known e = high-of-two nd (node-here bs p h) e
+
     pub unary-there : code_of nd ≡ 3 → p + 16 ≤ length bs
     unary-there e = omega (arith, (node-here bs p h).there, unary-size e)
 
