@@ -23,8 +23,10 @@ use Rattle.laws.proofs.Readers.{counted_is}
 use Rattle.laws.proofs.Rows.{ConstraintAt}
 use Rattle.laws.proofs.Nodes.{Restricts, restr-constraint}
 use Rattle.laws.proofs.Shapes.{RestrAt}
-use Rattle.affine.specs.Value.{point_of}
+use Rattle.affine.specs.declared.Row.{Row as Coded}
+use Rattle.affine.specs.Value.{point_of, row_of, NeatRow}
 use Rattle.affine.specs.Size.{Near, row_size}
+use Rattle.affine.proofs.Several.{row_size-neat}
 use Rattle.affine.proofs.Bounds.{row_size-near}
 use Rattle.tree.specs.declared.Class.TheVariants.{Restriction}
 use Rattle.tree.specs.Classes.{class_at}
@@ -53,6 +55,13 @@ constraint-testable n bs p c h few bound z near k = record {
   relation = h.relation.high;
   small = subst (λ w. row_size w z < 2 ^ 63) (row-fields n bs (p + 8) c.row h.stands) (omega (arith, row_size-near bound c.row z near));
 }
+
+-- a row of n coefficients that is w, with zeros beyond
+pub neat-small : (n : ℕ) (r : Coded) (z : List ℤ) → NeatRow n r → (w : Row) → row_of n r ≡ w → row_size w (point_of n z) < 2 ^ 63 →
+    row_size (row_of 4 r) (point_of 4 z) < 2 ^ 63
+neat-small n r z h w e k =
+    let l : row_size (row_of n r) (point_of n z) < 2 ^ 63 = subst (λ x. row_size x (point_of n z) < 2 ^ 63) (sym e) k in
+    omega (arith, row_size-neat n r h z)
 
 -- ---- one after another
 

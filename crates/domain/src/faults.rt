@@ -50,7 +50,7 @@ impl Ground<'_> {
     }
 
     // All elements: refusals 10 and 11 with their places.
-    pub fn faults(&self) -> Result<(), Refusal>
+    pub(super) fn faults(&self) -> Result<(), Refusal>
         requires { Formed self.now.sheet.now self.now.table.now }
         ensures { told result ≡ Check.faults (sheet_of self.now.sheet.now) 0 (Check.elements (sheet_of self.now.sheet.now)) }
     {

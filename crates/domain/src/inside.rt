@@ -57,26 +57,24 @@ fn all_declared_meet(s: &[u8], tab: &Table, v: usize, z: [i64; 4]) -> bool
     true
 }
 
-// Whether element i of variable v is inside its declared domain. Where the sheet declares nothing, its point is not worked out.
+// Whether element i of variable v is inside its declared domain.
 fn element_inside(s: &[u8], tab: &Table, v: usize, i: usize) -> bool
     requires { Formed s.now tab.now × PointOf s.now v i }
     ensures { result ≡ meets_all (variable (sheet_of s.now) v).declared (Box.point_at (variable (sheet_of s.now) v).head.box i) }
 {
-    if natural(s, tab.second_place()) < 1 {
-        return true;
-    }
     let z = points::point(s, tab.record_place(v), i);
     all_declared_meet(s, tab, v, z)
 }
 
-// Fills in the elements of variable v, after those of the variables before it.
+// Fills in the elements of variable v, after those of the variables before it. Where the sheet declares nothing, no point is worked out.
 fn fill_variable(s: &[u8], tab: &Table, inside: &mut [bool; 4096], v: usize)
     requires { Formed s.now tab.now × FillsNext s.now v inside.old }
     ensures { FilledBelow (sheet_of s.now) (v + 1) inside.new }
 {
     let first = tab.first_element(v);
+    let declares = natural(s, tab.second_place()) > 0;
     for i in 0..tab.first_element(v + 1) - first {
-        inside[first + i] = element_inside(s, tab, v, i);
+        inside[first + i] = !declares || element_inside(s, tab, v, i);
     }
 }
 

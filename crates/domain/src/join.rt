@@ -10,7 +10,7 @@ use alpha::Refusal;
 
 impl Standing {
     // Whether it holds, with a clash or without.
-    pub fn is_held(self) -> bool
+    pub(super) fn is_held(self) -> bool
         ensures { result ≡ is_held self }
     {
         match self {
@@ -20,7 +20,7 @@ impl Standing {
     }
 
     // What is said of the element numbered n whose body stands so.
-    pub fn fault(self, n: usize) -> Result<(), Refusal>
+    pub(super) fn fault(self, n: usize) -> Result<(), Refusal>
         ensures { told result ≡ fault_of self n }
     {
         match self {
@@ -54,7 +54,7 @@ impl Standing {
 
 impl Together {
     // Two of them.
-    pub fn joined(self, a: Standing, b: Standing) -> Standing
+    pub(super) fn joined(self, a: Standing, b: Standing) -> Standing
         ensures { result ≡ Meaning.joined self a b }
     {
         match self {
@@ -64,7 +64,7 @@ impl Together {
     }
 
     // None of them.
-    pub fn alone(self) -> Standing
+    pub(super) fn alone(self) -> Standing
         ensures { result ≡ Meaning.alone self }
     {
         match self {

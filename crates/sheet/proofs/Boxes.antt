@@ -1,4 +1,4 @@
--- Boxes as they are read: the ranges that stand where a reader told, the sizes of their numbers, and the number of points, which is
+-- Boxes as they are read: the ranges that stand where a reader passed, the sizes of their numbers, and the number of points, which is
 -- multiplied up range by range and stopped over 4,096. Assumes nothing.
 use mathlib.Core.Path.{◌≡◌, sym, ap, ◌∙◌}
 use mathlib.Core.Bool.{true}
@@ -30,13 +30,16 @@ high-size lo (pos n) k e = let h = leb-true n 32767 (within-true lo (pos 32767) 
 high-size (pos m) (negsuc n) k e = absurd (let z : ◌≡◌ {A = ℕ} 0 1 = cc in omega arith)
 high-size (negsuc m) (negsuc n) k e = let h = leb-true n m (within-true (negsuc m) (pos 32767) (negsuc n) e).0 in omega arith
 
--- the ends of a range that stands at p
+-- the numbers of a range that stands at p
+pub first-sizes : (bs : List ℕ) (p : ℕ) → Ranges bs p 1 → (nat_abs (field bs p) ≤ 32768) × (nat_abs (field bs (p + 8)) ≤ 32768)
+first-sizes bs p r =
+    let e : p + 16 * 0 ≡ p = omega arith in
+    let lo = low-size (field bs p) (rw e at (r.low 0 (omega arith))) in
+    (lo, high-size (field bs p) (field bs (p + 8)) lo (rw e at (r.high 0 (omega arith))))
+
+-- and their sum
 pub ends_small : {bs : List ℕ} {p : ℕ} → Ranges bs p 1 → nat_abs (field bs (p + 8)) + nat_abs (field bs p) ≤ 65536
-ends_small {bs} {p} h =
-    let here : p + 16 * 0 ≡ p = omega arith in
-    let low = low-size (field bs p) (rw here at (h.low 0 (omega arith))) in
-    let high = high-size (field bs p) (field bs (p + 8)) low (rw here at (h.high 0 (omega arith))) in
-    omega arith
+ends_small {bs} {p} h = omega (arith, first-sizes bs p h)
 
 -- ---- ranges that were read
 

@@ -43,7 +43,7 @@ slice-bytes bs p (suc n) h =
     ∙ ap (λ (l : List ℕ). byte bs p ∷ l) (slice-bytes bs (p + 1) n (omega arith))
 
 -- a field's eight bytes
-eight-first : (bs : List ℕ) (p : ℕ) → eight bs p ≡ byte bs p ∷ bytes_at bs (p + 1) 7
+pub eight-first : (bs : List ℕ) (p : ℕ) → eight bs p ≡ byte bs p ∷ bytes_at bs (p + 1) 7
 unfolding bytes_at
 eight-first bs p =
     let a2 : p + 1 + 1 ≡ p + 2 = omega arith in
@@ -57,6 +57,12 @@ eight-first bs p =
 pub eight-bytes : (bs : List ℕ) (p : ℕ) → eight bs p ≡ bytes_at bs p 8
 unfolding bytes_at
 eight-bytes bs p = eight-first bs p
+
+pub name-no-letter : (bs : List ℕ) (p : ℕ) → letter (byte bs p) ≡ false → name_form (eight bs p) ≡ false
+name-no-letter bs p f = rw f
+
+pub name-letter-bytes : (bs : List ℕ) (p : ℕ) → letter (byte bs p) ≡ true → name_form (eight bs p) ≡ name_tail (bytes_at bs (p + 1) 7)
+name-letter-bytes bs p t = ap name_form (eight-first bs p) ∙ rw t
 
 module _ (bs : List ℕ) (p : ℕ) (h : p + 8 ≤ length bs) where
   pub eight-slice : take (p + 8 - p) (drop p bs) ≡ eight bs p

@@ -39,7 +39,7 @@ after-gave m k a q e = ap (λ (g : Got _). after g k) e
 
 -- ---- a field that must pass a test
 
--- a field that was read: eight bytes were there, their number told the test, and the next place is eight on
+-- a field that was read: eight bytes were there, their number passed the test, and the next place is eight on
 pub record Passed (test : ℤ → Bool) (bs : List ℕ) (p q : ℕ) : Type 0 where
   pub there : p + 8 ≤ length bs
   pub fine : test (field bs p) ≡ true

@@ -14,7 +14,7 @@ use Rattle.alpha.specs.Field.{field}
 use Rattle.alpha.specs.Sheet.{Head, Declared, Raw}
 use Rattle.alpha.specs.Read.{Got, got, bad, after, repeat, count, heads, declared, node, ended, sections, read}
 use Rattle.alpha.specs.declared.Refusal.{Refusal}
-use Rattle.alpha.specs.Verdict.{told, told, told}
+use Rattle.alpha.specs.Verdict.{told}
 use Rattle.sheet.specs.declared.table.Table.{Table}
 use Rattle.sheet.specs.Place.{place_after}
 use Rattle.sheet.specs.Record.{points, heads_at, head_at, places, Filled}
@@ -25,6 +25,11 @@ use Rattle.sheet.proofs.Readers.{count_next, next-accepted}
 use Rattle.sheet.proofs.Heads.{heads-length, heads-at}
 
 -- ---- the sections by places
+
+pub second-place : (hs : List Head) (bs : List ℕ) (p : ℕ) → place_after (second_section hs bs p) ≡
+    next (place_after (count 0 256 bs p)) (λ q. place_after (repeat (nat_abs (field bs p)) (declared hs) bs q))
+unfolding second_section
+second-place hs bs p = count_next bs p 0 256 _ _ (λ q. refl)
 
 pub third-place : (vars : ℕ) (bs : List ℕ) (p : ℕ) → place_after (third_section vars bs p) ≡
     next (place_after (count 0 2048 bs p)) (λ q. place_after (repeat (nat_abs (field bs p)) (node vars) bs q))

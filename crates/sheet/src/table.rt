@@ -2,7 +2,7 @@
 // that). Assumes nothing.
 ghost use Rattle.std.specs.Prelude.{◌≡◌, ◌<◌, ◌≤◌, get_or};
 
-#[derive(Drop)]
+#[derive(Clone, Copy)]
 pub struct Table {
     // The places of the variables' records.
     pub records: [usize; 32],

@@ -249,9 +249,23 @@ module _ (bs : List ℕ) (p : ℕ) where
     pub leaf-there : p + 16 ≤ length bs
     leaf-there = omega (arith, leaf-size (node_read (vars_of bs) bs p) h.class_is, (node-here bs p h.noded).there)
 
+    pub leaf-end : p + 16 ≡ node_end (vars_of bs) bs p
+    leaf-end = omega (arith, leaf-size (node_read (vars_of bs) bs p) h.class_is, size-here bs p h.noded)
+
+    pub leaf-arity : 0 ≡ arity (node_read (vars_of bs) bs p)
+    leaf-arity = leaf-node (λ nd. 0 ≡ arity nd) (λ v. refl) (λ c. refl) (λ b. refl) (node_read (vars_of bs) bs p) h.class_is
+
+  module _ (h : NodedAs bs p Operator) where
+    pub operator-some : 1 ≤ arity (node_read (vars_of bs) bs p)
+    operator-some =
+        operator-node (λ nd. 1 ≤ arity nd) (λ o. omega arith) (λ o. omega arith) (omega arith) (node_read (vars_of bs) bs p) h.class_is
+
   module _ (h : NodedAs bs p Case) where
     pub case-there : p + 16 ≤ length bs
     case-there = omega (arith, case-size (node_read (vars_of bs) bs p) h.class_is, (node-here bs p h.noded).there)
+
+    pub case-end : p + 16 ≡ node_end (vars_of bs) bs p
+    case-end = omega (arith, case-size (node_read (vars_of bs) bs p) h.class_is, size-here bs p h.noded)
 
     pub case-some : 1 ≤ arity (node_read (vars_of bs) bs p)
     case-some = case-node (λ nd. Here nd → 1 ≤ arity nd) (λ n at. at.fields.low) (node_read (vars_of bs) bs p) h.class_is (node-here bs p h.noded)

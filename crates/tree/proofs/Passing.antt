@@ -23,6 +23,7 @@ use Rattle.alpha.specs.declared.Refusal.{Refusal}
 use Rattle.laws.specs.Sheets.{heads_of, vars_of, sheet_of}
 use Rattle.laws.proofs.Tests.{&&-right}
 use Rattle.tree.specs.Ruled.{rule_at, FirstRefusal}
+use Rattle.tree.specs.Standing.{Standing}
 use Rattle.tree.specs.Formed.{BodiesPlaced}
 use Rattle.tree.proofs.Heading.{prepared-sections}
 use Rattle.sheet.specs.declared.table.Table.{Table}
@@ -113,6 +114,12 @@ module _ (bs : List ℕ) (tab : Table) (h : BodiesPlaced bs tab) (v : ℕ) (lt :
 
   pub no_input : (k : Kind) → (get_or (heads_of bs) v no_head).kind ≡ kind_meant k → (k ≡ Input → ⊥) → is_input (variable (sheet_of bs) v) ≡ false
   no_input k e n = ap (λ x. is_input_kind x.kind) (h.head_is v lt) ∙ ap is_input_kind e ∙ other-is k n
+
+  -- the body stands where the table says
+  pub body-standing : is_input (variable (sheet_of bs) v) ≡ false → (p : ℕ) → p ≡ get_or tab.bodies v 0 → Standing (vars_of bs) bs p 2048
+  body-standing i p e =
+      let b = h.body v lt i in
+      rw (e ∙ h.starts v lt) (record { tree = (variable (sheet_of bs) v).body; end = (variable (sheet_of bs) v).end; at = b.at; few = b.few; most = omega arith })
 
 -- a body that passes REACH does so from the top
 pub body-reaches : (x : Variable) → is_input x ≡ false → reached x ≡ true → reach x.body top_reach ≡ true

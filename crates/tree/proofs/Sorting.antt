@@ -1,7 +1,7 @@
 -- The ways through the walk that judges TYPE: what an operator gives, and for each way the type of the tree or trees from what the code
 -- has found. Assumes nothing.
 use Rattle.std.specs.Prelude.{Option, Some, None}
-use mathlib.Core.Path.{◌≡◌, refl, sym, ap, ◌∙◌}
+use mathlib.Core.Path.{◌≡◌, refl, sym, ap, subst, ◌∙◌}
 use Prim.Native.Nat.{ℕ, ◌+◌, ◌-◌, ◌≤◌}
 use native.Mathlib.Omega.{arith}
 use mathlib.Core.List.{List}
@@ -24,6 +24,7 @@ use Rattle.laws.specs.Sheets.{heads_of, vars_of}
 use Rattle.laws.proofs.Readers.{counted_is}
 use Rattle.laws.proofs.Shapes.{at-var, at-int, at-boo, at-un, at-bin, at-ite, all_at-none}
 use Rattle.laws.proofs.Children.{at-children}
+use Rattle.laws.proofs.Nodes.{NodeAt}
 use Rattle.alpha.specs.declared.kind.Sort as Code
 use Rattle.alpha.specs.declared.kind.Sort.TheVariants.{Integer, Boolean}
 use Rattle.alpha.specs.declared.kind.Unary.{Unary as UnaryCase}
@@ -108,6 +109,16 @@ module _ (bs : List ℕ) (p : ℕ) (x : Code.Sort) where
       let f = typed-ends t (type_of e (heads_of bs)) q (says e q h) in
       ap (typed_at (agree (some (sort_meant x)) (some (sort_meant t.sort)))) f.end_is
       ∙ ap (λ o. typed_at (agree (some (sort_meant x)) o) q) (sym f.sort-is)
+
+-- where a type is wanted, the answer has it
+pub wanted-sort : (t : Typed) (x : Code.Sort) (w : Typed) → wanted t x ≡ Some w → w.sort ≡ x
+wanted-sort t x w h = go x t.sort t.next w h
+  where
+    go : (x y : Code.Sort) (q : ℕ) (w : Typed) → typed_at (agree (some (sort_meant x)) (some (sort_meant y))) q ≡ Some w → w.sort ≡ x
+    go Integer Integer q w h = let e : w ≡ record { sort = Integer; next = q } = cc in rw e
+    go Boolean Boolean q w h = let e : w ≡ record { sort = Boolean; next = q } = cc in rw e
+    go Integer Boolean q w h = absurd cc
+    go Boolean Integer q w h = absurd cc
 
 -- ---- a tree, by its class
 
@@ -216,13 +227,28 @@ module _ (bs : List ℕ) (p : ℕ) where
 
   -- ---- the field of an operator that has one, and the operands
 
+  high-of : (nd : Node) → NodeAt (vars_of bs) bs p nd → code_of nd ≡ 3 → nat_abs (field bs (p + 8)) ≤ 1
+  high-of nd h e = (rw (node_of nd 3 e).1 at h).fields.high
+
+  high-of-two : (nd : Node) → NodeAt (vars_of bs) bs p nd → code_of nd ≡ 4 → nat_abs (field bs (p + 8)) ≤ 15
+  high-of-two nd h e = (rw (node_of nd 4 e).1 at h).fields.high
+
   pub unary-size : code_of nd ≡ 3 → 16 ≡ node_size nd
   unary-size e = let o = node_of nd 3 e in rw o.1
 
   pub binary-size : code_of nd ≡ 4 → 16 ≡ node_size nd
   binary-size e = let o = node_of nd 4 e in rw o.1
 
+  pub if-size : code_of nd ≡ 5 → 8 ≡ node_size nd
+  if-size e = rw (node_of nd 5 e)
+
   module _ (h : Noded (vars_of bs) bs p) where
+    pub unary-known : code_of nd ≡ 3 → nat_abs (field bs (p + 8)) ≤ 1
+    unary-known e = high-of nd (node-here bs p h) e
+
+    pub binary-known : code_of nd ≡ 4 → nat_abs (field bs (p + 8)) ≤ 15
+    binary-known e = high-of-two nd (node-here bs p h) e
+
     pub unary-there : code_of nd ≡ 3 → p + 16 ≤ length bs
     unary-there e = omega (arith, (node-here bs p h).there, unary-size e)
 
@@ -316,6 +342,11 @@ module _ (bs : List ℕ) (left p n : ℕ) where
                 ∙ ap (λ o. typed_at (agreeing f.rest (heads_of bs) o) q) (sym x.sort-is)
                 ∙ ap (λ l. typed_at (agreeing l (heads_of bs) (some (sort_meant all.sort))) q) (sym f.is));
           }
+
+      -- the type stays, and the place is the next one
+      pub types-on : (t : Typed) → t.sort ≡ all.sort → WantedAt bs all.next all.sort (Some t) → (k : ℕ) → k + 1 ≡ more →
+          TypesLeft bs left p n (record { sort = all.sort; next = t.next }) k
+      types-on t is says k less = subst (λ (x : Code.Sort). TypesLeft bs left p n (record { sort = x; next = t.next }) k) is (types-go t says k less)
 
 -- ---- the parts of an if
 

@@ -69,22 +69,23 @@ fn leaf_sort(s: &[u8], tab: &Table, at: usize) -> Sort
     }
 }
 
-// The type of the tree at `at`, of at most `left` nodes.
+// The type of the tree at `at`, of at most `left` nodes. The answer is made of its two parts: one that is copied whole takes longer.
 #[cycle(typing)]
 pub fn type_of(s: &[u8], tab: &Table, at: usize, left: usize) -> Option<Typed>
     requires { Prepared s.now tab.now × Standing (vars_of s.now) s.now at left }
     ensures { TreeTyped s.now at result }
 {
-    let next = node_end(s, at);
-    match class_of(s, at) {
-        Class::Leaf => Some(Typed {
+    let after = node_end(s, at);
+    let Typed { sort, next } = match class_of(s, at) {
+        Class::Leaf => Typed {
             sort: leaf_sort(s, tab, at),
-            next,
-        }),
-        Class::Operator => operator_type(s, tab, at, left),
-        Class::Case => type_all(s, tab, next, left - 1, children(s, at)),
-        Class::Restriction | Class::Dependence => type_of(s, tab, next, left - 1),
-    }
+            next: after,
+        },
+        Class::Operator => operator_type(s, tab, at, left)?,
+        Class::Case => type_all(s, tab, after, left - 1, children(s, at))?,
+        Class::Restriction | Class::Dependence => type_of(s, tab, after, left - 1)?,
+    };
+    Some(Typed { sort, next })
 }
 
 // The type of the operator at `at`, with its operands.
@@ -124,10 +125,10 @@ fn type_all(s: &[u8], tab: &Table, at: usize, left: usize, count: usize) -> Opti
     requires { Prepared s.now tab.now × StandingSome (vars_of s.now) s.now at left count }
     ensures { TreesTyped s.now at count result }
 {
-    let mut all = type_of(s, tab, at, left)?;
+    let Typed { sort, mut next } = type_of(s, tab, at, left)?;
     for _ in 1..count {
-        let t = type_of(s, tab, all.next, left)?;
-        all = wanted(t, all.sort)?;
+        let t = type_of(s, tab, next, left)?;
+        next = wanted(t, sort)?.next;
     }
-    Some(all)
+    Some(Typed { sort, next })
 }

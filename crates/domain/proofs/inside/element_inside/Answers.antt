@@ -1,34 +1,17 @@
--- `domain::element_inside` meets its contract: where nothing is declared every point is inside. Assumes nothing.
-use mathlib.Core.Path.{◌≡◌, ap, ◌∙◌}
+-- `domain::element_inside` meets its contract: the point is one of the box. Assumes nothing.
+use mathlib.Core.Path.{ap, ◌∙◌}
 use native.Mathlib.Omega.{arith}
-use lib.IntN.{nat_abs}
 use Rattle.alpha.specs.Affine.{meets_all}
-use Rattle.alpha.specs.Field.{field}
 use Rattle.alpha.specs.Holds.{variable}
-use Rattle.laws.specs.Sheets.{raw_of, sheet_of}
-use Rattle.tree.proofs.Declaring.{section-there}
+use Rattle.laws.specs.Sheets.{sheet_of}
 use Rattle.domain.proofs.Records.{VariableLaid, laid-variable}
 use Rattle.domain.proofs.Bodying.{point_at_lem, point-inside}
-use Rattle.domain.proofs.Filled.{none-declared}
-use Rattle.domain.proofs.inside.element_inside.Goals.{After-second_place, Start}
+use Rattle.domain.proofs.inside.element_inside.Goals.{Start}
 use Rattle.domain.proofs.inside.element_inside.Goals as goal
 
 -- the variable
 laid : (c : Start) → VariableLaid c.args.s.now c.args.tab.now c.args.v
 laid c = laid-variable _ _ c.requires.0.placed _ c.requires.1.known
-
--- the second section's place, where its count is
-second_is : (c : After-second_place) → c.second_place.result ≡ (raw_of c.args.s.now).second
-second_is c = c.second_place.ensures ∙ c.requires.0.placed.prepared.table.second
-
-pub natural-requires : goal.natural-requires
-natural-requires c =
-    omega (arith, section-there _ _ c.requires.0.placed.prepared, second_is (goal.at.natural-requires c).After-second_place)
-
-pub returns-then-natural-lt1 : goal.returns-then-natural-lt1
-returns-then-natural-lt1 c =
-    let count = c.natural.ensures ∙ ap (λ p. nat_abs (field c.args.s.now p)) (second_is (goal.at.returns-then-natural-lt1 c).After-second_place) in
-    none-declared _ _ c.requires.0 _ c.requires.1.known (omega (arith, count, c.if-natural-lt1.true)) _
 
 pub record_place-requires : goal.record_place-requires
 record_place-requires c = (laid (goal.at.record_place-requires c).Start).low

@@ -9,7 +9,7 @@ use Rattle.tree.proofs.Standings.{standing-noded, standing-some, standing-childr
 use Rattle.tree.proofs.Sorting.{leaf-typed, case-typed, child-typed}
 use Rattle.tree.proofs.Sorting.{unary-typed, unary-mistyped, binary-typed, binary-mistyped, if-typed}
 use Rattle.tree.proofs.Sorting.{unary-there, unary-arity, binary-there, binary-arity, if-arity}
-use Rattle.tree.proofs.Sorting.{wanted-none, wanted-some, wanted-ends, types-begin, types-none, types-end, types-stop, types-go, if-none, if-boolean}
+use Rattle.tree.proofs.Sorting.{wanted-none, wanted-some, wanted-sort, wanted-ends, types-begin, types-none, types-end, types-stop, types-on, if-none, if-boolean}
 use Rattle.tree.proofs.typing.+typing.Goals as goal
 
 pub operator_type-node_end-next-requires : goal.operator_type-node_end-next-requires
@@ -110,13 +110,13 @@ type_all-type_of-requires t c =
     let h = c.requires in
     (omega arith, (h.0, first-standing _ _ _ _ _ h.1.some h.1.all))
 
-pub type_all-returns-in_err-all : goal.type_all-returns-in_err-all
-type_all-returns-in_err-all t c =
+pub type_all-returns-in_err-sort : goal.type_all-returns-in_err-sort
+type_all-returns-in_err-sort t c =
     let none = c.from_residual.ensures in
-    rw none (types-none _ c.args.left _ _ c.requires.1.some c.in_err-all.ensures)
+    rw none (types-none _ c.args.left _ _ c.requires.1.some c.in_err-sort.ensures)
 
 pub type_all-loop-init : goal.type_all-loop-init
-type_all-loop-init t c = types-begin _ _ _ _ c.requires.1.some _ c.in_ok-all.ensures c.requires.1.all
+type_all-loop-init t c = types-begin _ _ _ _ c.requires.1.some _ c.in_ok-sort.ensures c.requires.1.all
 
 pub type_all-type_of-requires-in-loop : goal.type_all-type_of-requires-in-loop
 type_all-type_of-requires-in-loop t c =
@@ -126,19 +126,19 @@ type_all-type_of-requires-in-loop t c =
 pub type_all-returns-in_err-t : goal.type_all-returns-in_err-t
 type_all-returns-in_err-t t c =
     let none = c.from_residual-in_err-t.ensures in
-    rw none (types-stop _ _ _ _ _ _ c.loop.invariant (omega arith) (wanted-none _ _ c.loop.all.sort c.in_err-t.ensures))
+    rw none (types-stop _ _ _ _ _ _ c.loop.invariant (omega arith) (wanted-none _ _ c.in_ok-sort.field-0.sort c.in_err-t.ensures))
 
-pub type_all-returns-in_err-all-2 : goal.type_all-returns-in_err-all-2
-type_all-returns-in_err-all-2 t c =
-    let none = c.from_residual-in_err-all-2.ensures in
-    let says = wanted-some _ _ c.loop.all.sort _ c.in_ok-t.ensures in
-    rw none (types-stop _ _ _ _ _ _ c.loop.invariant (omega arith) (rw (sym c.wanted.ensures ∙ c.in_err-all-2.was) at says))
+pub type_all-returns-in_err-next : goal.type_all-returns-in_err-next
+type_all-returns-in_err-next t c =
+    let none = c.from_residual-in_err-next.ensures in
+    let says = wanted-some _ _ c.in_ok-sort.field-0.sort _ c.in_ok-t.ensures in
+    rw none (types-stop _ _ _ _ _ _ c.loop.invariant (omega arith) (rw (sym c.wanted.ensures ∙ c.in_err-next.was) at says))
 
 pub type_all-loop-preserved : goal.type_all-loop-preserved
 type_all-loop-preserved t c =
-    let says = wanted-some _ _ c.loop.all.sort _ c.in_ok-t.ensures in
-    let is = sym c.wanted.ensures ∙ c.in_ok-all-2.was in
-    types-go _ _ _ _ _ _ c.loop.invariant (omega arith) _ (rw is at says) _ (omega arith)
+    let says = wanted-some _ _ c.in_ok-sort.field-0.sort _ c.in_ok-t.ensures in
+    let is = sym c.wanted.ensures ∙ c.in_ok-next.was in
+    types-on _ _ _ _ _ _ c.loop.invariant (omega arith) _ (wanted-sort _ _ _ is) (rw is at says) _ (omega arith)
 
 pub type_all-returns : goal.type_all-returns
 type_all-returns t c = types-end _ _ _ _ _ _ c.loop.invariant (omega arith)
@@ -173,8 +173,8 @@ type_if-returns t c =
     let says = wanted-some _ _ Boolean _ c.in_ok-t.ensures in
     if-boolean _ _ _ (rw (sym c.wanted.ensures ∙ c.in_ok-test.was) at says) _ c.type_all.ensures
 
-pub type_of-node_end-next-requires : goal.type_of-node_end-next-requires
-type_of-node_end-next-requires t c = standing-noded _ _ _ _ c.requires.1
+pub type_of-node_end-after-requires : goal.type_of-node_end-after-requires
+type_of-node_end-after-requires t c = standing-noded _ _ _ _ c.requires.1
 
 pub type_of-class_of-requires : goal.type_of-class_of-requires
 type_of-class_of-requires t c = standing-noded _ _ _ _ c.requires.1
@@ -196,18 +196,24 @@ type_of-type_all-requires t c =
     let h = c.requires in
     let some = standing-some _ _ _ _ h.1 in
     let noded = noded-as _ _ (standing-noded _ _ _ _ h.1) _ _ c.class_of.ensures c.in-Case.is in
-    let below = standing-children _ _ _ _ h.1 _ _ c.node_end-next.ensures c.children.ensures in
+    let below = standing-children _ _ _ _ h.1 _ _ c.node_end-after.ensures c.children.ensures in
     (omega arith, (h.0, record { all = below; some = omega (arith, c.children.ensures, case-some _ _ noded) }))
 
 pub type_of-returns-in-Leaf : goal.type_of-returns-in-Leaf
 type_of-returns-in-Leaf t c =
     let class = sym c.class_of.ensures ∙ c.in-Leaf.is in
-    leaf-typed _ _ _ c.node_end-next.ensures class _ c.leaf_sort.ensures
+    leaf-typed _ _ _ c.node_end-after.ensures class _ c.leaf_sort.ensures
 
-pub type_of-returns-in-Case : goal.type_of-returns-in-Case
-type_of-returns-in-Case t c =
+pub type_of-returns-in_err-type_all-in-Case : goal.type_of-returns-in_err-type_all-in-Case
+type_of-returns-in_err-type_all-in-Case t c =
+    let none = c.from_residual-in_err-type_all-in-Case.ensures in
     let class = sym c.class_of.ensures ∙ c.in-Case.is in
-    case-typed _ _ _ c.node_end-next.ensures class _ c.children.ensures _ c.type_all.ensures
+    rw none (case-typed _ _ _ c.node_end-after.ensures class _ c.children.ensures _ c.in_err-type_all-in-Case.ensures)
+
+pub type_of-returns-in_ok-type_all-in-Case : goal.type_of-returns-in_ok-type_all-in-Case
+type_of-returns-in_ok-type_all-in-Case t c =
+    let class = sym c.class_of.ensures ∙ c.in-Case.is in
+    case-typed _ _ _ c.node_end-after.ensures class _ c.children.ensures _ c.in_ok-type_all-in-Case.ensures
 
 pub type_of-overflow_sub-left-in-Restriction : goal.type_of-overflow_sub-left-in-Restriction
 type_of-overflow_sub-left-in-Restriction t c = omega (arith, standing-some _ _ _ _ c.requires.1)
@@ -218,9 +224,14 @@ type_of-type_of-requires t c =
     let h = c.requires in
     let some = standing-some _ _ _ _ h.1 in
     let class = c.class_of.ensures in
-    let below = standing-children _ _ _ _ h.1 _ _ c.node_end-next.ensures (child-arity _ _ (standing-noded _ _ _ _ h.1) _ class c.in-Restriction.is) in
+    let below = standing-children _ _ _ _ h.1 _ _ c.node_end-after.ensures (child-arity _ _ (standing-noded _ _ _ _ h.1) _ class c.in-Restriction.is) in
     (omega arith, (h.0, first-standing _ _ _ _ _ (omega arith) below))
 
-pub type_of-returns-in-Restriction : goal.type_of-returns-in-Restriction
-type_of-returns-in-Restriction t c =
-    child-typed _ _ _ c.node_end-next.ensures _ c.class_of.ensures c.in-Restriction.is _ c.type_of.ensures
+pub type_of-returns-in_err-sort-in-Restriction : goal.type_of-returns-in_err-sort-in-Restriction
+type_of-returns-in_err-sort-in-Restriction t c =
+    let none = c.from_residual-in_err-sort-in-Restriction.ensures in
+    rw none (child-typed _ _ _ c.node_end-after.ensures _ c.class_of.ensures c.in-Restriction.is _ c.in_err-sort-in-Restriction.ensures)
+
+pub type_of-returns-in_ok-sort-in-Restriction : goal.type_of-returns-in_ok-sort-in-Restriction
+type_of-returns-in_ok-sort-in-Restriction t c =
+    child-typed _ _ _ c.node_end-after.ensures _ c.class_of.ensures c.in-Restriction.is _ c.in_ok-sort-in-Restriction.ensures

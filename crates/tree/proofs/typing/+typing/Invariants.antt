@@ -15,6 +15,6 @@ decreases-type_if l = 4 * l.left + 3
 abbrev pub decreases-type_of : goal.decreases-type_of
 decreases-type_of l = 4 * l.left + 1
 
--- what the trees have that follow those of the type `all` is what all of them have
+-- what the trees have that follow those of the type `sort` is what all of them have
 abbrev pub invariant-type_all-loop : goal.invariant-type_all-loop
-invariant-type_all-loop l = TypesLeft l.s l.left l.at l.count l.all (l.count - l.counter)
+invariant-type_all-loop l = TypesLeft l.s l.left l.at l.count (record { sort = l.sort; next = l.next }) (l.count - l.counter)
