@@ -2,14 +2,14 @@
 use Rattle.std.specs.Prelude.{Result, Err, Option, Some, None}
 use Rattle.std.specs.Option.{ok_or}
 use mathlib.Core.Path.{◌≡◌, refl, sym, ap, ◌∙◌}
-use Prim.Native.Nat.{ℕ, ◌+◌, ◌<◌}
+use Prim.Native.Nat.{ℕ, ◌+◌, ◌≤◌, ◌<◌}
 use native.Mathlib.Omega.{arith}
 use mathlib.Core.Bool.{Bool, true, false}
 use mathlib.Core.List.{List, [], ◌∷◌, ◌++◌}
 use lib.ListN.{length, get_or}
 use lib.IntN.{ℤ}
 use lib.Dec.{ltb}
-use borrow.Author.Tests.{lt-ltb}
+use borrow.Author.Tests.{lt-ltb, le-ltb}
 use Rattle.alpha.specs.Pick.{ifb}
 use Rattle.alpha.specs.Answer.{Answer, accepted, refused, next, ASK}
 use Rattle.alpha.specs.Sheet.{Sheet, Point, Range}
@@ -48,6 +48,9 @@ refuses s v z e = rw e refl
 no-box : (t : Bool) (s : Sheet) (v : ℕ) (z : Point) → in_box (variable s v).head.box z ≡ false → ltb v (length s) ≡ t → asks s v z ≡ false
 no-box true s v z e l = rw (l, e) refl
 no-box false s v z e l = rw l refl
+
+pub unknown-asked : (s : Sheet) (v : ℕ) (z : Point) → length s ≤ v → refused ASK 0 ≡ numbered s v z
+unknown-asked s v z h = refuses s v z (rw (le-ltb v (length s) h) refl)
 
 pub other-asked : (s : Sheet) (v : ℕ) (z : Point) → (length z ≡ length (variable s v).head.box → ⊥) → refused ASK 0 ≡ numbered s v z
 other-asked s v z n = refuses s v z (no-box (ltb v (length s)) s v z (go (in_box (variable s v).head.box z) refl) refl)
