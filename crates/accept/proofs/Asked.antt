@@ -15,7 +15,7 @@ use Rattle.alpha.specs.Answer.{Answer, accepted, refused, next, ASK}
 use Rattle.alpha.specs.Sheet.{Sheet, Point, Range}
 use Rattle.alpha.specs.Box.{in_box, index}
 use Rattle.alpha.specs.Holds.{variable}
-use Rattle.alpha.specs.Check.{check}
+use Rattle.alpha.specs.Check.{check, total}
 use Rattle.alpha.specs.Ask.{asks, before, element_number, numbered}
 use Rattle.alpha.specs.Promise.{total_of}
 use Rattle.alpha.specs.Verdict.{told, place_of}
@@ -96,9 +96,23 @@ refused-number bs v z r k e a = ap told e ∙ go (check bs) (sym (ap told e) ∙
     go (accepted s) h = absurd (let w : ◌≡◌ {A = ℕ} 0 1 = cc in omega arith)
     go (refused n p) h = h
 
+-- for the search, by the sheet alone: where it is not accepted, the answer is its refusal
+pub refused_element : (bs : List ℕ) (v : ℕ) (z : Point) → ((n : ℕ) → total_of (check bs) ≡ accepted n → ⊥) →
+    element_number bs v z ≡ total_of (check bs)
+unfolding element_number
+refused_element bs v z none = go (check bs) none
+  where
+    go : (c : Answer Sheet) → ((n : ℕ) → total_of c ≡ accepted n → ⊥) → next c (λ s. numbered s v z) ≡ total_of c
+    go (accepted s) h = absurd (h (total s) refl)
+    go (refused n p) h = refl
+
 pub accepted-number : (bs : List ℕ) (s : Sheet) (v : ℕ) (z : Point) → check bs ≡ accepted s → element_number bs v z ≡ numbered s v z
 unfolding element_number
 accepted-number bs s v z e = ap (λ (c : Answer Sheet). next c (λ t. numbered t v z)) e
+
+-- and where it is, the number that it has there
+pub accepted_element : (bs : List ℕ) (v : ℕ) (z : Point) → check bs ≡ accepted (sheet_of bs) → element_number bs v z ≡ numbered (sheet_of bs) v z
+accepted_element bs v z e = accepted-number bs (sheet_of bs) v z e
 
 -- what the code's index of the coordinates says of the point
 module _ (bs : List ℕ) (tab : Table) (f : Formed bs tab) (v : ℕ) (lt : v < vars_of bs) where

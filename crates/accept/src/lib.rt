@@ -139,6 +139,7 @@ fn number_of(s: &[u8], tab: &Table, variable: u64, point: &[i64]) -> Option<usiz
 }
 
 // The number of an element: the sheet's refusals, then ASK for a variable or a point that it has not.
+#[tactic(auto, using(crate::proofs::Asked::refused_element, crate::proofs::Asked::accepted_element))]
 pub fn element(s: &[u8], variable: u64, point: &[i64]) -> Result<usize, Refusal>
     ensures { Numbers s.now variable point.now result }
 {
