@@ -215,11 +215,11 @@ module _ (bs : List ℕ) (p n many : ℕ) (e : Expr) (h : IsBody bs p n many e) 
   unfolding x hs
   from-identity = branched hs e (identity n) 0 b wide (id_rows-wide n) (rw rows-long-are h.fitting) some
 
-  tree-part : part_of Tree e (identity n) 0 b ≡ tree_part (branch_in bs e b).term 0
+  pub tree-part : part_of Tree e (identity n) 0 b ≡ tree_part (branch_in bs e b).term 0
   unfolding x
   tree-part = from-identity.tree_is ∙ ap (λ y. tree_part y.term 0) same_branch
 
-  given-part : part_of Constraints e (identity n) 0 b ≡ given_part (branch_in bs e b).given
+  pub given-part : part_of Constraints e (identity n) 0 b ≡ given_part (branch_in bs e b).given
   unfolding x
   given-part = from-identity.given_is ∙ ap (λ y. given_part y.given) same_branch
 
@@ -232,13 +232,13 @@ module _ (bs : List ℕ) (p n many : ℕ) (e : Expr) (h : IsBody bs p n many e) 
 taken-same : {a b : Taken} → a.nodes ≡ b.nodes → a.bytes ≡ b.bytes → a.limits ≡ b.limits → a.deep ≡ b.deep → a ≡ b
 taken-same p q r s = λ i. record { nodes = p i; bytes = q i; limits = r i; deep = s i }
 
-both-assoc : (a b c : Taken) → both (both a b) c ≡ both a (both b c)
+pub both-assoc : (a b c : Taken) → both (both a b) c ≡ both a (both b c)
 both-assoc a b c = taken-same (omega arith) (omega arith) (omega arith) (omega arith)
 
-both-nothing : (a : Taken) → a ≡ both a nothing
+pub both-nothing : (a : Taken) → a ≡ both a nothing
 both-nothing a = taken-same (omega arith) (omega arith) (omega arith) (omega arith)
 
-nothing-both : (a : Taken) → a ≡ both nothing a
+pub nothing-both : (a : Taken) → a ≡ both nothing a
 nothing-both a = taken-same (omega arith) (omega arith) (omega arith) (omega arith)
 
 -- an expression is at least as long as it has nodes
