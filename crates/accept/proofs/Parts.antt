@@ -84,6 +84,10 @@ module _ (bs : List ℕ) (tab : Table) (f : Formed bs tab) (v : ℕ) where
             there = (omega (arith, len, long), omega (arith, a, len, start_is, long, inside));
           }
 
+-- no part
+pub no-part : (bs : List ℕ) (part : Ask.Part) (p : Option Part) → part ≡ no_part → IsPart bs no_part p → IsPart bs part p
+no-part bs part p e h = record { is = e ∙ h.is; there = h.there }
+
 -- the sheet is refused, or accepted
 pub refused-part : (bs : List ℕ) (v : ℕ) (r : Result ℕ Refusal) (k : Refusal) → r ≡ Err k → told r ≡ total_of (check bs) → body_part bs v ≡ no_part
 unfolding body_part
