@@ -5,7 +5,7 @@ use native.Mathlib.Nat.{zero-add}
 use native.Mathlib.Omega.{arith}
 use mathlib.Core.Bool.{true, false}
 use mathlib.Core.List.{List, [], ◌++◌}
-use lib.ListN.{length, get_or, drop, take, length-append}
+use lib.ListN.{length, drop, take, length-append}
 use lib.Seq.{sets, sets-eq, length-sets, length-take-le}
 use lib.Dec.{leb}
 use borrow.Author.Tests.{le-leb, lt-leb}
