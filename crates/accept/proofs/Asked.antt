@@ -2,20 +2,20 @@
 use Rattle.std.specs.Prelude.{Result, Err, Option, Some, None}
 use Rattle.std.specs.Option.{ok_or}
 use mathlib.Core.Path.{◌≡◌, refl, sym, ap, ◌∙◌}
-use Prim.Native.Nat.{ℕ, ◌+◌, ◌<◌}
+use Prim.Native.Nat.{ℕ, ◌+◌, ◌≤◌, ◌<◌}
 use native.Mathlib.Omega.{arith}
 use mathlib.Core.Bool.{Bool, true, false}
 use mathlib.Core.List.{List, [], ◌∷◌, ◌++◌}
 use lib.ListN.{length, get_or}
 use lib.IntN.{ℤ}
 use lib.Dec.{ltb}
-use borrow.Author.Tests.{lt-ltb}
+use borrow.Author.Tests.{lt-ltb, le-ltb}
 use Rattle.alpha.specs.Pick.{ifb}
 use Rattle.alpha.specs.Answer.{Answer, accepted, refused, next, ASK}
 use Rattle.alpha.specs.Sheet.{Sheet, Point, Range}
 use Rattle.alpha.specs.Box.{in_box, index}
 use Rattle.alpha.specs.Holds.{variable}
-use Rattle.alpha.specs.Check.{check}
+use Rattle.alpha.specs.Check.{check, total}
 use Rattle.alpha.specs.Ask.{asks, before, element_number, numbered}
 use Rattle.alpha.specs.Promise.{total_of}
 use Rattle.alpha.specs.Verdict.{told, place_of}
@@ -48,6 +48,9 @@ refuses s v z e = rw e refl
 no-box : (t : Bool) (s : Sheet) (v : ℕ) (z : Point) → in_box (variable s v).head.box z ≡ false → ltb v (length s) ≡ t → asks s v z ≡ false
 no-box true s v z e l = rw (l, e) refl
 no-box false s v z e l = rw l refl
+
+pub unknown-asked : (s : Sheet) (v : ℕ) (z : Point) → length s ≤ v → refused ASK 0 ≡ numbered s v z
+unknown-asked s v z h = refuses s v z (rw (le-ltb v (length s) h) refl)
 
 pub other-asked : (s : Sheet) (v : ℕ) (z : Point) → (length z ≡ length (variable s v).head.box → ⊥) → refused ASK 0 ≡ numbered s v z
 other-asked s v z n = refuses s v z (no-box (ltb v (length s)) s v z (go (in_box (variable s v).head.box z) refl) refl)
@@ -93,9 +96,23 @@ refused-number bs v z r k e a = ap told e ∙ go (check bs) (sym (ap told e) ∙
     go (accepted s) h = absurd (let w : ◌≡◌ {A = ℕ} 0 1 = cc in omega arith)
     go (refused n p) h = h
 
+-- for the search, by the sheet alone: where it is not accepted, the answer is its refusal
+pub refused_element : (bs : List ℕ) (v : ℕ) (z : Point) → ((n : ℕ) → total_of (check bs) ≡ accepted n → ⊥) →
+    element_number bs v z ≡ total_of (check bs)
+unfolding element_number
+refused_element bs v z none = go (check bs) none
+  where
+    go : (c : Answer Sheet) → ((n : ℕ) → total_of c ≡ accepted n → ⊥) → next c (λ s. numbered s v z) ≡ total_of c
+    go (accepted s) h = absurd (h (total s) refl)
+    go (refused n p) h = refl
+
 pub accepted-number : (bs : List ℕ) (s : Sheet) (v : ℕ) (z : Point) → check bs ≡ accepted s → element_number bs v z ≡ numbered s v z
 unfolding element_number
 accepted-number bs s v z e = ap (λ (c : Answer Sheet). next c (λ t. numbered t v z)) e
+
+-- and where it is, the number that it has there
+pub accepted_element : (bs : List ℕ) (v : ℕ) (z : Point) → check bs ≡ accepted (sheet_of bs) → element_number bs v z ≡ numbered (sheet_of bs) v z
+accepted_element bs v z e = accepted-number bs (sheet_of bs) v z e
 
 -- what the code's index of the coordinates says of the point
 module _ (bs : List ℕ) (tab : Table) (f : Formed bs tab) (v : ℕ) (lt : v < vars_of bs) where

@@ -27,7 +27,7 @@ use Rattle.tree.proofs.Preparing.{read-prepared}
 use Rattle.tree.specs.Formed.{Formed}
 use Rattle.tree.specs.Ruled.{forms_of}
 use Rattle.domain.specs.Inside.{Inside}
-use Rattle.accept.specs.Admits.{Begins, Admits}
+use Rattle.accept.specs.Admits.{Begins, Admits, Accepts}
 use Rattle.tree.specs.Prepared.{Prepared}
 use Rattle.tree.proofs.Checking.{check-refused, check-formed}
 
@@ -100,6 +100,14 @@ pub rules-form : (bs : List ℕ) (tab₀ tab : Table) (f : Result (Unit {0}) Ref
 rules-form bs tab₀ tab f k h e a =
     refused-forms bs tab (Err k) k refl (forms-refuse bs tab₀ h (number_of k) (place_of k) (sym (ap told e) ∙ a))
 
+-- none did
+pub all-form : (bs : List ℕ) (tab : Table) (r : Result ℕ Refusal) (n : ℕ) → Formed bs tab → r ≡ Ok n → told r ≡ read_answer bs → Begins bs tab (Ok n)
+all-form bs tab r n f e a = record {
+  refuses = λ k q. absurd (let z : ◌≡◌ {A = ℕ} 0 1 = cc in omega arith);
+  formed = λ m q. f;
+  read = λ m q. subst (λ (v : Result ℕ Refusal). told v ≡ read_answer bs) (e ∙ q) a;
+}
+
 -- GAP or CLASH refused
 pub faults-admit : (bs : List ℕ) (tab : Table) (inside : List Bool) (g : Result (Unit {0}) Refusal) (k : Refusal) → Formed bs tab → g ≡ Err k →
     told g ≡ faults (sheet_of bs) 0 (elements (sheet_of bs)) → Admits bs tab inside (Err k)
@@ -119,3 +127,7 @@ all-admit bs tab inside n g f i a p q =
 -- after reading, the walkers may walk
 pub prepared-after : (bs : List ℕ) (tab : Table) (r : Result ℕ Refusal) (n : ℕ) → r ≡ Ok n → Reads bs tab r → Prepared bs tab
 prepared-after bs tab r n e h = read-prepared bs tab n (subst (Reads bs tab) e h)
+
+-- what was told before the elements were looked at is told of the whole
+pub forms-accept : (bs : List ℕ) (tab : Table) (r : Result ℕ Refusal) (k : Refusal) → r ≡ Err k → Begins bs tab r → Accepts bs tab r
+forms-accept bs tab r k e h = record { inside = []; admits = refused-admits bs tab [] r k e (h.refuses k e) }

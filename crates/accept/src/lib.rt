@@ -15,7 +15,6 @@ ghost use Rattle.accept.specs.Shown.{IsKnown, IsPart, asked};
 use alpha::{Kind, Refusal};
 use sheet::table::Table;
 use sheet::too_long;
-use std::ops::Range;
 use tree::variable::{dimension_of, kind_of};
 
 // Reads the sheet, then SHAPE, TYPE and REACH: the element total, with the sheet's places in the table, or refusal 1 to 9.
@@ -70,8 +69,15 @@ fn known(tab: &Table, variable: u64) -> Option<usize>
     (variable < tab.variable_count() as u64).then_some(variable as usize)
 }
 
+// A part of a sheet: where it starts, and how long it is.
+#[derive(Clone, Copy)]
+pub struct Part {
+    pub start: usize,
+    pub len: usize,
+}
+
 // Where the body of a variable of an accepted sheet stands; nowhere for an input or an unknown number.
-fn part_of(s: &[u8], tab: &Table, variable: u64) -> Option<Range<usize>>
+fn part_of(s: &[u8], tab: &Table, variable: u64) -> Option<Part>
     requires { Formed s.now tab.now }
     ensures { IsPart s.now (part_of (sheet_of s.now) variable) result }
 {
@@ -79,11 +85,16 @@ fn part_of(s: &[u8], tab: &Table, variable: u64) -> Option<Range<usize>>
     if kind_of(s, tab, v) == Kind::Input {
         return None;
     }
-    Some(tab.body_place(v)..tab.body_place(v + 1))
+    let start = tab.body_place(v);
+    let end = tab.body_place(v + 1);
+    Some(Part {
+        start,
+        len: end - start,
+    })
 }
 
 // Where the body of a variable stands in the sheet; nowhere also where the sheet is refused.
-pub fn find_body(s: &[u8], variable: u64) -> Option<Range<usize>>
+pub fn find_body(s: &[u8], variable: u64) -> Option<Part>
     ensures { IsPart s.now (body_part s.now variable) result }
 {
     if too_long(s) {
@@ -99,7 +110,7 @@ pub fn body(s: &[u8], variable: u64) -> &[u8]
     ensures { Finds s.now variable result.now }
 {
     match find_body(s, variable) {
-        Some(part) => &s[part],
+        Some(part) => &s[part.start..part.start + part.len],
         None => &[],
     }
 }
@@ -128,6 +139,7 @@ fn number_of(s: &[u8], tab: &Table, variable: u64, point: &[i64]) -> Option<usiz
 }
 
 // The number of an element: the sheet's refusals, then ASK for a variable or a point that it has not.
+#[tactic(auto, using(crate::proofs::Asked::refused_element, crate::proofs::Asked::accepted_element))]
 pub fn element(s: &[u8], variable: u64, point: &[i64]) -> Result<usize, Refusal>
     ensures { Numbers s.now variable point.now result }
 {

@@ -1,14 +1,14 @@
 -- Outcomes coded as entries of the memo, and entries as numbers. Assumes nothing.
 use mathlib.Core.Path.{◌≡◌, refl, ap, ◌∙◌}
-use Prim.Native.Nat.{ℕ, zero, suc, ◌≤◌, ◌<◌}
+use Prim.Native.Nat.{ℕ, zero, suc, ◌/◌, ◌%◌, ◌≤◌, ◌<◌}
 use native.Mathlib.Omega.{arith}
 use mathlib.Core.Bool.{Bool, true, false}
 use mathlib.Core.List.{List, [], ◌∷◌, map}
 use lib.ListN.{length, get_or, set, length-map}
-use lib.Dec.{leb, eqb}
-use lib.IntN.{ℤ, pos, negsuc, nat_abs, ◌+ℤ◌}
+use lib.Dec.{ltb, leb, eqb}
+use lib.IntN.{ℤ, pos, negsuc, nat_abs, ◌+ℤ◌, ◌-ℤ◌}
 use lib.Signed.{mag}
-use borrow.Author.Tests.{le-ltb, le-leb, ne_eqb}
+use borrow.Author.Tests.{ltb-false, le-ltb, le-leb, ne_eqb}
 use Rattle.alpha.specs.declared.Outcome as Declared
 use Rattle.alpha.specs.declared.Outcome.TheVariants as Outcomes
 use Rattle.alpha.specs.Pick.{ifb}
@@ -163,3 +163,14 @@ module _ (l : List ℕ) where
       let codes : map code_in (set l e n) ≡ set (map code_in l) e c = map-set code_in l e n ∙ ap (set (map code_in l) e) f in
       let values : map value_in (set l e n) ≡ set (map value_in l) e x = map-set value_in l e n ∙ ap (set (map value_in l) e) g in
       rw (codes, values)
+
+-- an entry's value is in the 32-bit range
+pub value-in-small : (n : ℕ) → In32 (value_in n)
+value-in-small n = go (n / 8 % 4294967296) (omega arith)
+  where
+    go : (w : ℕ) → w < 4294967296 → mag (pos w -ℤ pos 2147483648) < 2147483648
+    go w h = by (ltb w 2147483648) refl
+      where
+        by : (b : Bool) → ltb w 2147483648 ≡ b → mag (pos w -ℤ pos 2147483648) < 2147483648
+        by true e = rw e (omega arith)
+        by false e = let l = ltb-false w 2147483648 e in rw e (omega arith)

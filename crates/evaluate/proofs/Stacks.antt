@@ -100,6 +100,9 @@ module _ (s : Sheet) (memo : Memo) (M : Ready s memo) (stack : List ℕ) (high :
   pub top-element : top < total s
   top-element = St.element (high - 1) (omega (arith, Top.some))
 
+  pub top-marked : code_at memo top ≡ busy
+  top-marked = St.marked (high - 1) (omega (arith, Top.some))
+
   -- each on the stack loops after the body of the one on top
   module _ (ins : List ℤ) (L : Linked s ins stack high) where
     down : (d j : ℕ) → j + d ≡ high - 1 → (k : ℕ) → body_of s top ins k ≡ loop → outcomes s ins (suc k) (standing stack j) ≡ loop
@@ -382,8 +385,11 @@ module _ (s : Sheet) (e : ℕ) (memo : Memo) (M : Ready s memo) (A : Alone s mem
     -- the stack is empty again
     module _ (memo' : Memo) (stack : List ℕ) (high : ℕ) (G : Going s e marked memo' stack high) (none : high ≤ 0) where
       -- the memo has its outcome, and does not answer that it has to be worked out first
+      pub last-known : (d : Awaited) {X : Type 0} → Known memo' e (Err d) → X
+      last-known d k = let l = G.settled (omega arith) in absurd (omega (arith, k.0, l))
+
       pub going-last : (r : Work) → Known memo' e r → Settled s e memo memo' (result_unwrap_or r Outcomes.Loop)
-      going-last (Err d) k = let l = G.settled (omega arith) in absurd (omega (arith, k.0, l))
+      going-last (Err d) k = last-known d k
       going-last (Ok o) k = record {
         ready = G.ready;
         idle = omega (arith, G.stacked.height);

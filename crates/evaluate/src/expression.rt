@@ -190,11 +190,13 @@ impl Evaluator<'_, '_> {
         let n = left - 1;
         let from = node_end(s, at);
         let a = self.expression(from, n, z, depth)?;
-        let b = self.expression(a.next, n, z, depth)?;
-        worked(
-            integer::binary(Binary::from(natural(s, at + 8)), a.value, b.value),
-            b.next,
-        )
+        match self.expression(a.next, n, z, depth) {
+            Ok(b) => worked(
+                integer::binary(Binary::from(natural(s, at + 8)), a.value, b.value),
+                b.next,
+            ),
+            Err(stop) => Err(stop),
+        }
     }
 
     // An if: all three parts.
@@ -209,9 +211,13 @@ impl Evaluator<'_, '_> {
         let from = node_end(s, at);
         let test = self.expression(from, n, z, depth)?;
         let then = self.expression(test.next, n, z, depth)?;
-        let other = self.expression(then.next, n, z, depth)?;
-        let o = integer::choose(test.value != 0, then.value, other.value);
-        worked(o, other.next)
+        match self.expression(then.next, n, z, depth) {
+            Ok(other) => worked(
+                integer::choose(test.value != 0, then.value, other.value),
+                other.next,
+            ),
+            Err(why) => Err(why),
+        }
     }
 
     // A case: the branch that holds. The case ends after all its branches.

@@ -38,6 +38,7 @@ use Rattle.normal.specs.declared.Choice.{Choice}
 use Rattle.normal.specs.declared.Half.{Half}
 use Rattle.normal.specs.declared.Half.TheVariants.{Constraints, Tree}
 use Rattle.normal.specs.declared.Mode.{Mode}
+use Rattle.normal.specs.declared.Mode.TheVariants.{Measure}
 use Rattle.normal.specs.declared.Pen.{Pen}
 use Rattle.normal.specs.declared.Taken.{Taken}
 use Rattle.normal.specs.Count.{count_of}
@@ -215,11 +216,11 @@ module _ (bs : List ℕ) (p n many : ℕ) (e : Expr) (h : IsBody bs p n many e) 
   unfolding x hs
   from-identity = branched hs e (identity n) 0 b wide (id_rows-wide n) (rw rows-long-are h.fitting) some
 
-  tree-part : part_of Tree e (identity n) 0 b ≡ tree_part (branch_in bs e b).term 0
+  pub tree-part : part_of Tree e (identity n) 0 b ≡ tree_part (branch_in bs e b).term 0
   unfolding x
   tree-part = from-identity.tree_is ∙ ap (λ y. tree_part y.term 0) same_branch
 
-  given-part : part_of Constraints e (identity n) 0 b ≡ given_part (branch_in bs e b).given
+  pub given-part : part_of Constraints e (identity n) 0 b ≡ given_part (branch_in bs e b).given
   unfolding x
   given-part = from-identity.given_is ∙ ap (λ y. given_part y.given) same_branch
 
@@ -232,13 +233,13 @@ module _ (bs : List ℕ) (p n many : ℕ) (e : Expr) (h : IsBody bs p n many e) 
 taken-same : {a b : Taken} → a.nodes ≡ b.nodes → a.bytes ≡ b.bytes → a.limits ≡ b.limits → a.deep ≡ b.deep → a ≡ b
 taken-same p q r s = λ i. record { nodes = p i; bytes = q i; limits = r i; deep = s i }
 
-both-assoc : (a b c : Taken) → both (both a b) c ≡ both a (both b c)
+pub both-assoc : (a b c : Taken) → both (both a b) c ≡ both a (both b c)
 both-assoc a b c = taken-same (omega arith) (omega arith) (omega arith) (omega arith)
 
-both-nothing : (a : Taken) → a ≡ both a nothing
+pub both-nothing : (a : Taken) → a ≡ both a nothing
 both-nothing a = taken-same (omega arith) (omega arith) (omega arith) (omega arith)
 
-nothing-both : (a : Taken) → a ≡ both nothing a
+pub nothing-both : (a : Taken) → a ≡ both nothing a
 nothing-both a = taken-same (omega arith) (omega arith) (omega arith) (omega arith)
 
 -- an expression is at least as long as it has nodes
@@ -627,3 +628,34 @@ module _ (bs : List ℕ) (p left n many : ℕ) (h : BodyAt bs p left n many) whe
               mul-le-mul_right (2 ^ 24) h.low,
             );
       }
+
+-- ---- a branch measured from the start
+
+module _ (bs : List ℕ) (p left n : ℕ) (x : Choice) (h : BranchAt bs p left n x) (m : Map) (is : map_of m ≡ identity n) (neat : Neat m)
+    (high : m.height ≡ n) where
+  -- there is always room
+  pub measure-route : (t : Half) → Route bs p left m x.number x.of t 0 (record { to = 0; things = 0; deep = 0 }) (2 ^ 40)
+  measure-route t = half-route bs p left n x h m is neat high t 0 (2 ^ 40) (record {
+    at = h;
+    fits_room = λ e i.
+        let one = (at-unique (vars_of bs) bs p e h.body.tree i.end h.body.end i.at h.body.at).tree_is in
+        omega (arith, half-short bs p left n x.of h.body x.number h.some t, ap (λ f. length (half_of t (branch_in bs f x.number)).out) one);
+  })
+
+  module _ (none none' none'' : List ℕ) (given term : Pen)
+      (first : Follows bs p m x.number x.of Constraints 0 Measure (record { to = 0; things = 0; deep = 0 }) none none' given)
+      (second : Follows bs p m x.number x.of Tree 0 Measure (record { to = 0; things = 0; deep = 0 }) none' none'' term) where
+    pub measured-low : (given.to ≤ 3104 * 2048) × (term.to ≤ 3104 * 2048) × (term.things ≤ term.to)
+    measured-low =
+        let e = h.body.tree in
+        let i = is_body bs p left n x.of h.body in
+        let g = (half-put bs p left n x h m is neat high Constraints Measure 0 none none' given first e i).pen_is in
+        let t = (half-put bs p left n x h m is neat high Tree Measure 0 none' none'' term second e i).pen_is in
+        let gto = ap (λ z. z.to) g in
+        let tto = ap (λ z. z.to) t in
+        let tmany = ap (λ z. z.things) t in
+        let few = node-low (branch_in bs e x.number).term in (
+          omega (arith, half-short bs p left n x.of h.body x.number h.some Constraints),
+          omega (arith, half-short bs p left n x.of h.body x.number h.some Tree),
+          omega arith,
+        )

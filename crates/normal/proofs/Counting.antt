@@ -306,8 +306,26 @@ only-split e others q b of none-are product =
     }
 
 module _ (bs : List ℕ) (p left b of : ℕ) (h : OperandAt bs p left b of) where
+  pub operand-standing : Standing (vars_of bs) bs p left
+  operand-standing = record { tree = h.tree; end = h.end; at = h.at; few = h.few; most = h.left_low }
+
   some : 0 < of
   some = omega (arith, h.some)
+
+  -- where there is one combination, each operand has one branch
+  pub one_split : of < 2 → (next : ℕ) → EndsAt (vars_of bs) bs p next →
+      Splits bs p b of (record { first = record { number = b; of = of }; next = next; rest = record { number = b; of = of } })
+  one_split few next ends e others q at product =
+      let f = factors (count_of e) (product_of others) of product some in
+      let one : product_of others ≡ 1 = omega (arith, f.right-some, f.right-low) in
+      let first : b ≡ 0 = omega (arith, h.some) in
+      record {
+        ends = ends e q at;
+        first_count = omega (arith, f.left-some, f.left_low);
+        rest_count = omega (arith, f.right-some, f.right-low);
+        first_branch = sym (ap (λ n. b / n) one ∙ div-one b);
+        rest_branch = first ∙ sym (ap (λ n. b % n) one ∙ mod-one b);
+      }
 
   module _ (n : ℕ) (counted : Counts bs p n) where
     -- the count did not stop at 65
@@ -321,6 +339,11 @@ module _ (bs : List ℕ) (p left b of : ℕ) (h : OperandAt bs p left b of) wher
         let f = factors (count_of e) (product_of others) of product some in
         ap (λ i. i / n) (sym product) ∙ ap (λ i. count_of e * product_of others / i) (operand-exact e q at)
         ∙ mul-div_cancel_left (product_of others) f.left-some
+
+    pub first_some : 0 < n
+    first_some =
+        let f = factors (count_of h.tree) (product_of h.others) of h.product some in
+        omega (arith, f.left-some, operand-exact h.tree h.end h.at)
 
     pub rest_some : 0 < of / n
     rest_some =

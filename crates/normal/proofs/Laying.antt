@@ -4,8 +4,8 @@ use Prim.Native.Nat.{ℕ, zero, suc, ◌+◌, ◌*◌, ◌-◌, ◌≤◌, ◌<�
 use native.Mathlib.Nat.{add-zero, zero-add, sub-zero}
 use native.Mathlib.Omega.{arith}
 use mathlib.Core.List.{List, [], ◌∷◌, ◌++◌, map, append_assoc}
-use lib.ListN.{length, length-append, set}
-use lib.Seq.{sets, set_comm}
+use lib.ListN.{length, get_or, take, length-append, set}
+use lib.Seq.{sets, length-take-le, take-suc, set_comm}
 use lib.IntN.{ℤ}
 use Rattle.alpha.specs.Field.{num, nat}
 use Rattle.alpha.specs.Sheet.{Row, Constraint}
@@ -117,3 +117,15 @@ rows-run m = run-start m.height (row_at m) ∙ sym (ap flat (map-several row_byt
 
 pub row-at-long : (m : Map) (i : ℕ) → length (row_at m i) ≡ 8 * m.width + 8
 row-at-long m i = row-long (row_of m.width (line m i)) m.width (length-several m.width (at (line m i).coef))
+
+-- ---- a copy
+
+-- one byte more of s
+pub copied_more : (s l : List ℕ) (i : ℕ) → i < length s → set (sets l 0 (take i s)) i (get_or s i 0) ≡ sets l 0 (take (i + 1) s)
+copied_more s l i h =
+    let e : suc i ≡ i + 1 = omega arith in
+    let long : length (take i s) ≡ i = length-take-le i s (omega arith) in
+    let next : 0 + length (take i s) ≡ i = omega arith in
+    ap (λ k. set (sets l 0 (take i s)) k (get_or s i 0)) (sym next)
+    ∙ sym (sets-append l 0 (take i s) (get_or s i 0 ∷ []))
+    ∙ ap (sets l 0) (sym (take-suc s i 0 h) ∙ ap (λ k. take k s) e)

@@ -5,7 +5,7 @@ use native.Mathlib.Nat.{zero-add}
 use native.Mathlib.Omega.{arith}
 use mathlib.Core.Bool.{true, false}
 use mathlib.Core.List.{List, [], ◌++◌}
-use lib.ListN.{length, get_or, drop, take, length-append}
+use lib.ListN.{length, drop, take, length-append}
 use lib.Seq.{sets, sets-eq, length-sets, length-take-le}
 use lib.Dec.{leb}
 use borrow.Author.Tests.{le-leb, lt-leb}
@@ -161,12 +161,6 @@ module _ (bs : List ℕ) where
       at-third : third ≡ (raw_of bs).third
       at-third = place ∙ h.formed.placed.prepared.table.third
 
-      -- the copied bytes, as bytes that are stored from the start
-      front-set : sets out 0 (take (raw_of bs).third bs) ≡ take (raw_of bs).third bs ++ drop (raw_of bs).third out
-      front-set =
-          sets-eq (take (raw_of bs).third bs) out 0 (omega (arith, third-long, form-long, bodies-long))
-          ∙ ap (λ k. take (raw_of bs).third bs ++ drop k out) (zero-add (length (take (raw_of bs).third bs)) ∙ third-long)
-
       -- what is copied is as long in the sheet as it is in what is lent
       pub copied-long : third ≡ length (take third bs)
       copied-long = sym (length-take-le third bs (omega (arith, at-third, front-there tab h.formed h.sheet_is)))
@@ -174,28 +168,26 @@ module _ (bs : List ℕ) where
       pub lent-long : third ≡ length (take third out)
       lent-long = sym (length-take-le third out (omega (arith, at-third, form-long, bodies-long)))
 
-      module _ (x : List ℕ) (copied : x ≡ take third bs) where
-        front-copied : x ++ drop third out ≡ sets out 0 (take (raw_of bs).third bs)
-        front-copied = ap (λ y. y ++ drop third out) copied ∙ ap (λ k. take k bs ++ drop k out) at-third ∙ sym front-set
+      pub counted-room : (count : ℕ) (a b : List ℕ) → a ≡ sets out 0 (take count bs) → b ≡ sets a third (nat nodes) →
+          third + 8 + length (bodies_from bs 0) ≤ min (2 ^ 40) (length b)
+      counted-room count a b first second =
+          let one = ap length first ∙ length-sets out 0 (take count bs) in
+          let two = ap length second ∙ length-sets a third (nat nodes) in
+          omega (arith, at-third, bodies-long, h.small, one, two)
 
-        pub counted-room : (b : List ℕ) → b ≡ sets (x ++ drop third out) third (nat nodes) →
-            third + 8 + length (bodies_from bs 0) ≤ min (2 ^ 40) (length b)
-        counted-room b second =
-            let one = ap length front-copied ∙ length-sets out 0 (take (raw_of bs).third bs) in
-            let two = ap length second ∙ length-sets (x ++ drop third out) third (nat nodes) in
-            omega (arith, at-third, bodies-long, h.small, one, two)
-
-        pub written_all : {b d : List ℕ} {r : ℕ} → b ≡ sets (x ++ drop third out) third (nat nodes) →
+      -- so many bytes of the sheet were copied, as many as stand before its third section
+      module _ (count : ℕ) (whole : count ≡ third) where
+        pub written_all : {a b d : List ℕ} {r : ℕ} → a ≡ sets out 0 (take count bs) → b ≡ sets a third (nat nodes) →
             Stored (bodies_from bs 0) (third + 8) b d r → Normalises bs out d (Ok r)
         unfolding normalise
-        written_all {b} {d} {r} second stored =
+        written_all {a} {b} {d} {r} first second stored =
             let front = take (raw_of bs).third bs in
             let all = body_bytes (sheet_of bs) (sheet_of bs) in
             let o = front ++ nat nodes ++ all in
             let lent : leb (length o) (length out) ≡ true = le-leb (length o) (length out) (omega (arith, form-long)) in
-            let a = x ++ drop third out in
+            let one : a ≡ sets out 0 front = first ∙ ap (λ k. sets out 0 (take k bs)) (whole ∙ at-third) in
             let two_at : b ≡ sets a (0 + (raw_of bs).third) (nat nodes) = second ∙ ap (λ k. sets a k (nat nodes)) (omega (arith, at-third)) in
-            let two = sets-after out 0 (raw_of bs).third front (nat nodes) third-long front-copied two_at in
+            let two = sets-after out 0 (raw_of bs).third front (nat nodes) third-long one two_at in
             let two-long : length (front ++ nat nodes) ≡ (raw_of bs).third + 8 =
             length-append front (nat nodes) ∙ omega (arith, third-long, length-nat nodes) in
             let three-at : d ≡ sets b (0 + ((raw_of bs).third + 8)) all = stored.0 ∙ ap (λ k. sets b k all) (omega (arith, at-third)) in

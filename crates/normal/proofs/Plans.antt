@@ -26,6 +26,7 @@ use Rattle.laws.specs.Sheets.{heads_of, vars_of, sheet_of}
 use Rattle.laws.proofs.Rewritten.{limits}
 use Rattle.laws.proofs.Tests.{&&-left, &&-right, &&-true}
 use Rattle.affine.proofs.Several.{lt-or-le}
+use Rattle.tree.specs.Standing.{Standing}
 use Rattle.tree.specs.Formed.{BodyStands, Formed}
 use Rattle.normal.specs.declared.Mode.TheVariants.{Measure}
 use Rattle.normal.specs.declared.Taken.{Taken}
@@ -33,7 +34,7 @@ use Rattle.normal.specs.declared.Totals.{Totals}
 use Rattle.normal.specs.Count.{capped}
 use Rattle.normal.specs.Counted.{Counts}
 use Rattle.normal.specs.Body.{both, total, branches_in, BodyAt, IsBody, PutsFrom}
-use Rattle.normal.specs.Plan.{front_of, sized, Grows, PlansFrom}
+use Rattle.normal.specs.Plan.{front_of, sized, Small, Grows, PlansFrom}
 use Rattle.normal.proofs.Numbered.{count-is}
 use Rattle.normal.proofs.Bodies.{bytes_are}
 use Rattle.normal.proofs.Laying.{two-long}
@@ -128,6 +129,15 @@ module _ (bs : List ℕ) (tab : Table) (f : Formed bs tab) where
 
       dim-is : n ≡ length (variable (sheet_of bs) v).head.box
       dim-is = dim ∙ ap (λ h. length h.box) (sym (f.placed.head_is v lt))
+
+      pub body-standing : Standing (vars_of bs) bs at 2048
+      body-standing = record {
+        tree = (variable (sheet_of bs) v).body;
+        end = (variable (sheet_of bs) v).end;
+        at = rw start_is stands.at;
+        few = stands.few;
+        most = omega arith;
+      }
 
       pub branches-are : branches_in bs (variable (sheet_of bs) v).body ≡ branches_of (sheet_of bs) (variable (sheet_of bs) v)
       branches-are = ap (norm (variable (sheet_of bs) v).body) (sym dims-are)
@@ -341,3 +351,14 @@ module _ (bs : List ℕ) (tab : Table) (f : Formed bs tab) (v nodes size : ℕ) 
                 small = rest.small;
               }
           go false e h = absurd (told-apart (sym h))
+
+      -- as the code has the answer
+      pub plan-stops : (p : Result Totals Refusal) (k : Refusal) → p ≡ Err k → Grows bs v nodes size p → PlansFrom bs v nodes size p
+      plan-stops p k e g = subst (PlansFrom bs v nodes size) (sym e) (plan-wide k (subst (Grows bs v nodes size) e g))
+
+      pub plan-goes : (p : Result Totals Refusal) (sum : Totals) (r : Result Totals Refusal) → p ≡ Ok sum → Grows bs v nodes size p →
+          PlansFrom bs (v + 1) sum.nodes sum.bytes r → PlansFrom bs v nodes size r
+      plan-goes p sum r e g rest = plan-more sum r (subst (Grows bs v nodes size) e g) rest
+
+pub small-total : (p : Result Totals Refusal) (sum : Totals) → p ≡ Ok sum → Small p → (sum.nodes ≤ 2048) × (sum.bytes ≤ 65536)
+small-total p sum e h = subst Small e h

@@ -21,10 +21,10 @@ use Rattle.laws.proofs.NormalAgain.{constraints-after-wide}
 use Rattle.laws.proofs.Written.{length-num}
 use Rattle.affine.specs.declared.Map.{Map}
 use Rattle.affine.specs.Value.{map_of}
-use Rattle.tree.specs.declared.Class.TheVariants.{Leaf, Operator, Restriction}
-use Rattle.tree.specs.Classes.{class_of}
+use Rattle.tree.specs.declared.Class.TheVariants.{Leaf, Operator, Case, Restriction, Dependence}
+use Rattle.tree.specs.Classes.{class_of, class_at}
 use Rattle.tree.specs.Standing.{NodedAs}
-use Rattle.tree.proofs.Classes.{leaf-node, operator-node, restriction-node, node-here, size-here}
+use Rattle.tree.proofs.Classes.{leaf-node, operator-node, case-node, restriction-node, dependence-node, node-here, size-here, end-far}
 use Rattle.domain.specs.Constraints.{constraints_fields}
 use Rattle.domain.proofs.Restrictions.{restriction-says}
 use Rattle.normal.specs.declared.Half.{Half}
@@ -32,7 +32,7 @@ use Rattle.normal.specs.declared.Half.TheVariants.{Constraints, Tree}
 use Rattle.normal.specs.declared.Mode.{Mode}
 use Rattle.normal.specs.declared.Mode.TheVariants.{Measure, Store}
 use Rattle.normal.specs.declared.Pen.{Pen}
-use Rattle.normal.specs.Part.{Part, map_bytes, of_tree, given_by, own}
+use Rattle.normal.specs.Part.{Part, nothing, map_bytes, of_tree, given_by, own}
 use Rattle.normal.specs.Followed.{laid, room_of, Visits}
 use Rattle.normal.specs.Rows.{limit_bytes}
 use Rattle.normal.specs.Spot.{two_fields, Spot, Stop, OperatorFits, Stores}
@@ -108,6 +108,9 @@ module _ (bs : List ℕ) (p : ℕ) where
         let k = nat_abs (field bs (p + 8)) in
         ap (λ i. nat 4 ++ nat i) (ap binary_code h.fields.is ∙ binary-again k h.fields.high) ∙ sym (two-are 4 (pos k) h.code h.fields.field_is))
         (λ other h. absurd (other refl))
+
+if-out : (m : Sheet.Map) (nd : Node) → class_of nd ≡ Operator → code_of nd ≡ 5 → (of_tree nd m 0).out ≡ nat 5
+if-out m = operator-node (λ nd. code_of nd ≡ 5 → (of_tree nd m 0).out ≡ nat 5) (λ o e. absurd (omega arith)) (λ o e. absurd (omega arith)) (λ e. refl)
 
 -- ---- sizes
 
@@ -213,6 +216,13 @@ module _ (bs : List ℕ) (p : ℕ) (h : NodedAs bs p Operator) where
   abbrev operator : Node
   operator = node_read (vars_of bs) bs p
 
+  -- its code, at least
+  pub operator-long : 8 ≤ node_size operator
+  operator-long = omega (arith, size-here bs p h.noded, end-far bs p h.noded)
+
+  pub if-stores : (to : ℕ) (out : List ℕ) {a : List ℕ} → code_of operator ≡ 5 → a ≡ sets out to (nat 5) → (m : Map) → Stores bs p m Tree to out a
+  if-stores to out five first m = first ∙ ap (sets out to) (sym (if-out (map_of m) operator h.class_is five))
+
   -- and but for an if one field more
   module _ (other : code_of operator ≡ 5 → ⊥) where
     pub two-long-here : node_size operator ≡ 16
@@ -232,6 +242,33 @@ module _ (bs : List ℕ) (p : ℕ) (m : Map) where
   -- the node that is read there
   abbrev here : Node
   here = node_read (vars_of bs) bs p
+
+  -- it gives nothing to that half of a branch
+  pub record Silent (t : Half) : Type 0 where
+    pub is : (l : ℕ) → own t here (map_of m) l ≡ nothing
+
+  pub leaf-free : class_at bs p ≡ Leaf → Silent Constraints
+  leaf-free c = record { is = λ l. leaf-node (λ nd. own Constraints nd (map_of m) l ≡ nothing) (λ v. refl) (λ x. refl) (λ b. refl) here c }
+
+  pub operator-free : class_at bs p ≡ Operator → Silent Constraints
+  operator-free c = record { is = λ l. operator-node (λ nd. own Constraints nd (map_of m) l ≡ nothing) (λ o. refl) (λ o. refl) refl here c }
+
+  pub restriction-bare : class_at bs p ≡ Restriction → Silent Tree
+  restriction-bare c = record { is = λ l. restriction-node (λ nd. own Tree nd (map_of m) l ≡ nothing) (λ d cs. refl) here c }
+
+  pub case-silent : (t : Half) → class_at bs p ≡ Case → Silent t
+  case-silent Tree c = record { is = λ l. case-node (λ nd. own Tree nd (map_of m) l ≡ nothing) (λ n. refl) here c }
+  case-silent Constraints c = record { is = λ l. case-node (λ nd. own Constraints nd (map_of m) l ≡ nothing) (λ n. refl) here c }
+
+  pub dependence-silent : (t : Half) → class_at bs p ≡ Dependence → Silent t
+  dependence-silent Tree c = record { is = λ l. dependence-node (λ nd. own Tree nd (map_of m) l ≡ nothing) (λ f. refl) here c }
+  dependence-silent Constraints c = record { is = λ l. dependence-node (λ nd. own Constraints nd (map_of m) l ≡ nothing) (λ f. refl) here c }
+
+  pub nothing_stored : {t : Half} → Silent t → (to : ℕ) (out : List ℕ) → Stores bs p m t to out out
+  nothing_stored silent to out = ap (λ x. sets out to x.out) (sym (silent.is 0))
+
+  pub nothing-sized : {t : Half} → Silent t → (level : ℕ) {r : Pen} → r ≡ record { to = 0; things = 0; deep = 0 } → Sizes bs p m t level r
+  nothing-sized silent level none = none ∙ ap moves (sym (silent.is level))
 
   module _ (h : NodedAs bs p Leaf) where
     leaf-is : (of_tree here (map_of m) 0).out ≡ map_bytes (map_of m) ++ two_fields bs p
@@ -260,9 +297,12 @@ module _ (bs : List ℕ) (p : ℕ) (m : Map) where
         let size : k - p ≡ node_size here = omega (arith, size-here bs p h.noded) in
         ap (λ n. record { to = n; things = 1; deep = 0 }) size ∙ operator-size level
 
+    pub operator-room : (to room : ℕ) → Spot bs p m Tree to room → to + node_size here ≤ room
+    operator-room to room s = omega (arith, s.fits_room, ap (λ z. z.to) (operator-size 0))
+
     pub operator-fits : (level : ℕ) (pen : Pen) (room : ℕ) → Stop bs p m Tree level pen room → OperatorFits bs p pen room
     operator-fits level pen room s =
-        record { operator = h; fits_room = omega (arith, s.spot.fits_room, ap (λ z. z.to) (operator-size 0)); things_low = s.things_low }
+        record { operator = h; fits_room = operator-room pen.to room s.spot; things_low = s.things_low }
 
   module _ (h : NodedAs bs p Restriction) where
     pub limits-stores : (to k n : ℕ) (out : List ℕ) {a : List ℕ} → k ≡ nat_abs (field bs (p + 16)) → n ≡ nat_abs (field bs (p + 8)) →
@@ -276,6 +316,14 @@ module _ (bs : List ℕ) (p : ℕ) (m : Map) where
 
     pub limits-room : (to room : ℕ) → Spot bs p m Constraints to room → to + nat_abs (field bs (p + 16)) * (16 + 8 * m.width) ≤ room
     limits-room to room s = omega (arith, s.fits_room, limits-long bs p here h.class_is (node-here bs p h.noded) m)
+
+  -- nothing is stored where it is only measured
+  module _ (mode : Mode) (to : ℕ) (out : List ℕ) (t : Half) where
+    pub dry-laid : mode ≡ Measure → out ≡ laid mode out to (own t here (map_of m) 0).out
+    dry-laid e = ap (λ d. laid d out to (own t here (map_of m) 0).out) (sym e)
+
+    pub stored-laid : (out' : List ℕ) → mode ≡ Store → Stores bs p m t to out out' → out' ≡ laid mode out to (own t here (map_of m) 0).out
+    stored-laid out' e h = h ∙ ap (λ d. laid d out to (own t here (map_of m) 0).out) (sym e)
 
   -- ---- both
 
@@ -296,17 +344,21 @@ module _ (bs : List ℕ) (p : ℕ) (m : Map) where
     -- the pen goes on by the size, and the own bytes are laid
     module _ (mode : Mode) (out : List ℕ) (r : Pen)
         (moved : r ≡ record { to = pen.to + size.to; things = pen.things + size.things; deep = max pen.deep size.deep }) where
-      visit-is : (out' : List ℕ) → out' ≡ laid mode out pen.to (own t here (map_of m) 0).out → Visits bs p m t level mode pen out out' r
+      pub visit-is : (out' : List ℕ) → out' ≡ laid mode out pen.to (own t here (map_of m) 0).out → Visits bs p m t level mode pen out out' r
       visit-is out' stored = record {
         pen_is = moved ∙ ap (λ z. record { to = pen.to + z.to; things = pen.things + z.things; deep = max pen.deep z.deep }) sized;
         out_is = stored ∙ ap (laid mode out pen.to) (sym (own_out t here (map_of m) level));
       }
 
       pub measured-visits : mode ≡ Measure → Visits bs p m t level mode pen out out r
-      measured-visits e = visit-is out (ap (λ d. laid d out pen.to (own t here (map_of m) 0).out) (sym e))
+      measured-visits e = visit-is out (dry-laid mode pen.to out t e)
 
       pub stored-visits : {out' : List ℕ} → mode ≡ Store → Stores bs p m t pen.to out out' → Visits bs p m t level mode pen out out' r
-      stored-visits {out'} e h = visit-is out' (h ∙ ap (λ d. laid d out pen.to (own t here (map_of m) 0).out) (sym e))
+      stored-visits {out'} e h = visit-is out' (stored-laid mode pen.to out t out' e h)
+
+pub stores_as : (bs : List ℕ) (p : ℕ) (m : Map) (to : ℕ) (out : List ℕ) {t u : Half} {out' : List ℕ} → t ≡ u → Stores bs p m u to out out' →
+    Stores bs p m t to out out'
+stores_as bs p m to out e h = h ∙ ap (λ x. sets out to (own x (node_read (vars_of bs) bs p) (map_of m) 0).out) (sym e)
 
 -- where the walk stores, there is room in what is lent
 pub stored-spot : (bs : List ℕ) (p : ℕ) (m : Map) (t : Half) (to : ℕ) (out : List ℕ) (mode : Mode) → mode ≡ Store →

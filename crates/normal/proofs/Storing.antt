@@ -88,6 +88,9 @@ bodies-none bs tab formed v l to le =
 
 module _ (bs : List ℕ) (tab : Table) (v : ℕ) (h : WritesFrom bs tab v) where
   module _ (lt : v < vars_of bs) where
+    pub next-writes : WritesFrom bs tab (v + 1)
+    next-writes = record { formed = h.formed; known = omega arith; few = h.few }
+
     bodies_are : bodies_from bs v ≡ ifb (is_input (variable (sheet_of bs) v)) (λ _. bodies_from bs (v + 1)) (λ _. body_of bs v ++ bodies_from bs (v + 1))
     bodies_are = ap (body_bytes (sheet_of bs)) (split-variables bs tab h.formed v 0 0 lt)
 

@@ -23,21 +23,21 @@ mod write;
 
 // Which of a tree's branches, or which combination of operands: its number, and how many there are.
 #[derive(Clone, Copy)]
-pub struct Choice {
+pub(crate) struct Choice {
     pub number: usize,
     pub of: usize,
 }
 
 // A branch of a case: where the child stands that it comes from, and which of the child's branches it is.
 #[derive(Clone, Copy)]
-pub struct Chosen {
+pub(crate) struct Chosen {
     pub at: usize,
     pub choice: Choice,
 }
 
 // A combination of operands: which branch of the first; where the others start, and which combination of them.
 #[derive(Clone, Copy)]
-pub struct Split {
+pub(crate) struct Split {
     pub first: Choice,
     pub next: usize,
     pub rest: Choice,
@@ -45,14 +45,14 @@ pub struct Split {
 
 // What a branch is made of: the constraints that it stands under, and its tree.
 #[derive(Clone, Copy)]
-pub enum Half {
+pub(crate) enum Half {
     Constraints,
     Tree,
 }
 
 // What becomes of the bytes: they are only measured, or stored.
 #[derive(Clone, Copy)]
-pub enum Mode {
+pub(crate) enum Mode {
     Measure,
     Store,
 }
@@ -60,7 +60,7 @@ pub enum Mode {
 // A walk along a branch: over which sheet, for which half of the branch, and what becomes of its bytes. A place and how many nodes stand from
 // it on at most stay two numbers.
 #[derive(Clone, Copy)]
-pub struct Walk<'a> {
+pub(crate) struct Walk<'a> {
     pub sheet: &'a [u8],
     pub half: Half,
     pub mode: Mode,
@@ -68,7 +68,7 @@ pub struct Walk<'a> {
 
 // The bodies of a sheet in normal form, as restrictions of so many dimensions: what becomes of their bytes.
 #[derive(Clone, Copy)]
-pub struct Body<'a> {
+pub(crate) struct Body<'a> {
     pub sheet: &'a [u8],
     pub dimension: usize,
     pub mode: Mode,
@@ -76,14 +76,14 @@ pub struct Body<'a> {
 
 // Trees one after another: the children of a case, whose branches are added, or operands, whose branches are combined.
 #[derive(Clone, Copy)]
-pub enum Group {
+pub(crate) enum Group {
     Children,
     Operands,
 }
 
 // How many branches a tree has, or several have, up to 65; and where they end.
 #[derive(Clone, Copy)]
-pub struct Branches {
+pub(crate) struct Branches {
     pub many: usize,
     pub next: usize,
 }
@@ -91,7 +91,7 @@ pub struct Branches {
 // How far writing has come: the place, how many things are written (constraints, or nodes), and how deep the deepest lies. What is lent stays
 // beside the pen, since a pen that only measures writes on nothing.
 #[derive(Clone, Copy)]
-pub struct Pen {
+pub(crate) struct Pen {
     pub to: usize,
     pub things: usize,
     pub deep: usize,
@@ -100,7 +100,7 @@ pub struct Pen {
 // What the branches so far take in the normal form, with what stands before them: sums of nodes and bytes, and the most constraints and
 // levels of one.
 #[derive(Clone, Copy)]
-pub struct Taken {
+pub(crate) struct Taken {
     pub nodes: usize,
     pub bytes: usize,
     pub limits: usize,
@@ -109,7 +109,7 @@ pub struct Taken {
 
 // The totals of the normal form: nodes, and bytes with the first two sections and the node count.
 #[derive(Clone, Copy)]
-pub struct Totals {
+pub(crate) struct Totals {
     pub nodes: usize,
     pub bytes: usize,
 }

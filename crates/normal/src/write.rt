@@ -1,4 +1,6 @@
 // The bodies of the normal form, stored one after another. Assumes nothing.
+ghost use Rattle.std.specs.Prelude.{◌≡◌, ◌≤◌, length, take};
+ghost use Rattle.std.proofs.lemmas.List.Edits.{sets};
 ghost use Rattle.alpha.specs.Promise.{Normalises};
 ghost use Rattle.normal.specs.Planned.{Planned};
 ghost use Rattle.normal.specs.Stored.{Room, Stored, body_of, bodies_from, Writes, WritesFrom};
@@ -47,6 +49,16 @@ fn put_bodies(s: &[u8], tab: &Table, out: &mut [u8], to: usize) -> usize
     next
 }
 
+// The first `count` bytes of the sheet, one at a time: `copy_from_slice` would ask the caller for memmove.
+fn copy(s: &[u8], out: &mut [u8], count: usize)
+    requires { (count ≤ length s.now) × (count ≤ length out.old) }
+    ensures { out.new ≡ sets out.old 0 (take count s.now) }
+{
+    for i in 0..count {
+        out[i] = s[i];
+    }
+}
+
 // The normal form from the start of `out`, or ROOM.
 pub fn write_all(s: &[u8], tab: &Table, totals: Totals, out: &mut [u8]) -> Result<usize, Refusal>
     requires { Planned s.now tab.now totals.nodes totals.bytes }
@@ -56,7 +68,7 @@ pub fn write_all(s: &[u8], tab: &Table, totals: Totals, out: &mut [u8]) -> Resul
         return Err(Refusal::Room(totals.bytes));
     }
     let third = tab.third_place();
-    out[..third].copy_from_slice(&s[..third]);
+    copy(s, out, third);
     put_nat(out, third, totals.nodes);
     let end = put_bodies(s, tab, out, third + 8);
     Ok(end)

@@ -61,6 +61,7 @@ pub fn okelizanshu_element(sheet: &[u8], variable: u64, point: &[i64]) -> u64
 pub fn okelizanshu_body(sheet: &[u8], variable: u64) -> u64
     ensures { result ≡ packed_part (body_part sheet.now variable) }
 {
-    let part = accept::find_body(sheet, variable).unwrap_or(0..0);
-    halves(part.start as u64 % 4294967296, part.len() as u64)
+    accept::find_body(sheet, variable).map_or(0, |part| {
+        halves(part.start as u64 % 4294967296, part.len as u64)
+    })
 }

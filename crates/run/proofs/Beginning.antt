@@ -1,6 +1,6 @@
 -- The memo before the run: what is stored for an element, that the entries so far are those before the run, and that the
 -- memo is then ready and right. Assumes nothing.
-use mathlib.Core.Path.{◌≡◌, refl, sym, ap, ◌∙◌}
+use mathlib.Core.Path.{◌≡◌, refl, sym, ap, ◌∙◌, subst}
 use Prim.Native.Nat.{ℕ, zero, suc, ◌+◌, ◌≤◌, ◌<◌}
 use native.Mathlib.Decide.{ℕ_discrete}
 use native.Mathlib.Omega.{arith}
@@ -19,6 +19,7 @@ use Rattle.alpha.specs.Ask.{before, number_of}
 use Rattle.alpha.specs.Outcome.{Outcome, outside, value, inputs_before}
 use Rattle.laws.specs.Coded.{decoded}
 use Rattle.laws.specs.Sheets.{sheet_of}
+use Rattle.laws.proofs.Tests.{ifb-true, ifb-false}
 use Rattle.laws.proofs.Boxes.{index-point_at, point_at-in_box, read_box-ordered}
 use Rattle.laws.proofs.Elements.{element-at, number-of-element}
 use Rattle.laws.proofs.Growth.{outcome-outside, outcome-input}
@@ -36,6 +37,19 @@ use Rattle.evaluate.proofs.Entries.{unmarked, answer-idle, answer-low, codes-man
 use Rattle.evaluate.proofs.Stores.{decide, code_same, code_other, value_same, value-other}
 use Rattle.run.specs.Starting.{first_answer, entry_place, start_answer, Started}
 use Rattle.sheet.specs.declared.table.Table.{Table}
+
+-- ---- by what the table says of the declared domain
+
+module _ (domain input : Bool) (x : ℤ) (m : ℕ) where
+  pub outside-first : domain ≡ false → Ok Outside ≡ first_answer domain input x m
+  outside-first n = sym (ifb-false domain _ _ n)
+
+  module _ (is : domain ≡ true) where
+    pub input-first : input ≡ true → Ok (Value x) ≡ first_answer domain input x m
+    input-first b = sym (ifb-true domain _ _ is ∙ ifb-true input _ _ b)
+
+    pub other-first : input ≡ false → Err (record { element = m }) ≡ first_answer domain input x m
+    other-first b = sym (ifb-true domain _ _ is ∙ ifb-false input _ _ b)
 
 -- ---- tables of zeros
 
@@ -134,6 +148,9 @@ module _ (bs : List ℕ) (tab : Table) (v i : ℕ) (h : VariableLaid bs tab v) (
           (λ is. rw is (value_same memo e (code_of answer) (value_of answer) in_values ∙ ap value_of is-first))
           (λ other. value-other memo e (code_of answer) (value_of answer) m other ∙ S.value m (upto m l other));
     }
+
+pub started-at : (s : Sheet) (ins : List ℤ) (memo : Memo) (m n : ℕ) → m ≡ n → Started s ins memo m → Started s ins memo n
+started-at s ins memo m n e S = subst (Started s ins memo) e S
 
 -- ---- the memo before the run
 

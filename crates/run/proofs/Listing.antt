@@ -13,7 +13,7 @@ use lib.Signed.{lt_z}
 use borrow.Author.Tests.{eqb-true, eq-eqb, ltb-true, ltb-false, le-leb, lt-leb}
 use Rattle.alpha.specs.Pick.{ifb}
 use Rattle.alpha.specs.Answer.{Answer, accepted, refused, next, INPUT}
-use Rattle.alpha.specs.Sheet.{Sort.boolean, Sheet}
+use Rattle.alpha.specs.Sheet.{Sort.integer, Sort.boolean, Sheet}
 use Rattle.alpha.specs.Box.{within, size}
 use Rattle.alpha.specs.declared.kind.Kind.{Kind}
 use Rattle.alpha.specs.declared.kind.Kind.TheVariants.{Input, Output, Local}
@@ -81,6 +81,9 @@ count-total (x ∷ s) = go (is_input x) (count-total s)
 
 -- ---- an input's entries by its type
 
+pub integer-sort : (t : Sort) → t ≡ Integer → sort_meant t ≡ integer
+integer-sort t e = rw e refl
+
 pub boolean-sort : (t : Sort) → (t ≡ Integer → ⊥) → sort_meant t ≡ boolean
 boolean-sort Integer n = absurd (n refl)
 boolean-sort Boolean n = refl
@@ -99,6 +102,14 @@ module _ (s : Sheet) (v : ℕ) where
   size-other e = sym (ifb-false (is_input (variable s v)) _ _ e)
 
   module _ (ins : List ℤ) where
+    pub entries_none : is_input (variable s v) ≡ false → accepted tt ≡ entries_at s ins v
+    entries_none e = sym (ifb-false (is_input (variable s v)) _ _ e)
+
+    pub entries-integer : is_input (variable s v) ≡ true → (variable s v).head.sort ≡ integer → accepted tt ≡ entries_at s ins v
+    entries-integer e t =
+        sym (ifb-true (is_input (variable s v)) _ _ e
+        ∙ ap (λ k. entries_of k (inputs_before s v) (take (size (variable s v).head.box) (drop (inputs_before s v) ins))) t)
+
     pub entries-boolean : is_input (variable s v) ≡ true → (variable s v).head.sort ≡ boolean →
         bits (inputs_before s v) (take (size (variable s v).head.box) (drop (inputs_before s v) ins)) ≡ entries_at s ins v
     entries-boolean e t =
@@ -122,6 +133,9 @@ part-few a b n xs l h k = omega (arith, length-take-le (b - a) (drop a xs) (omeg
 -- what the entries from the i-th on say is what all say
 abbrev pub BitsFrom : ℕ → List ℤ → ℕ → Type 0
 BitsFrom first part i = bits (first + i) (drop i part) ≡ bits first part
+
+pub bits-start : (first : ℕ) (part : List ℤ) → BitsFrom first part 0
+bits-start first part = let e : first + 0 ≡ first = omega arith in ap (λ n. bits n part) e
 
 bits-cons : (k i : ℕ) (part : List ℤ) → i < length part →
     bits k (drop i part) ≡ ifb (within (pos 0) (pos 1) (get_or part i (pos 0))) (λ _. bits (suc k) (drop (suc i) part)) (λ _. refused INPUT k)
@@ -160,6 +174,9 @@ bits-end first i part h inv = sym (ap (bits (first + i)) (drop_of_length-le part
 -- what the variables from v on say is what all say
 abbrev pub EntriesFrom : Sheet → List ℤ → ℕ → Type 0
 EntriesFrom s ins v = entries (drop v s) (inputs_before s v) (drop (inputs_before s v) ins) ≡ entries s 0 ins
+
+pub entries-start : (s : Sheet) (ins : List ℤ) → EntriesFrom s ins 0
+entries-start s ins = refl
 
 entries-cons : (s : Sheet) (v i : ℕ) (l : List ℤ) → v < length s → entries (drop v s) i l ≡
     ifb (is_input (variable s v))

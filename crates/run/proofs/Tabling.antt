@@ -72,6 +72,10 @@ module _ (s : Sheet) (v : ℕ) (memo : Memo) where
   abbrev stretch : ℕ
   stretch = size (variable s v).head.box
 
+  pub fills-none : (codes : List ℕ) (values : List ℤ) → Ready s memo → Idle memo → length codes ≡ stretch → length values ≡ stretch →
+      FillsBelow s v memo memo codes values 0
+  fills-none codes values M I c w = record { advances = advances-none s memo M I; codes_long = c; values_long = w; shows = λ ins R j h. absurd (omega arith) }
+
   pub fills-next : (memo' memo'' : Memo) (codes : List ℕ) (values : List ℤ) (i : ℕ) → FillsBelow s v memo memo' codes values i → i < stretch →
       before s v + i < total s → (o : Declared.Outcome) →
       Settled s (before s v + i) memo' memo'' o → (codes' : List ℕ) (values' : List ℤ) → codes' ≡ set codes i (code_for o) →
@@ -97,6 +101,11 @@ module _ (s : Sheet) (v : ℕ) (memo : Memo) where
     where
       under : (j : ℕ) → j < i + 1 → (j ≡ i → ⊥) → j < i
       under j h n = omega (arith, n)
+
+  pub fills-whole : (memo' : Memo) (codes : List ℕ) (values : List ℤ) (i : ℕ) → FillsBelow s v memo memo' codes values i → stretch ≤ i →
+      FillsVariable s v memo memo' codes values
+  fills-whole memo' codes values i F l =
+      record { advances = F.advances; codes_long = F.codes_long; values_long = F.values_long; shows = λ ins R j h. F.shows ins R j (omega arith) }
 
 -- ---- a middle part that was lent on
 
@@ -194,3 +203,12 @@ module _ (s : Sheet) (v a b : ℕ) (first : a ≡ before s v) (last : b ≡ befo
 pub fills-at : (s : Sheet) (memo : Memo) (m n : ℕ) (codes codes' : List ℕ) (values values' : List ℤ) → m ≡ n →
     FillsAll s memo m codes codes' values values' → FillsAll s memo n codes codes' values values'
 fills-at s memo m n codes codes' values values' e F = subst (λ k. FillsAll s memo k codes codes' values values') e F
+
+pub fills-start : (s : Sheet) (memo : Memo) (codes : List ℕ) (values : List ℤ) → FillsAll s memo 0 codes codes values values
+fills-start s memo codes values = record {
+  codes_long = refl;
+  values_long = refl;
+  shows = λ ins R m h. absurd (omega arith);
+  codes_stay = λ m h. refl;
+  values_stay = λ m h. refl;
+}

@@ -23,7 +23,8 @@ fn fill(evaluator: &mut Evaluator, v: usize, codes: &mut [u8], values: &mut [i32
 // Fills both tables: a middle part of each is lent on for each variable.
 pub fn fill_all(evaluator: &mut Evaluator, codes: &mut [u8], values: &mut [i32])
     requires { Stands evaluator.old × Room (sheet evaluator.old) (memo evaluator.old) codes.old values.old }
-    ensures { FillsAll (sheet evaluator.old) (memo evaluator.old) (total (sheet evaluator.old)) codes.old codes.new values.old values.new }
+    ensures same { Same evaluator.old evaluator.new }
+    ensures filled { FillsAll (sheet evaluator.old) (memo evaluator.old) (total (sheet evaluator.old)) codes.old codes.new values.old values.new }
 {
     let table = evaluator.ground.table;
     let n = table.variable_count();

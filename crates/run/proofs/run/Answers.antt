@@ -99,4 +99,4 @@ returns c =
     let a = admits way.In_ok-total in
     let few = laid-total _ _ a.formed.placed in
     all_runs _ _ _ _ _ a.sheet_is (taken way.In_ok-inputs) _ (many way.In_ok-total) c.if-codes-total.false c.if-values-total.false _
-    (started-right _ _ _ few c.start.ensures) _ _ c.fill_all.ensures
+    (started-right _ _ _ few c.start.ensures) _ _ c.fill_all.ensures.filled

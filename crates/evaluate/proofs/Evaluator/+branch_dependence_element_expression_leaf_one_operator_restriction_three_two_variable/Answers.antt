@@ -273,17 +273,17 @@ pub restriction-returns-clause-done : goal.restriction-returns-clause-done
 restriction-returns-clause-done t c =
     restriction-way _ _ c.args.z c.requires.1.class_is _ c.node_end-child.ensures _ _ _ c.expression.ensures.done
 
-pub three-choose-o-requires : goal.three-choose-o-requires
-three-choose-o-requires t c =
+pub three-choose-requires : goal.three-choose-requires
+three-choose-requires t c =
     let node = c.requires.1 in
     let next = c.node_end-from.ensures in
     let a = c.in_ok-test.ensures in
     let b = evaluates-on _ _ a.same _ _ _ _ c.in_ok-then.ensures.done in
-    let d = evaluates-on _ _ (same_twice _ _ _ a.same c.in_ok-then.ensures.same) _ _ _ _ c.in_ok-other.ensures.done in
+    let d = evaluates-on _ _ (same_twice _ _ _ a.same c.in_ok-then.ensures.same) _ _ _ _ c.in-Ok.ensures.done in
     let tested = operand-ends _ _ _ _ (test-operand _ _ _ _ _ next node) _ _ _ a.done in
     let first = first-arm _ _ _ _ _ next node _ tested in
     let second = second-arm _ _ _ _ _ next node _ tested _ (operand-ends _ _ _ _ first _ _ _ b) in
-    (small_held c.in_ok-then.then.value (small-value _ _ _ _ first _ _ _ b), small_held c.in_ok-other.other.value (small-value _ _ _ _ second _ _ _ d))
+    (small_held c.in_ok-then.then.value (small-value _ _ _ _ first _ _ _ b), small_held c.in-Ok.other.value (small-value _ _ _ _ second _ _ _ d))
 
 pub three-expression-requires : goal.three-expression-requires
 three-expression-requires t c =
@@ -325,28 +325,27 @@ three-overflow_sub-n t c =
     let node = c.requires.1 in
     omega (arith, held-some _ _ _ _ node.operator.held)
 
-pub three-returns-clause-done : goal.three-returns-clause-done
-three-returns-clause-done t c =
+pub three-returns-in-Ok-clause-done : goal.three-returns-in-Ok-clause-done
+three-returns-in-Ok-clause-done t c =
     let node = c.requires.1 in
     let next = c.node_end-from.ensures in
     let a = c.in_ok-test.ensures in
     let b = evaluates-on _ _ a.same _ _ _ _ c.in_ok-then.ensures.done in
-    let d = evaluates-on _ _ (same_twice _ _ _ a.same c.in_ok-then.ensures.same) _ _ _ _ c.in_ok-other.ensures.done in
+    let d = evaluates-on _ _ (same_twice _ _ _ a.same c.in_ok-then.ensures.same) _ _ _ _ c.in-Ok.ensures.done in
     let tested = operand-ends _ _ _ _ (test-operand _ _ _ _ _ next node) _ _ _ a.done in
     let first = first-arm _ _ _ _ _ next node _ tested in
     let second = second-arm _ _ _ _ _ next node _ tested _ (operand-ends _ _ _ _ first _ _ _ b) in
     let same = small-same c.in_ok-then.then.value (small-value _ _ _ _ first _ _ _ b) in
-    let too = small-same c.in_ok-other.other.value (small-value _ _ _ _ second _ _ _ d) in
-    let says = rw (same, too, bits-zero c.in_ok-test.test.value (search rules)) at c.choose-o.ensures in
+    let too = small-same c.in-Ok.other.value (small-value _ _ _ _ second _ _ _ d) in
+    let says = rw (same, too, bits-zero c.in_ok-test.test.value (search rules)) at c.choose.ensures in
     three-way _ _ c.args.z node.code_is _ next _ _ _ a.done _ _ b _ _ d _ says _ c.worked.ensures
 
-pub three-returns-in_err-other-clause-done : goal.three-returns-in_err-other-clause-done
-three-returns-in_err-other-clause-done t c =
-    let back = err_from_is_err_and c.from_residual-in_err-other.result c.from_residual-in_err-other.ensures.1 in
+pub three-returns-in-Err-clause-done : goal.three-returns-in-Err-clause-done
+three-returns-in-Err-clause-done t c =
     let a = c.in_ok-test.ensures in
     let b = evaluates-on _ _ a.same _ _ _ _ c.in_ok-then.ensures.done in
-    let d = evaluates-on _ _ (same_twice _ _ _ a.same c.in_ok-then.ensures.same) _ _ _ _ c.in_err-other.ensures.done in
-    rw (back.1, back.2) (second_back _ _ c.args.z c.requires.1.code_is _ c.node_end-from.ensures _ _ _ a.done _ _ b _ _ d)
+    let d = evaluates-on _ _ (same_twice _ _ _ a.same c.in_ok-then.ensures.same) _ _ _ _ c.in-Err.ensures.done in
+    second_back _ _ c.args.z c.requires.1.code_is _ c.node_end-from.ensures _ _ _ a.done _ _ b _ _ d
 
 pub three-returns-in_err-test-clause-done : goal.three-returns-in_err-test-clause-done
 three-returns-in_err-test-clause-done t c =
@@ -365,10 +364,10 @@ two-binary-requires t c =
     let node = c.requires.1 in
     let next = c.node_end-from.ensures in
     let a = c.in_ok-a.ensures in
-    let b = evaluates-on _ _ a.same _ _ _ _ c.in_ok-b.ensures.done in
+    let b = evaluates-on _ _ a.same _ _ _ _ c.in-Ok.ensures.done in
     let left = left-operand _ _ _ _ _ next node in
     let right = right_operand _ _ _ _ _ next node _ (operand-ends _ _ _ _ left _ _ _ a.done) in
-    (small_held c.in_ok-a.a.value (small-value _ _ _ _ left _ _ _ a.done), small_held c.in_ok-b.b.value (small-value _ _ _ _ right _ _ _ b))
+    (small_held c.in_ok-a.a.value (small-value _ _ _ _ left _ _ _ a.done), small_held c.in-Ok.b.value (small-value _ _ _ _ right _ _ _ b))
 
 pub two-expression-requires : goal.two-expression-requires
 two-expression-requires t c =
@@ -406,16 +405,16 @@ two-overflow_sub-n t c =
     let node = c.requires.1 in
     omega (arith, held-some _ _ _ _ node.operator.held)
 
-pub two-returns-clause-done : goal.two-returns-clause-done
-two-returns-clause-done t c =
+pub two-returns-in-Ok-clause-done : goal.two-returns-in-Ok-clause-done
+two-returns-in-Ok-clause-done t c =
     let node = c.requires.1 in
     let next = c.node_end-from.ensures in
     let a = c.in_ok-a.ensures in
-    let b = evaluates-on _ _ a.same _ _ _ _ c.in_ok-b.ensures.done in
+    let b = evaluates-on _ _ a.same _ _ _ _ c.in-Ok.ensures.done in
     let left = left-operand _ _ _ _ _ next node in
     let right = right_operand _ _ _ _ _ next node _ (operand-ends _ _ _ _ left _ _ _ a.done) in
     let same = small-same c.in_ok-a.a.value (small-value _ _ _ _ left _ _ _ a.done) in
-    let too = small-same c.in_ok-b.b.value (small-value _ _ _ _ right _ _ _ b) in
+    let too = small-same c.in-Ok.b.value (small-value _ _ _ _ right _ _ _ b) in
     let says = rw (same, too) at c.binary.ensures in
     two-way _ _ c.args.z node.code_is _ next _ _ _ a.done _ _ b _ _ (c.from.ensures ∙ ap binary_of c.natural.ensures) says _ c.worked.ensures
 
@@ -424,12 +423,11 @@ two-returns-in_err-a-clause-done t c =
     let back = err_from_is_err_and c.from_residual.result c.from_residual.ensures.1 in
     rw (back.1, back.2) (left_back _ _ c.args.z c.requires.1.code_is _ c.node_end-from.ensures _ _ _ c.in_err-a.ensures.done)
 
-pub two-returns-in_err-b-clause-done : goal.two-returns-in_err-b-clause-done
-two-returns-in_err-b-clause-done t c =
-    let back = err_from_is_err_and c.from_residual-in_err-b.result c.from_residual-in_err-b.ensures.1 in
+pub two-returns-in-Err-clause-done : goal.two-returns-in-Err-clause-done
+two-returns-in-Err-clause-done t c =
     let a = c.in_ok-a.ensures in
-    let b = evaluates-on _ _ a.same _ _ _ _ c.in_err-b.ensures.done in
-    rw (back.1, back.2) (right-back _ _ c.args.z c.requires.1.code_is _ c.node_end-from.ensures _ _ _ a.done _ _ b)
+    let b = evaluates-on _ _ a.same _ _ _ _ c.in-Err.ensures.done in
+    right-back _ _ c.args.z c.requires.1.code_is _ c.node_end-from.ensures _ _ _ a.done _ _ b
 
 pub variable-element-requires : goal.variable-element-requires
 variable-element-requires t c =

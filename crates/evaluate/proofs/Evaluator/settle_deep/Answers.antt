@@ -1,6 +1,6 @@
 -- `evaluate::Evaluator::settle_deep` meets its contract. The loop's invariant: the elements in progress stand on the stack, each waiting for
 -- the next, and the first of them is the one that was asked for. The measure is what is still to be done. Assumes nothing.
-use mathlib.Core.Path.{refl, ◌∙◌}
+use mathlib.Core.Path.{refl}
 use Prim.Native.Nat.{ℕ, ◌≤◌}
 use native.Mathlib.Omega.{arith}
 use lib.ListN.{replicate, length-replicate}

@@ -1,7 +1,9 @@
 -- `run::fill` meets its contract. The loop's invariant: the first i entries of the stretch are filled. Assumes nothing.
-use mathlib.Core.Path.{◌≡◌, ap, ◌∙◌}
-use Prim.Native.Nat.{◌+◌, ◌<◌}
+use mathlib.Core.Path.{◌≡◌, ap, ◌∙◌, subst}
+use Prim.Native.Nat.{ℕ, ◌+◌, ◌<◌}
 use native.Mathlib.Omega.{arith}
+use Rattle.alpha.specs.declared.Outcome.{Outcome}
+use Rattle.alpha.specs.Sheet.{Sheet}
 use Rattle.alpha.specs.Box.{size}
 use Rattle.alpha.specs.Holds.{variable}
 use Rattle.alpha.specs.Check.{total}
@@ -11,6 +13,8 @@ use Rattle.domain.proofs.Records.{VariableLaid, laid-variable, laid-length}
 use lib.ListN.{set}
 use Rattle.integer.proofs.Machine.{small-same}
 use Rattle.evaluate.proofs.Entries.{value-small}
+use Rattle.evaluate.specs.Memo.{Memo}
+use Rattle.evaluate.specs.Settling.{Settled}
 use Rattle.evaluate.specs.Evaluating.{bytes, sheet}
 use Rattle.run.proofs.Tabling.{kept32, fills-next}
 use Rattle.run.proofs.fill.fill.Goals.{After-first_element-first, In-loop-i, Start}
@@ -36,6 +40,10 @@ number-low : (c : In-loop-i) → c.first_element-first.result ≡ before (sheet 
     c.first_element-first.result + c.loop-i.i < total (sheet c.args.evaluator.now)
 number-low c first = omega (arith, first, many c, before-fits (sheet c.args.evaluator.now) c.args.v c.requires.1.known)
 
+-- an element by another spelling of its number
+settled-at : (s : Sheet) (m n : ℕ) (memo last : Memo) (o : Outcome) → Settled s m memo last o → m ≡ n → Settled s n memo last o
+settled-at s m n memo last o S e = subst (λ k. Settled s k memo last o) e S
+
 pub first_element-first-requires : goal.first_element-first-requires
 first_element-first-requires c = omega (arith, (laid (goal.at.first_element-first-requires c).Start).low)
 
@@ -50,14 +58,16 @@ settle-o-requires c =
     let way = goal.at.settle-o-requires c in
     let first = first_is way.After-first_element-first (laid way.Start) in
     let so_far = c.loop-i.invariant in
-    rw so_far.same.ground (c.requires.0, record { idle = so_far.filled.advances.idle; element = number-low way.In-loop-i first })
+    rw so_far.same.ground (c.requires.0, record { idle = so_far.filled.advances.idle; element = omega (arith, number-low way.In-loop-i first) })
 
 pub loop-i-preserved : goal.loop-i-preserved
 loop-i-preserved c =
     let way = goal.at.loop-i-preserved c in
     let first = first_is way.After-first_element-first (laid way.Start) in
     let so_far = c.loop-i.invariant in
-    let settled = rw (so_far.same.ground, first) at c.settle-o.ensures.settled in
+    let settled =
+    settled-at _ _ (before (sheet c.args.evaluator.now) c.args.v + c.loop-i.i) _ _ _ (rw so_far.same.ground at c.settle-o.ensures.settled)
+    (omega (arith, first)) in
     let small = value-small _ settled.says.small in
     let value = kept32 _ _ small (small-same c.value.result (rw c.value.ensures small) ∙ c.value.ensures) in
     record {
