@@ -190,6 +190,7 @@ impl Evaluator<'_, '_> {
         let n = left - 1;
         let from = node_end(s, at);
         let a = self.expression(from, n, z, depth)?;
+        // the way out is written, and no `?`: a wrong program changes it alone (must-fail/right_error_dropped.edit)
         match self.expression(a.next, n, z, depth) {
             Ok(b) => worked(
                 integer::binary(Binary::from(natural(s, at + 8)), a.value, b.value),
@@ -211,6 +212,7 @@ impl Evaluator<'_, '_> {
         let from = node_end(s, at);
         let test = self.expression(from, n, z, depth)?;
         let then = self.expression(test.next, n, z, depth)?;
+        // written out for must-fail/untaken_arm_skipped.edit
         match self.expression(then.next, n, z, depth) {
             Ok(other) => worked(
                 integer::choose(test.value != 0, then.value, other.value),
