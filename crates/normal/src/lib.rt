@@ -23,21 +23,21 @@ mod write;
 
 // Which of a tree's branches, or which combination of operands: its number, and how many there are.
 #[derive(Clone, Copy)]
-pub(crate) struct Choice {
+pub struct Choice {
     pub number: usize,
     pub of: usize,
 }
 
 // A branch of a case: where the child stands that it comes from, and which of the child's branches it is.
 #[derive(Clone, Copy)]
-pub(crate) struct Chosen {
+pub struct Chosen {
     pub at: usize,
     pub choice: Choice,
 }
 
 // A combination of operands: which branch of the first; where the others start, and which combination of them.
 #[derive(Clone, Copy)]
-pub(crate) struct Split {
+pub struct Split {
     pub first: Choice,
     pub next: usize,
     pub rest: Choice,
@@ -83,7 +83,7 @@ pub(crate) enum Group {
 
 // How many branches a tree has, or several have, up to 65; and where they end.
 #[derive(Clone, Copy)]
-pub(crate) struct Branches {
+pub struct Branches {
     pub many: usize,
     pub next: usize,
 }
@@ -91,7 +91,7 @@ pub(crate) struct Branches {
 // How far writing has come: the place, how many things are written (constraints, or nodes), and how deep the deepest lies. What is lent stays
 // beside the pen, since a pen that only measures writes on nothing.
 #[derive(Clone, Copy)]
-pub(crate) struct Pen {
+pub struct Pen {
     pub to: usize,
     pub things: usize,
     pub deep: usize,
@@ -100,7 +100,7 @@ pub(crate) struct Pen {
 // What the branches so far take in the normal form, with what stands before them: sums of nodes and bytes, and the most constraints and
 // levels of one.
 #[derive(Clone, Copy)]
-pub(crate) struct Taken {
+pub struct Taken {
     pub nodes: usize,
     pub bytes: usize,
     pub limits: usize,

@@ -5,7 +5,7 @@ use Prim.Native.Nat.{ℕ, zero, suc, ◌+◌, ◌-◌, ◌≤◌, ◌<◌}
 use native.Mathlib.Omega.{arith}
 use mathlib.Core.List.{List, [], ◌∷◌, ◌++◌}
 use lib.ListN.{length, set, length-append, length-set}
-use lib.Seq.{sets, length-sets}
+use lib.Seq.{sets, length-sets, set_comm}
 use borrow.Rule.Slice.PartMut.{put_mid}
 use Rattle.integer.proofs.Fields.{put_mid-sets}
 use Rattle.laws.proofs.Written.{sets-append}
@@ -73,15 +73,9 @@ module _ {before now : Writer} {whole left : List ℕ} (g : Going before now who
 -- ---- from the end
 
 -- what is stored before a byte may be stored after it
-set-apart : (l : List ℕ) (i j a b : ℕ) → i < j → set (set l j b) i a ≡ set (set l i a) j b
-set-apart [] i j a b h = refl
-set-apart (x ∷ l) i zero a b h = absurd (omega arith)
-set-apart (x ∷ l) zero (suc j) a b h = refl
-set-apart (x ∷ l) (suc i) (suc j) a b h = ap (λ t. x ∷ t) (set-apart l i j a b (omega arith))
-
 sets-apart : (l : List ℕ) (i j : ℕ) (xs : List ℕ) (b : ℕ) → i + length xs ≤ j → sets (set l j b) i xs ≡ set (sets l i xs) j b
 sets-apart l i j [] b h = refl
-sets-apart l i j (x ∷ xs) b h = ap (λ m. sets m (suc i) xs) (set-apart l i j x b (omega arith)) ∙ sets-apart (set l i x) (suc i) j xs b (omega arith)
+sets-apart l i j (x ∷ xs) b h = ap (λ m. sets m (suc i) xs) (set_comm l j i b x (λ e. omega arith)) ∙ sets-apart (set l i x) (suc i) j xs b (omega arith)
 
 -- all from the place p on is written, and what is left, written from the start on, gives what the whole text gives
 pub record Backward (before now : Writer) (whole left : List ℕ) (p : ℕ) : Type 0 where
