@@ -20,7 +20,7 @@ impl Standing {
     }
 
     // What is said of the element numbered n whose body stands so.
-    pub(super) fn fault(self, n: usize) -> Result<(), Refusal>
+    pub fn fault(self, n: usize) -> Result<(), Refusal>
         ensures { told result ≡ fault_of self n }
     {
         match self {
@@ -54,7 +54,7 @@ impl Standing {
 
 impl Together {
     // Two of them.
-    pub(super) fn joined(self, a: Standing, b: Standing) -> Standing
+    pub fn joined(self, a: Standing, b: Standing) -> Standing
         ensures { result ≡ Meaning.joined self a b }
     {
         match self {
@@ -64,7 +64,7 @@ impl Together {
     }
 
     // None of them.
-    pub(super) fn alone(self) -> Standing
+    pub fn alone(self) -> Standing
         ensures { result ≡ Meaning.alone self }
     {
         match self {

@@ -32,7 +32,7 @@ impl Ground<'_> {
     }
 
     // How the leaf at `at` stands at z: a constant holds.
-    pub(super) fn leaf_stands(&self, at: usize, z: [i64; 4]) -> Standing
+    pub fn leaf_stands(&self, at: usize, z: [i64; 4]) -> Standing
         requires { NodedAs self.now.sheet.now at Leaf }
         ensures { StandsAt self.now.sheet.now at z (record { how = result; next = node_end (vars_of self.now.sheet.now) self.now.sheet.now at }) }
     {

@@ -21,7 +21,7 @@ fn map_below(s: &[u8], p: usize, m: &Map) -> Map
 impl Walk<'_> {
     // A branch of the tree at `at`, of at most `left` nodes, below `level` nodes of the branch's own tree.
     #[cycle(follow_follow_all)]
-    pub(super) fn follow(
+    pub fn follow(
         &self,
         at: usize,
         left: usize,

@@ -45,14 +45,14 @@ pub struct Split {
 
 // What a branch is made of: the constraints that it stands under, and its tree.
 #[derive(Clone, Copy)]
-pub(crate) enum Half {
+pub enum Half {
     Constraints,
     Tree,
 }
 
 // What becomes of the bytes: they are only measured, or stored.
 #[derive(Clone, Copy)]
-pub(crate) enum Mode {
+pub enum Mode {
     Measure,
     Store,
 }
@@ -60,7 +60,7 @@ pub(crate) enum Mode {
 // A walk along a branch: over which sheet, for which half of the branch, and what becomes of its bytes. A place and how many nodes stand from
 // it on at most stay two numbers.
 #[derive(Clone, Copy)]
-pub(crate) struct Walk<'a> {
+pub struct Walk<'a> {
     pub sheet: &'a [u8],
     pub half: Half,
     pub mode: Mode,
@@ -68,7 +68,7 @@ pub(crate) struct Walk<'a> {
 
 // The bodies of a sheet in normal form, as restrictions of so many dimensions: what becomes of their bytes.
 #[derive(Clone, Copy)]
-pub(crate) struct Body<'a> {
+pub struct Body<'a> {
     pub sheet: &'a [u8],
     pub dimension: usize,
     pub mode: Mode,
@@ -76,7 +76,7 @@ pub(crate) struct Body<'a> {
 
 // Trees one after another: the children of a case, whose branches are added, or operands, whose branches are combined.
 #[derive(Clone, Copy)]
-pub(crate) enum Group {
+pub enum Group {
     Children,
     Operands,
 }
@@ -109,7 +109,7 @@ pub struct Taken {
 
 // The totals of the normal form: nodes, and bytes with the first two sections and the node count.
 #[derive(Clone, Copy)]
-pub(crate) struct Totals {
+pub struct Totals {
     pub nodes: usize,
     pub bytes: usize,
 }

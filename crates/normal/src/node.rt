@@ -117,7 +117,7 @@ impl Walk<'_> {
     }
 
     // What the node at `at` gives to the half that is walked, below `level` nodes of the tree: measured, or stored at the pen.
-    pub(super) fn visit(&self, at: usize, m: &Map, level: usize, out: &mut [u8], pen: Pen) -> Pen
+    pub fn visit(&self, at: usize, m: &Map, level: usize, out: &mut [u8], pen: Pen) -> Pen
         requires { MayVisit self.now at m.now level out.old pen }
         ensures { Visited self.now at m.now level out.old out.new pen result }
     {

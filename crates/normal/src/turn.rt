@@ -81,14 +81,7 @@ impl Body<'_> {
 
     // The `of` branches of the tree at `at`, of at most `left` nodes, after those so far.
     #[cycle(turn_turn_all)]
-    pub(super) fn turn(
-        &self,
-        at: usize,
-        left: usize,
-        of: usize,
-        out: &mut [u8],
-        sofar: Taken,
-    ) -> Taken
+    pub fn turn(&self, at: usize, left: usize, of: usize, out: &mut [u8], sofar: Taken) -> Taken
         requires { MayTurn self.now at left of out.old sofar }
         ensures { Turned self.now at of out.old out.new sofar result }
     {
