@@ -103,7 +103,10 @@ seven_stop m is neat = record {
     noded = record { what = n_int (pos 7); next = 32; read = seven_read (vars_of fields) };
     neat = neat;
     limits = λ e. absurd (no_restriction (ap class_of (sym seven_node) ∙ e));
-    fits_room = omega (arith, seven_long, ap (λ x. length (own Tree x (map_of m) 0).out) seven_node, ap (λ f. length (own Tree (n_int (pos 7)) f 0).out) is);
+    fits_room =
+        let node_is = ap (λ x. length (own Tree x (map_of m) 0).out) seven_node in
+        let map_is = ap (λ f. length (own Tree (n_int (pos 7)) f 0).out) is in
+        omega (arith, node_is, map_is, seven_long);
   };
   level_low = omega arith;
   things_low = omega arith;

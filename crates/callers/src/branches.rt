@@ -1,8 +1,10 @@
 // A node's part of a branch, a branch, and all branches of a tree, in normal form. Assumes nothing.
+use super::told;
 use affine::identity;
 use normal::{Body, Choice, Half, Mode, Pen, Taken, Walk};
+use std::test::Fail;
 
-// A case of the constants 7 and 9.
+// A case of the constants 7 and 9. It stands alone: these steps ask for a tree at a place, and not for a whole sheet.
 const CASE: [u8; 48] = [
     6, 0, 0, 0, 0, 0, 0, 0, 2, 0, 0, 0, 0, 0, 0, 0, 1, 0, 0, 0, 0, 0, 0, 0, 7, 0, 0, 0, 0, 0, 0, 0,
     1, 0, 0, 0, 0, 0, 0, 0, 9, 0, 0, 0, 0, 0, 0, 0,
@@ -32,24 +34,24 @@ const PEN: Pen = Pen {
 };
 
 #[test]
-fn a_leaf_below_three_nodes(rt: HostRuntime) {
+fn a_leaf_below_three_nodes() -> Result<(), Fail> {
     let mut out = [255; 40];
     let pen = STORING.visit(16, &identity(0), 3, &mut out, PEN);
-    assert!(rt; (pen.to, pen.things, pen.deep) == (40, 2, 5));
-    assert!(rt; out == OVER_SEVEN);
+    told("the pen", (pen.to, pen.things, pen.deep) == (40, 2, 5))?;
+    told("the bytes", out == OVER_SEVEN)
 }
 
 #[test]
-fn the_second_branch(rt: HostRuntime) {
+fn the_second_branch() -> Result<(), Fail> {
     let mut out = [255; 40];
     let choice = Choice { number: 1, of: 2 };
     let pen = STORING.follow(0, 3, choice, &identity(0), 0, &mut out, PEN);
-    assert!(rt; (pen.to, pen.things, pen.deep) == (40, 2, 2));
-    assert!(rt; out == OVER_NINE);
+    told("the pen", (pen.to, pen.things, pen.deep) == (40, 2, 2))?;
+    told("the bytes", out == OVER_NINE)
 }
 
 #[test]
-fn both_branches(rt: HostRuntime) {
+fn both_branches() -> Result<(), Fail> {
     let body = Body {
         sheet: &CASE,
         dimension: 0,
@@ -62,5 +64,8 @@ fn both_branches(rt: HostRuntime) {
         deep: 0,
     };
     let all = body.turn(0, 3, 2, &mut [], none);
-    assert!(rt; (all.nodes, all.bytes, all.limits, all.deep) == (6, 128, 0, 2));
+    told(
+        "both",
+        (all.nodes, all.bytes, all.limits, all.deep) == (6, 128, 0, 2),
+    )
 }

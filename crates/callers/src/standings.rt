@@ -1,8 +1,11 @@
 // How leaves stand, what is said of a standing, and how several stand together. Assumes nothing.
+use super::told;
 use accept::{admit, form};
 use alpha::{Kind, Refusal};
+use domain::Standing::{Clash, Holds, Not};
 use domain::{Ground, Standing, Together};
 use sheet::table::Table;
+use std::test::Fail;
 use tree::Class;
 use tree::node::class_of;
 use tree::variable::kind_of;
@@ -40,49 +43,30 @@ fn leaf_body(s: &[u8]) -> Option<Standing> {
 }
 
 #[test]
-fn a_constant_holds(rt: HostRuntime) {
-    assert!(rt; leaf_body(&SEVEN) == Some(Standing::Holds));
+fn a_constant_holds() -> Result<(), Fail> {
+    told("the constant 7", leaf_body(&SEVEN) == Some(Holds))
 }
 
 #[test]
-fn faults_are_told(rt: HostRuntime) {
-    assert!(rt; matches!(Standing::Not.fault(5), Err(Refusal::Gap(5))));
-    assert!(rt; matches!(Standing::Clash.fault(6), Err(Refusal::Clash(6))));
-    assert!(rt; matches!(Standing::Holds.fault(7), Ok(())));
+fn faults_are_told() -> Result<(), Fail> {
+    told("a gap", matches!(Not.fault(5), Err(Refusal::Gap(5))))?;
+    told("a clash", matches!(Clash.fault(6), Err(Refusal::Clash(6))))?;
+    told("no fault", matches!(Holds.fault(7), Ok(())))
 }
 
 #[test]
-fn none_and_two_together(rt: HostRuntime) {
-    assert!(rt; Together::Branches.alone() == Standing::Not);
-    assert!(rt; Together::Operands.alone() == Standing::Holds);
+fn none_and_two_together() -> Result<(), Fail> {
+    told("no branch", Together::Branches.alone() == Not)?;
+    told("no operand", Together::Operands.alone() == Holds)?;
     for (a, b, branches, operands) in [
-        (Standing::Not, Standing::Not, Standing::Not, Standing::Not),
-        (
-            Standing::Not,
-            Standing::Holds,
-            Standing::Holds,
-            Standing::Not,
-        ),
-        (
-            Standing::Clash,
-            Standing::Not,
-            Standing::Clash,
-            Standing::Not,
-        ),
-        (
-            Standing::Holds,
-            Standing::Holds,
-            Standing::Clash,
-            Standing::Holds,
-        ),
-        (
-            Standing::Holds,
-            Standing::Clash,
-            Standing::Clash,
-            Standing::Clash,
-        ),
+        (Not, Not, Not, Not),
+        (Not, Holds, Holds, Not),
+        (Clash, Not, Clash, Not),
+        (Holds, Holds, Clash, Holds),
+        (Holds, Clash, Clash, Clash),
     ] {
-        assert!(rt; Together::Branches.joined(a, b) == branches);
-        assert!(rt; Together::Operands.joined(a, b) == operands);
+        told("two branches", Together::Branches.joined(a, b) == branches)?;
+        told("two operands", Together::Operands.joined(a, b) == operands)?;
     }
+    Ok(())
 }

@@ -3,4 +3,4 @@ use Rattle.callers.proofs.Case.{seven_stop}
 use Rattle.callers.proofs.branches.a_leaf_below_three_nodes.Goals as goal
 
 pub visit-pen-requires : goal.visit-pen-requires
-visit-pen-requires g c = let m = c.identity.ensures in seven_stop _ m.0 m.1
+visit-pen-requires c = let m = c.identity.ensures in seven_stop _ m.0 m.1

@@ -5,4 +5,4 @@ use Rattle.callers.proofs.Case.{case_body}
 use Rattle.callers.proofs.branches.both_branches.Goals as goal
 
 pub turn-all-requires : goal.turn-all-requires
-turn-all-requires g c = (case_body, measure-fits _ _ _ _ _ case_body _ (omega arith) (omega arith))
+turn-all-requires c = (case_body, measure-fits _ _ _ _ _ case_body _ (omega arith) (omega arith))

@@ -1,16 +1,16 @@
 -- `callers::leaf_body` keeps what it calls: an accepted sheet has a first variable, whose body stands at its place. Assumes nothing.
-use mathlib.Core.Path.{◌≡◌, sym, ◌∙◌}
+use mathlib.Core.Path.{refl, sym, ◌∙◌}
 use Prim.Native.Nat.{◌≤◌, ◌<◌}
 use native.Mathlib.Omega.{arith}
 use borrow.Author.Rules.{rules}
-use Rattle.laws.specs.Sheets.{vars_of, sheet_of}
-use Rattle.alpha.specs.Holds.{variable}
+use Rattle.laws.specs.Sheets.{vars_of}
 use Rattle.tree.specs.Formed.{Formed}
 use Rattle.tree.specs.Standing.{Noded}
 use Rattle.tree.proofs.Heading.{prepared-sections}
 use Rattle.tree.proofs.Standings.{standing-noded}
 use Rattle.tree.proofs.Passing.{no_input}
 use Rattle.domain.proofs.Records.{placed-grounds}
+use Rattle.normal.proofs.Plans.{body-standing}
 use Rattle.callers.proofs.standings.leaf_body.Goals.{In-Ok, After-body_place-at}
 use Rattle.callers.proofs.standings.leaf_body.Goals as goal
 
@@ -27,10 +27,8 @@ body : (c : After-body_place-at) → Noded (vars_of c.args.s.now) c.args.s.now c
 body c =
     let f = formed (goal.at.After-body_place-at c).In-Ok in
     let lt : 0 < vars_of c.args.s.now = omega (arith, some (goal.at.After-body_place-at c).In-Ok) in
-    let stands = f.placed.body 0 lt (no_input _ _ f.placed _ lt _ c.kind_of.ensures (search rules)) in
-    let place : c.body_place-at.result ≡ (variable (sheet_of c.args.s.now) 0).start = c.body_place-at.ensures ∙ f.placed.starts 0 lt in
-    standing-noded _ _ _ 2048
-    (record { tree = (variable (sheet_of c.args.s.now) 0).body; end = (variable (sheet_of c.args.s.now) 0).end; at = rw place stands.at; few = stands.few; most = omega arith })
+    let no_in = no_input _ _ f.placed _ lt _ c.kind_of.ensures (search rules) in
+    standing-noded _ _ _ _ (body-standing _ _ f 0 lt no_in _ _ c.body_place-at.ensures refl)
 
 pub class_of-requires : goal.class_of-requires
 class_of-requires c = body (goal.at.class_of-requires c).After-body_place-at
